@@ -1,0 +1,2 @@
+-- How a table's rule is shown.
+pub mod Rule

@@ -1,0 +1,3 @@
+-- Byte classes.
+pub mod Class
+pub mod Table

@@ -1,0 +1,6 @@
+-- The laws of printing that every printing function cites.
+pub mod Sequencing
+pub mod Decimals
+pub mod Finishing
+pub mod Repeating
+pub mod Laws

@@ -1,0 +1,2 @@
+-- The figures of each refusal.
+pub mod Figures
