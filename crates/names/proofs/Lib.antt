@@ -1,0 +1,8 @@
+-- Laws of the conversions and of their entries.
+pub mod Letters
+pub mod Positions
+pub mod Singular
+pub mod Cutting
+pub mod Entering
+pub mod Trials
+pub mod Laws

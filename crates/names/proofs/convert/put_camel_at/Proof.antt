@@ -1,0 +1,64 @@
+use Rattle.names.proofs.Laws.{laws}
+use Rattle.names.proofs.convert.put_camel_at.Statement.{statement}
+use Rattle.names.proofs.convert.put_camel_at.Tie as tie
+use Rattle.names.proofs.convert.put_camel_at.Reads as reads
+use Rattle.names.proofs.convert.put_camel_at.Lts as lts
+use Rattle.names.proofs.convert.follows_underscore.Reads as follows-underscore-reads
+use Rattle.names.proofs.convert.raise.Reads as raise-reads
+use Rattle.printing.proofs.put_byte.Reads as put-byte-reads
+use Rattle.texts.proofs.byte_at.Reads as byte-at-reads
+
+-- src/convert.rt:114:9
+byte-at-requires : tie.Need-byte-at-requires
+byte-at-requires c κs = search laws
+
+-- src/convert.rt:116:9
+returns : tie.Need-returns
+returns c = search laws
+
+-- src/convert.rt:118:8
+follows-underscore-requires : tie.Need-follows-underscore-requires
+follows-underscore-requires c κs = search laws
+
+-- src/convert.rt:119:34
+raise-requires : tie.Need-raise-requires
+raise-requires c κs = search laws
+
+-- src/convert.rt:119:9
+put-byte-requires : tie.Need-put-byte-requires
+put-byte-requires c κs = search laws
+
+-- src/convert.rt:119:9
+same-length : tie.Need-same-length
+same-length c = search laws
+
+-- src/convert.rt:119:9
+returns-2 : tie.Need-returns-2
+returns-2 c = search laws
+
+-- src/convert.rt:121:5
+put-byte-requires-2 : tie.Need-put-byte-requires-2
+put-byte-requires-2 c κs = search laws
+
+-- src/convert.rt:111:1
+same-length-2 : tie.Need-same-length-2
+same-length-2 c = search laws
+
+-- src/convert.rt:111:1
+returns-3 : tie.Need-returns-3
+returns-3 c = search laws
+
+pub put-camel-at-spec : {M : Type 1} → statement M
+put-camel-at-spec =
+    tie.close
+    (tie.spec
+    byte-at-requires
+    returns
+    follows-underscore-requires
+    raise-requires
+    put-byte-requires
+    same-length
+    returns-2
+    put-byte-requires-2
+    same-length-2
+    returns-3)

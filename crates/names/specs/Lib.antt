@@ -1,0 +1,5 @@
+-- The six name conversions, and what their entries answer.
+pub mod Letters
+pub mod Conversions
+pub mod Entry
+pub mod Prefix
