@@ -1,0 +1,48 @@
+use Rattle.saxlite.proofs.Laws.{laws}
+use Prim.Native.Nat.{_-_}
+use lib.ListN.{length}
+use Rattle.texts.proofs.Scanning.{Scanning}
+use Rattle.texts.specs.Scan.{until, is}
+use Rattle.saxlite.proofs.scan.byte_from.Statement.{statement}
+use Rattle.saxlite.proofs.scan.byte_from.Tie as tie
+
+abbrev Inv-loop : tie.InvT-loop
+Inv-loop doc at b i₀ i = Scanning (until (is b)) doc at i
+
+abbrev μ-loop : tie.MeasureT-loop
+μ-loop doc at b i₀ i = length doc - i
+
+loop-holds : tie.Need-loop-holds Inv-loop μ-loop
+loop-holds c = search laws
+
+shared-slice-read-if1 : tie.Need-shared-slice-read-if1 Inv-loop μ-loop
+shared-slice-read-if1 c = search laws
+
+returns : tie.Need-returns Inv-loop μ-loop
+returns c = search laws
+
+add-i : tie.Need-add-i Inv-loop μ-loop
+add-i c = search laws
+
+loop-less : tie.Need-loop-less Inv-loop μ-loop
+loop-less c = search laws
+
+loop-again : tie.Need-loop-again Inv-loop μ-loop
+loop-again c = search laws
+
+returns-2 : tie.Need-returns-2 Inv-loop μ-loop
+returns-2 c = search laws
+
+pub byte-from-spec : {M : Type 1} → statement M
+byte-from-spec =
+    tie.close
+    (tie.spec
+    Inv-loop
+    μ-loop
+    loop-holds
+    shared-slice-read-if1
+    returns
+    add-i
+    loop-less
+    loop-again
+    returns-2)

@@ -1,0 +1,15 @@
+// A reader of markup, by position.
+//
+// `step::step_at` tells what stands at a place of the document: text, an open tag, a close tag,
+// markup that is passed over, the end, or a refusal (11 to 20). An open tag has been read whole
+// before it is told of, so that `tag::attribute` can look a name up in it and never fails.
+// `entities::decode` writes a text or a value, its entities decoded, into a lent slice.
+//
+// Nothing is required of a caller. Each promise is one equation with a definition of specs/, on all
+// inputs: specs/Step.antt, specs/Attributes.antt and specs/Entities.antt, after 01, "Reading
+// markup". What a step means is specs/Event.antt.
+pub mod entities;
+pub mod reader;
+pub mod scan;
+pub mod step;
+pub mod tag;

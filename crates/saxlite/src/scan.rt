@@ -1,0 +1,105 @@
+// Scans and searches over the document.
+ghost use mathlib.Core.Path.{_≡_};
+ghost use Rattle.texts.specs.Scan.{scan, until, is};
+ghost use Rattle.classes.specs.Class.{isSpace, isTagNameEnd, isAttributeNameEnd};
+ghost use Rattle.saxlite.specs.Find.{findFrom};
+ghost use Rattle.saxlite.specs.Names.{prefixLength, isXmlns};
+
+// Past the spaces at `at`.
+pub fn skip_space(doc: &[u8], at: usize) -> usize
+    ensures { λ r. ⌜ r ≡ scan isSpace (now (doc .entry)) at ⌝ }
+{
+    let mut i = at;
+    while i < doc.len() {
+        if classes::is_space(doc[i]) {
+            i += 1;
+        } else {
+            return i;
+        }
+    }
+    i
+}
+
+// Where the tag name at `at` ends.
+pub fn tag_name_end(doc: &[u8], at: usize) -> usize
+    ensures { λ r. ⌜ r ≡ scan (until isTagNameEnd) (now (doc .entry)) at ⌝ }
+{
+    let mut i = at;
+    while i < doc.len() {
+        if classes::is_tag_name_end(doc[i]) {
+            return i;
+        }
+        i += 1;
+    }
+    i
+}
+
+// Where the attribute name at `at` ends.
+pub fn attribute_name_end(doc: &[u8], at: usize) -> usize
+    ensures { λ r. ⌜ r ≡ scan (until isAttributeNameEnd) (now (doc .entry)) at ⌝ }
+{
+    let mut i = at;
+    while i < doc.len() {
+        if classes::is_attribute_name_end(doc[i]) {
+            return i;
+        }
+        i += 1;
+    }
+    i
+}
+
+// Where the first `b` from `at` on stands, or the end.
+pub fn byte_from(doc: &[u8], at: usize, b: u8) -> usize
+    ensures { λ r. ⌜ r ≡ scan (until (is b)) (now (doc .entry)) at ⌝ }
+{
+    let mut i = at;
+    while i < doc.len() {
+        if doc[i] == b {
+            return i;
+        }
+        i += 1;
+    }
+    i
+}
+
+// Where a text occurs.
+pub enum Occurrence {
+    At(usize),
+    Nowhere,
+}
+
+// The first place from `from` on where `needle` stands.
+pub fn find(doc: &[u8], from: usize, needle: &[u8]) -> Occurrence
+    ensures { λ r. ⌜ r ≡ findFrom (now (needle .entry)) (now (doc .entry)) from ⌝ }
+{
+    let mut i = from;
+    while i < doc.len() {
+        if texts::starts_with(doc, i, needle) {
+            return Occurrence::At(i);
+        }
+        i += 1;
+    }
+    if texts::starts_with(doc, i, needle) {
+        Occurrence::At(i)
+    } else {
+        Occurrence::Nowhere
+    }
+}
+
+// How many bytes a name loses: those up to and including its first colon.
+pub fn prefix_len(name: &[u8]) -> usize
+    ensures { λ r. ⌜ r ≡ prefixLength (now (name .entry)) ⌝ }
+{
+    let colon = byte_from(name, 0, b':');
+    if colon < name.len() { colon + 1 } else { 0 }
+}
+
+// Whether a raw name declares a namespace.
+pub fn is_xmlns(name: &[u8]) -> bool
+    ensures { λ r. ⌜ r ≡ isXmlns (now (name .entry)) ⌝ }
+{
+    if texts::equal(name, b"xmlns") {
+        return true;
+    }
+    texts::starts_with(name, 0, b"xmlns:")
+}

@@ -1,0 +1,159 @@
+// One step of the reader.
+use crate::scan::Occurrence;
+use crate::scan::byte_from;
+use crate::scan::find;
+use crate::scan::prefix_len;
+use crate::scan::skip_space;
+use crate::scan::tag_name_end;
+use crate::tag::Ending;
+use crate::tag::tag_ending;
+use refusals::Refusal;
+ghost use mathlib.Core.Path.{_≡_};
+ghost use Prim.Native.Nat.{_+_, _≤_, _<_};
+ghost use lib.ListN.{length};
+ghost use Rattle.saxlite.specs.Find.{findFrom};
+ghost use Rattle.saxlite.specs.Step.{stepAt, markupAt, closeAt, openAt, pastEnd};
+
+// What stands at a place, and where the reader goes on.
+pub enum Step {
+    Text {
+        from: usize,
+        len: usize,
+        next: usize,
+    },
+    // `name`, `name_len`: the name without its prefix. `attributes`: where the tag's attributes
+    // begin, right after its raw name.
+    Open {
+        name: usize,
+        name_len: usize,
+        attributes: usize,
+        next: usize,
+        self_closed: bool,
+    },
+    Close {
+        name: usize,
+        name_len: usize,
+        next: usize,
+    },
+    // A comment, a processing instruction or a declaration.
+    Skipped {
+        next: usize,
+    },
+    // At the end of the document, or past it.
+    End,
+    Refused(Refusal),
+}
+
+// Past the first `end` from `from` on.
+fn skip_to(doc: &[u8], from: usize, end: &[u8], refusal: Refusal) -> Step
+    ensures { λ r. ⌜ r ≡ pastEnd (length (now (end .entry))) (findFrom (now (end .entry)) (now (doc .entry)) from) refusal ⌝ }
+{
+    let found = find(doc, from, end);
+    match found {
+        Occurrence::At(i) => {
+            let next = i + end.len();
+            Step::Skipped { next }
+        }
+        Occurrence::Nowhere => Step::Refused(refusal),
+    }
+}
+
+// The close tag at `at`.
+fn close_at(doc: &[u8], at: usize) -> Step
+    requires { ⌜ at + 2 ≤ length (now doc) ⌝ }
+    ensures { λ r. ⌜ r ≡ closeAt (now (doc .entry)) at ⌝ }
+{
+    let name = at + 2;
+    let end = tag_name_end(doc, name);
+    let due = skip_space(doc, end);
+    if texts::starts_with(doc, due, b">") {
+        let next = due + 1;
+        let n = end - name;
+        let lost = prefix_len(texts::part(doc, name, n));
+        let local = name + lost;
+        let name_len = n - lost;
+        return Step::Close {
+            name: local,
+            name_len,
+            next,
+        };
+    }
+    Step::Refused(Refusal::NoCloseTagEnd {
+        offset: due,
+        place: at,
+    })
+}
+
+// The open tag at `at`.
+fn open_at(doc: &[u8], at: usize) -> Step
+    requires { ⌜ at + 1 ≤ length (now doc) ⌝ }
+    ensures { λ r. ⌜ r ≡ openAt (now (doc .entry)) at ⌝ }
+{
+    let name = at + 1;
+    let end = tag_name_end(doc, name);
+    if end == name {
+        return Step::Refused(Refusal::NoTagName {
+            offset: name,
+            place: at,
+        });
+    }
+    let ending = tag_ending(doc, end, at);
+    match ending {
+        Ending::Ends { next, self_closed } => {
+            let n = end - name;
+            let lost = prefix_len(texts::part(doc, name, n));
+            let local = name + lost;
+            let name_len = n - lost;
+            Step::Open {
+                name: local,
+                name_len,
+                attributes: end,
+                next,
+                self_closed,
+            }
+        }
+        Ending::Broken(refusal) => Step::Refused(refusal),
+    }
+}
+
+// What the '<' at `at` begins.
+fn markup_at(doc: &[u8], at: usize) -> Step
+    requires { ⌜ at < length (now doc) ⌝ }
+    ensures { λ r. ⌜ r ≡ markupAt (now (doc .entry)) at ⌝ }
+{
+    if texts::starts_with(doc, at, b"<!--") {
+        let from = at + 4;
+        return skip_to(doc, from, b"-->", Refusal::OpenComment { at });
+    }
+    if texts::starts_with(doc, at, b"<?") {
+        let from = at + 2;
+        return skip_to(doc, from, b"?>", Refusal::OpenInstruction { at });
+    }
+    if texts::starts_with(doc, at, b"<!") {
+        let from = at + 2;
+        return skip_to(doc, from, b">", Refusal::OpenDeclaration { at });
+    }
+    if texts::starts_with(doc, at, b"</") {
+        return close_at(doc, at);
+    }
+    open_at(doc, at)
+}
+
+// The step of the reader at `at`.
+pub fn step_at(doc: &[u8], at: usize) -> Step
+    ensures { λ r. ⌜ r ≡ stepAt (now (doc .entry)) at ⌝ }
+{
+    if doc.len() <= at {
+        return Step::End;
+    }
+    if texts::starts_with(doc, at, b"<") {
+        return markup_at(doc, at);
+    }
+    let end = byte_from(doc, at, b'<');
+    let len = end - at;
+    Step::Text {
+        from: at,
+        len,
+        next: end,
+    }
+}
