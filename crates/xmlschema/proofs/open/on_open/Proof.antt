@@ -1,0 +1,94 @@
+use Rattle.xmlschema.proofs.Laws.{dispatching}
+use Rattle.xmlschema.proofs.open.on_open.Statement.{statement}
+use Rattle.xmlschema.proofs.open.on_open.Tie as tie
+use Rattle.xmlschema.proofs.open.on_open.Reads as reads
+use Rattle.xmlschema.proofs.open.on_open.Lts as lts
+use Rattle.texts.proofs.equal.Reads as equal-reads
+use Rattle.texts.proofs.part.Reads as part-reads
+use Rattle.xmlschema.proofs.elements.element_of.Reads as element-of-reads
+use Rattle.xmlschema.proofs.open.open_by.Reads as open-by-reads
+use Rattle.xmlschema.proofs.open.refuse.Reads as refuse-reads
+use Rattle.xmlschema.proofs.stack.push.Reads as push-reads
+use Rattle.xmlschema.proofs.stack.top_name.Reads as top-name-reads
+
+-- src/open.rt:476:9
+refuse-requires : tie.Need-refuse-requires
+refuse-requires c κs = search dispatching
+
+-- src/open.rt:476:9
+returns : tie.Need-returns
+returns c = search dispatching
+
+-- src/open.rt:478:24
+top-name-requires : tie.Need-top-name-requires
+top-name-requires c κs = search dispatching
+
+-- src/open.rt:478:51
+slice-aggregate-equal : tie.Need-slice-aggregate-equal
+slice-aggregate-equal c = search dispatching
+
+-- src/open.rt:478:9
+equal-requires : tie.Need-equal-requires
+equal-requires c κs = search dispatching
+
+-- src/open.rt:479:24
+part-requires : tie.Need-part-requires
+part-requires c κs = search dispatching
+
+-- src/open.rt:479:9
+element-of-requires : tie.Need-element-of-requires
+element-of-requires c κs = search dispatching
+
+-- src/open.rt:480:9
+push-requires : tie.Need-push-requires
+push-requires c κs = search dispatching
+
+-- src/open.rt:481:5
+open-by-requires : tie.Need-open-by-requires
+open-by-requires c κs =
+    let pre = c .before .before .before .before .before .before .before .before .before .before .before .before .before .before .before .before .before .pre in
+    let l-if1 = c .before .before .before .before .before .before .before .before .before .before .before .before .if1 .left in
+    let e-top-name = c .before .before .before .before .before .before .before .before .before .before .top-name .ensures in
+    let e-equal = c .before .before .before .before .before .before .before .before .equal .ensures in
+    let e-part = c .before .before .before .before .before .before .before .part .ensures in
+    let e-element-of = c .before .before .before .before .before .before .element-of .ensures in
+    let e-push = c .before .before .before .before .push .ensures in
+    search dispatching
+
+-- src/open.rt:459:1
+same-length : tie.Need-same-length
+same-length c = search dispatching
+
+-- src/open.rt:459:1
+same-length-2 : tie.Need-same-length-2
+same-length-2 c = search dispatching
+
+-- src/open.rt:459:1
+returns-2 : tie.Need-returns-2
+returns-2 c =
+    let pre = c .before .before .before .before .before .before .before .before .before .before .before .before .before .before .before .before .before .before .before .before .before .before .pre in
+    let l-if1 = c .before .before .before .before .before .before .before .before .before .before .before .before .before .before .before .before .before .if1 .left in
+    let e-top-name = c .before .before .before .before .before .before .before .before .before .before .before .before .before .before .before .top-name .ensures in
+    let e-equal = c .before .before .before .before .before .before .before .before .before .before .before .before .before .equal .ensures in
+    let e-part = c .before .before .before .before .before .before .before .before .before .before .before .before .part .ensures in
+    let e-element-of = c .before .before .before .before .before .before .before .before .before .before .before .element-of .ensures in
+    let e-push = c .before .before .before .before .before .before .before .before .before .push .ensures in
+    let e-open-by = c .before .before .before .before .open-by .ensures in
+    search dispatching
+
+pub on-open-spec : {M : Type 1} → statement M
+on-open-spec =
+    tie.close
+    (tie.spec
+    refuse-requires
+    returns
+    top-name-requires
+    slice-aggregate-equal
+    equal-requires
+    part-requires
+    element-of-requires
+    push-requires
+    open-by-requires
+    same-length
+    same-length-2
+    returns-2)

@@ -1,0 +1,45 @@
+-- What one event takes and where it lies, and what reading a document shows. Internal.
+use mathlib.Core.Bool.{Bool, true, false}
+use mathlib.Core.List.{List}
+use Prim.Native.Nat.{ℕ, _+_, _-_, _≤_}
+use lib.ListN.{length}
+use Rattle.saxlite.specs.declared.reader.Event.{Event}
+use Rattle.saxlite.specs.declared.reader.Event.the-variants.{Text, Open, Close, Skipped, End, Refused}
+use Rattle.xmlschema.specs.Store.{schemaOf}
+use Rattle.xmlschema.specs.Whole.{Whole, accepted, refusedBy}
+use Rattle.xmlschema.specs.Layout.{Tagged}
+use Rattle.xmlschema.specs.declared.state.State.{State}
+use Rattle.xmlschema.specs.declared.build.Schema.{Schema}
+use Rattle.xmlschema.specs.declared.build.Schema.the-variants as read
+
+-- the bytes of text that an event may take
+abbrev pub takes : Event → ℕ
+takes (Text from len) = len
+takes (Open name n attributes next) = next - attributes
+takes (Close name n) = 0
+takes Skipped = 0
+takes End = 0
+takes (Refused refusal) = 0
+
+-- where it lies in the document
+abbrev pub Inside : List ℕ → Event → Type 0
+Inside doc (Text from len) = Unit {0}
+Inside doc (Open name n attributes next) = Tagged doc attributes next × (name + n ≤ length doc)
+Inside doc (Close name n) = Unit {0}
+Inside doc Skipped = Unit {0}
+Inside doc End = Unit {0}
+Inside doc (Refused refusal) = Unit {0}
+
+-- the state before the first event
+abbrev pub first : State
+first =
+    record {
+      place = record { depth = 0; count = 0; low = 0; high = 65536; start = 0 };
+      current = record { flag = false; composite = 0; enumer = 0; message = 0; group = 0 };
+      head = record { name = 0; len = 0; id = 0; version = 0 };
+    }
+
+-- what an answer says, with the records and the text as they are then
+abbrev pub shown : Schema → List ℕ → List ℕ → Whole
+shown (read.Accepted m) rec text = accepted (schemaOf m rec text)
+shown (read.Refused r) rec text = refusedBy r

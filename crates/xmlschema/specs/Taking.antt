@@ -1,0 +1,43 @@
+-- What taking texts into the text buffer promises. Internal.
+use mathlib.Core.Path.{_≡_}
+use mathlib.Core.List.{List}
+use Prim.Native.Nat.{ℕ, _+_, _≤_}
+use lib.ListN.{length}
+use Rattle.texts.specs.Text.{piece}
+use Rattle.saxlite.specs.declared.tag.Found.{Found}
+use Rattle.saxlite.specs.Attributes.{rawLength}
+use Rattle.saxlite.specs.Event.{valueIn}
+use Rattle.xmlschema.specs.Schema.{Item}
+use Rattle.xmlschema.specs.Numbers.{numberOf, parsed}
+use Rattle.xmlschema.specs.declared.numbers.Number.{Number}
+use Rattle.xmlschema.specs.Builder.{orEmpty}
+use Rattle.xmlschema.specs.Store.{itemOf}
+use Rattle.xmlschema.specs.Layout.{Alike, Steady}
+use Rattle.xmlschema.specs.declared.items.Entry.{Entry}
+use Rattle.xmlschema.specs.declared.take.Taken.{Taken}
+
+-- the value that was found lies from r on, below high, and takes its raw length
+pub record TakenAt (found : Found) (doc text : List ℕ) (high : ℕ) (r : Taken) (text′ : List ℕ) : Type 0 where
+  pub start : r .from + rawLength found ≡ high
+  pub is : piece text′ (r .from) (r .len) ≡ orEmpty (valueIn doc found)
+  pub within : r .len ≤ rawLength found
+  pub alike : (a : ℕ) → a ≤ r .from → Alike a high text text′
+  pub long : length text′ ≡ length text
+
+-- only n bytes from low on may have changed
+pub record Scratched (low n : ℕ) (text text′ : List ℕ) : Type 0 where
+  pub alike : (high : ℕ) → low + n ≤ high → Alike low high text text′
+  pub long : length text′ ≡ length text
+
+-- an entry made for an item, its texts taken below high; n is the raw length of them all
+pub record Made (it : Item) (n high : ℕ) (text : List ℕ) (e : Entry) (text′ : List ℕ) : Type 0 where
+  pub is : itemOf text′ e ≡ it
+  pub steady : (a : ℕ) → Steady a (e .encoding) text′ e
+  pub start : e .encoding + n ≡ high
+  pub alike : (a : ℕ) → a ≤ e .encoding → Alike a high text text′
+  pub long : length text′ ≡ length text
+
+-- a number read from a value that was found, decoded into the free text from low on
+pub record ReadAt (found : Found) (doc : List ℕ) (low : ℕ) (text : List ℕ) (r : Number) (text′ : List ℕ) : Type 0 where
+  pub is : r ≡ parsed (numberOf (valueIn doc found))
+  pub scratch : Scratched low (rawLength found) text text′

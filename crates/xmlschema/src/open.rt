@@ -1,0 +1,700 @@
+// What opening an element makes of the builder: one function for each element, and the dispatcher.
+//
+// Each `requires` is met by the driver: the state is kept, and the tag's texts have room. Each
+// promise is one equation with the definition of the same name in specs/Builder.antt.
+use crate::elements::Element;
+use crate::elements::element_of;
+use crate::items;
+use crate::items::Entry;
+use crate::items::Head;
+use crate::items::entry_at;
+use crate::items::put_entry;
+use crate::numbers::Number;
+use crate::stack::push;
+use crate::stack::top_name;
+use crate::state::Current;
+use crate::state::Limits;
+use crate::state::Place;
+use crate::state::State;
+use crate::state::Stepped;
+use crate::state::Verdict;
+use crate::take::named_entry;
+use crate::take::read_number;
+use crate::take::take_value;
+use crate::take::type_entry;
+use crate::take::typed_entry;
+use refusals::Refusal;
+use texts::equal;
+use texts::part;
+ghost use mathlib.Core.Path.{_≡_};
+ghost use mathlib.Core.List.{List, [], _∷_};
+ghost use Prim.Native.Nat.{ℕ, _+_, _-_, _≤_, _<_};
+ghost use lib.ListN.{length, getD};
+ghost use mathlib.Core.Bool.{not};
+ghost use lib.Dec.{T};
+ghost use Rattle.texts.specs.Text.{ascii, piece, same};
+ghost use Rattle.xmlschema.specs.Schema.{itemAt, aField};
+ghost use Rattle.xmlschema.specs.Store.{itemOf, schemaOf};
+ghost use Rattle.xmlschema.specs.Builder.{added, openSchema, openType, openRef, openComposite, openEnum, openValue, openMessage, openGroup, openField, openBy, opened, typeItem, plainItem, textIn, orEmpty};
+ghost use Rattle.xmlschema.specs.Whole.{attributesIn};
+ghost use Rattle.xmlschema.specs.Layout.{builderOf, modelIn, Kept, Ready, Tagged, Steady, After, Added};
+
+fn refuse(s: State, r: Refusal) -> Stepped
+    ensures { λ a. ⌜ a ≡ record { state = s; verdict = Verdict.Refused r } ⌝ }
+{
+    Stepped {
+        state: s,
+        verdict: Verdict::Refused(r),
+    }
+}
+
+fn unchanged(s: State) -> Stepped
+    ensures { λ a. ⌜ a ≡ record { state = s; verdict = Verdict.Fine } ⌝ }
+{
+    Stepped {
+        state: s,
+        verdict: Verdict::Fine,
+    }
+}
+
+// An item whose entry is made: 35, or the entry at the end of the records.
+fn add(
+    s: State,
+    l: Limits,
+    place: usize,
+    e: Entry,
+    doc: &[u8],
+    rec: &mut [u32],
+    text: &[u8],
+) -> Stepped
+    requires { ⌜ Kept s (now rec) (now text) × Steady (s .place .low) (e .encoding) (now text) e × (s .place .low ≤ e .encoding) × (e .encoding ≤ s .place .high) × (l .items ≤ 1024) ⌝ }
+    ensures { λ r. ⌜ Added l place (itemOf (now (text .entry)) e) s (s .place .high - e .encoding) (now (doc .entry)) (now (rec .entry)) (now (text .entry)) r (now (rec .exit)) (now (text .entry)) ⌝ }
+{
+    let count = s.place.count;
+    if l.items <= count {
+        return refuse(s, Refusal::TooManyItems { place });
+    }
+    put_entry(rec, count, e);
+    let more = count + 1;
+    let high = e.encoding as usize;
+    let current = s.current;
+    let head = s.head;
+    Stepped {
+        state: State {
+            place: Place {
+                depth: s.place.depth,
+                count: more,
+                low: s.place.low,
+                high,
+                start: s.place.start,
+            },
+            current,
+            head,
+        },
+        verdict: Verdict::Fine,
+    }
+}
+
+// ---- the elements
+
+// What opening an element asks: the state is kept, the tag stands in the document, and its texts
+// have room.
+
+fn open_schema(
+    s: State,
+    place: usize,
+    attributes: usize,
+    next: usize,
+    doc: &[u8],
+    rec: &[u32],
+    text: &mut [u8],
+) -> Stepped
+    requires { ⌜ Ready s (next - attributes) (now rec) (now text) × Tagged (now doc) attributes next ⌝ }
+    ensures { λ r. ⌜ After (openSchema place (attributesIn (now (doc .entry)) attributes) (builderOf s (now (doc .entry)) (now (rec .entry)) (now (text .entry)))) s (next - attributes) (now (doc .entry)) r (now (rec .entry)) (now (text .exit)) ⌝ }
+{
+    let low = s.place.low;
+    let Number::Value(id) = read_number(doc, attributes, b"id", text, low) else {
+        return refuse(s, Refusal::BadNumber { place });
+    };
+    let Number::Value(version) = read_number(doc, attributes, b"version", text, low) else {
+        return refuse(s, Refusal::BadNumber { place });
+    };
+    let package = take_value(doc, attributes, b"package", text, s.place.high);
+    let name = package.from as u32;
+    let len = package.len as u32;
+    let current = s.current;
+    Stepped {
+        state: State {
+            place: Place {
+                depth: s.place.depth,
+                count: s.place.count,
+                low,
+                high: package.from,
+                start: s.place.start,
+            },
+            current,
+            head: Head {
+                name,
+                len,
+                id,
+                version,
+            },
+        },
+        verdict: Verdict::Fine,
+    }
+}
+
+// A type or a member of the owner.
+fn add_type(
+    s: State,
+    l: Limits,
+    place: usize,
+    kind: u32,
+    owner: u32,
+    size: u32,
+    attributes: usize,
+    next: usize,
+    doc: &[u8],
+    rec: &mut [u32],
+    text: &mut [u8],
+) -> Stepped
+    requires { ⌜ Ready s (next - attributes) (now rec) (now text) × Tagged (now doc) attributes next × (l .items ≤ 1024) ⌝ }
+    ensures { λ r. ⌜ After (added l place (typeItem kind owner (attributesIn (now (doc .entry)) attributes) size) (builderOf s (now (doc .entry)) (now (rec .entry)) (now (text .entry)))) s (next - attributes) (now (doc .entry)) r (now (rec .exit)) (now (text .exit)) ⌝ }
+{
+    let e = type_entry(kind, owner, size, doc, attributes, text, s.place.high);
+    add(s, l, place, e, doc, rec, text)
+}
+
+// `inside`: whether the parent's name is composite.
+fn open_type(
+    s: State,
+    l: Limits,
+    place: usize,
+    inside: bool,
+    attributes: usize,
+    next: usize,
+    doc: &[u8],
+    rec: &mut [u32],
+    text: &mut [u8],
+) -> Stepped
+    requires { ⌜ Ready s (next - attributes) (now rec) (now text) × Tagged (now doc) attributes next × (l .items ≤ 1024) ⌝ }
+    ensures { λ r. ⌜ After (openType l place inside (attributesIn (now (doc .entry)) attributes) (builderOf s (now (doc .entry)) (now (rec .entry)) (now (text .entry)))) s (next - attributes) (now (doc .entry)) r (now (rec .exit)) (now (text .exit)) ⌝ }
+{
+    let Number::Value(size) = read_number(doc, attributes, b"length", text, s.place.low) else {
+        return refuse(s, Refusal::BadNumber { place });
+    };
+    if inside {
+        let composite = s.current.composite;
+        if composite == 0 {
+            return unchanged(s);
+        }
+        return add_type(
+            s,
+            l,
+            place,
+            items::MEMBER,
+            composite - 1,
+            size,
+            attributes,
+            next,
+            doc,
+            rec,
+            text,
+        );
+    }
+    add_type(
+        s,
+        l,
+        place,
+        items::TYPE,
+        0,
+        size,
+        attributes,
+        next,
+        doc,
+        rec,
+        text,
+    )
+}
+
+// An item with a name and the text under `key`.
+fn add_typed(
+    s: State,
+    l: Limits,
+    place: usize,
+    kind: u32,
+    owner: u32,
+    id: u32,
+    key: &[u8],
+    attributes: usize,
+    next: usize,
+    doc: &[u8],
+    rec: &mut [u32],
+    text: &mut [u8],
+) -> Stepped
+    requires { ⌜ Ready s (next - attributes) (now rec) (now text) × Tagged (now doc) attributes next × (l .items ≤ 1024) × T (not (same (ascii "name") (now key))) ⌝ }
+    ensures { λ r. ⌜ Added l place (plainItem kind owner (textIn (attributesIn (now (doc .entry)) attributes) "name") (orEmpty (attributesIn (now (doc .entry)) attributes (now (key .entry)))) id) s (next - attributes) (now (doc .entry)) (now (rec .entry)) (now (text .entry)) r (now (rec .exit)) (now (text .exit)) ⌝ }
+{
+    let e = typed_entry(kind, owner, id, key, doc, attributes, text, s.place.high);
+    add(s, l, place, e, doc, rec, text)
+}
+
+// An item with a name.
+fn add_named(
+    s: State,
+    l: Limits,
+    place: usize,
+    kind: u32,
+    owner: u32,
+    id: u32,
+    attributes: usize,
+    next: usize,
+    doc: &[u8],
+    rec: &mut [u32],
+    text: &mut [u8],
+) -> Stepped
+    requires { ⌜ Ready s (next - attributes) (now rec) (now text) × Tagged (now doc) attributes next × (l .items ≤ 1024) ⌝ }
+    ensures { λ r. ⌜ Added l place (plainItem kind owner (textIn (attributesIn (now (doc .entry)) attributes) "name") [] id) s (next - attributes) (now (doc .entry)) (now (rec .entry)) (now (text .entry)) r (now (rec .exit)) (now (text .exit)) ⌝ }
+{
+    let e = named_entry(kind, owner, id, doc, attributes, text, s.place.high);
+    add(s, l, place, e, doc, rec, text)
+}
+
+// A field of an owner.
+fn add_field(
+    s: State,
+    l: Limits,
+    place: usize,
+    owner: u32,
+    id: u32,
+    attributes: usize,
+    next: usize,
+    doc: &[u8],
+    rec: &mut [u32],
+    text: &mut [u8],
+) -> Stepped
+    requires { ⌜ Ready s (next - attributes) (now rec) (now text) × Tagged (now doc) attributes next × (l .items ≤ 1024) ⌝ }
+    ensures { λ r. ⌜ Added l place (plainItem aField owner (textIn (attributesIn (now (doc .entry)) attributes) "name") (orEmpty (attributesIn (now (doc .entry)) attributes (ascii "type"))) id) s (next - attributes) (now (doc .entry)) (now (rec .entry)) (now (text .entry)) r (now (rec .exit)) (now (text .exit)) ⌝ }
+{
+    add_typed(
+        s,
+        l,
+        place,
+        items::FIELD,
+        owner,
+        id,
+        b"type",
+        attributes,
+        next,
+        doc,
+        rec,
+        text,
+    )
+}
+
+fn open_ref(
+    s: State,
+    l: Limits,
+    place: usize,
+    attributes: usize,
+    next: usize,
+    doc: &[u8],
+    rec: &mut [u32],
+    text: &mut [u8],
+) -> Stepped
+    requires { ⌜ Ready s (next - attributes) (now rec) (now text) × Tagged (now doc) attributes next × (l .items ≤ 1024) ⌝ }
+    ensures { λ r. ⌜ After (openRef l place (attributesIn (now (doc .entry)) attributes) (builderOf s (now (doc .entry)) (now (rec .entry)) (now (text .entry)))) s (next - attributes) (now (doc .entry)) r (now (rec .exit)) (now (text .exit)) ⌝ }
+{
+    let composite = s.current.composite;
+    if composite == 0 {
+        return unchanged(s);
+    }
+    add_typed(
+        s,
+        l,
+        place,
+        items::REF,
+        composite - 1,
+        0,
+        b"type",
+        attributes,
+        next,
+        doc,
+        rec,
+        text,
+    )
+}
+
+fn open_composite(
+    s: State,
+    l: Limits,
+    place: usize,
+    attributes: usize,
+    next: usize,
+    doc: &[u8],
+    rec: &mut [u32],
+    text: &mut [u8],
+) -> Stepped
+    requires { ⌜ Ready s (next - attributes) (now rec) (now text) × Tagged (now doc) attributes next × (l .items ≤ 1024) ⌝ }
+    ensures { λ r. ⌜ After (openComposite l place (attributesIn (now (doc .entry)) attributes) (builderOf s (now (doc .entry)) (now (rec .entry)) (now (text .entry)))) s (next - attributes) (now (doc .entry)) r (now (rec .exit)) (now (text .exit)) ⌝ }
+{
+    let r = add_named(
+        s,
+        l,
+        place,
+        items::COMPOSITE,
+        0,
+        0,
+        attributes,
+        next,
+        doc,
+        rec,
+        text,
+    );
+    let t = r.state;
+    let place_t = t.place;
+    let head = t.head;
+    let verdict = r.verdict;
+    Stepped {
+        state: State {
+            place: place_t,
+            current: Current {
+                flag: t.current.flag,
+                composite: t.place.count,
+                enumer: t.current.enumer,
+                message: t.current.message,
+                group: t.current.group,
+            },
+            head,
+        },
+        verdict,
+    }
+}
+
+fn open_enum(
+    s: State,
+    l: Limits,
+    place: usize,
+    attributes: usize,
+    next: usize,
+    doc: &[u8],
+    rec: &mut [u32],
+    text: &mut [u8],
+) -> Stepped
+    requires { ⌜ Ready s (next - attributes) (now rec) (now text) × Tagged (now doc) attributes next × (l .items ≤ 1024) ⌝ }
+    ensures { λ r. ⌜ After (openEnum l place (attributesIn (now (doc .entry)) attributes) (builderOf s (now (doc .entry)) (now (rec .entry)) (now (text .entry)))) s (next - attributes) (now (doc .entry)) r (now (rec .exit)) (now (text .exit)) ⌝ }
+{
+    let r = add_typed(
+        s,
+        l,
+        place,
+        items::ENUM,
+        0,
+        0,
+        b"encodingType",
+        attributes,
+        next,
+        doc,
+        rec,
+        text,
+    );
+    let t = r.state;
+    let place_t = t.place;
+    let head = t.head;
+    let verdict = r.verdict;
+    Stepped {
+        state: State {
+            place: place_t,
+            current: Current {
+                flag: t.current.flag,
+                composite: t.current.composite,
+                enumer: t.place.count,
+                message: t.current.message,
+                group: t.current.group,
+            },
+            head,
+        },
+        verdict,
+    }
+}
+
+// The collected text is emptied; with a current enum the value is added and text is collected.
+fn open_value(
+    s: State,
+    l: Limits,
+    place: usize,
+    attributes: usize,
+    next: usize,
+    doc: &[u8],
+    rec: &mut [u32],
+    text: &mut [u8],
+) -> Stepped
+    requires { ⌜ Ready s (next - attributes) (now rec) (now text) × Tagged (now doc) attributes next × (l .items ≤ 1024) ⌝ }
+    ensures { λ r. ⌜ After (openValue l place (attributesIn (now (doc .entry)) attributes) (builderOf s (now (doc .entry)) (now (rec .entry)) (now (text .entry)))) s (next - attributes) (now (doc .entry)) r (now (rec .exit)) (now (text .exit)) ⌝ }
+{
+    let enumer = s.current.enumer;
+    if enumer == 0 {
+        let current = s.current;
+        let head = s.head;
+        return Stepped {
+            state: State {
+                place: Place {
+                    depth: s.place.depth,
+                    count: s.place.count,
+                    low: s.place.low,
+                    high: s.place.high,
+                    start: s.place.low,
+                },
+                current,
+                head,
+            },
+            verdict: Verdict::Fine,
+        };
+    }
+    let r = add_named(
+        s,
+        l,
+        place,
+        items::VALUE,
+        enumer - 1,
+        0,
+        attributes,
+        next,
+        doc,
+        rec,
+        text,
+    );
+    let t = r.state;
+    let head = t.head;
+    let verdict = r.verdict;
+    Stepped {
+        state: State {
+            place: Place {
+                depth: t.place.depth,
+                count: t.place.count,
+                low: t.place.low,
+                high: t.place.high,
+                start: t.place.low,
+            },
+            current: Current {
+                flag: true,
+                composite: t.current.composite,
+                enumer: t.current.enumer,
+                message: t.current.message,
+                group: t.current.group,
+            },
+            head,
+        },
+        verdict,
+    }
+}
+
+fn open_message(
+    s: State,
+    l: Limits,
+    place: usize,
+    attributes: usize,
+    next: usize,
+    doc: &[u8],
+    rec: &mut [u32],
+    text: &mut [u8],
+) -> Stepped
+    requires { ⌜ Ready s (next - attributes) (now rec) (now text) × Tagged (now doc) attributes next × (l .items ≤ 1024) ⌝ }
+    ensures { λ r. ⌜ After (openMessage l place (attributesIn (now (doc .entry)) attributes) (builderOf s (now (doc .entry)) (now (rec .entry)) (now (text .entry)))) s (next - attributes) (now (doc .entry)) r (now (rec .exit)) (now (text .exit)) ⌝ }
+{
+    let Number::Value(id) = read_number(doc, attributes, b"id", text, s.place.low) else {
+        return refuse(s, Refusal::BadNumber { place });
+    };
+    let r = add_named(
+        s,
+        l,
+        place,
+        items::MESSAGE,
+        0,
+        id,
+        attributes,
+        next,
+        doc,
+        rec,
+        text,
+    );
+    let t = r.state;
+    let place_t = t.place;
+    let head = t.head;
+    let verdict = r.verdict;
+    Stepped {
+        state: State {
+            place: place_t,
+            current: Current {
+                flag: t.current.flag,
+                composite: t.current.composite,
+                enumer: t.current.enumer,
+                message: t.place.count,
+                group: t.current.group,
+            },
+            head,
+        },
+        verdict,
+    }
+}
+
+// Without a message only the id is read.
+fn open_group(
+    s: State,
+    l: Limits,
+    place: usize,
+    attributes: usize,
+    next: usize,
+    doc: &[u8],
+    rec: &mut [u32],
+    text: &mut [u8],
+) -> Stepped
+    requires { ⌜ Ready s (next - attributes) (now rec) (now text) × Tagged (now doc) attributes next × (l .items ≤ 1024) ⌝ }
+    ensures { λ r. ⌜ After (openGroup l place (attributesIn (now (doc .entry)) attributes) (builderOf s (now (doc .entry)) (now (rec .entry)) (now (text .entry)))) s (next - attributes) (now (doc .entry)) r (now (rec .exit)) (now (text .exit)) ⌝ }
+{
+    let Number::Value(id) = read_number(doc, attributes, b"id", text, s.place.low) else {
+        return refuse(s, Refusal::BadNumber { place });
+    };
+    let message = s.current.message;
+    if message == 0 {
+        return unchanged(s);
+    }
+    let r = add_named(
+        s,
+        l,
+        place,
+        items::GROUP,
+        message - 1,
+        id,
+        attributes,
+        next,
+        doc,
+        rec,
+        text,
+    );
+    let t = r.state;
+    let place_t = t.place;
+    let head = t.head;
+    let verdict = r.verdict;
+    Stepped {
+        state: State {
+            place: place_t,
+            current: Current {
+                flag: t.current.flag,
+                composite: t.current.composite,
+                enumer: t.current.enumer,
+                message: t.current.message,
+                group: t.place.count,
+            },
+            head,
+        },
+        verdict,
+    }
+}
+
+// 33 where the current group was opened under another message.
+fn open_field(
+    s: State,
+    l: Limits,
+    place: usize,
+    attributes: usize,
+    next: usize,
+    doc: &[u8],
+    rec: &mut [u32],
+    text: &mut [u8],
+) -> Stepped
+    requires { ⌜ Ready s (next - attributes) (now rec) (now text) × Tagged (now doc) attributes next × (l .items ≤ 1024) ⌝ }
+    ensures { λ r. ⌜ After (openField l place (attributesIn (now (doc .entry)) attributes) (builderOf s (now (doc .entry)) (now (rec .entry)) (now (text .entry)))) s (next - attributes) (now (doc .entry)) r (now (rec .exit)) (now (text .exit)) ⌝ }
+{
+    let Number::Value(id) = read_number(doc, attributes, b"id", text, s.place.low) else {
+        return refuse(s, Refusal::BadNumber { place });
+    };
+    let message = s.current.message;
+    if message == 0 {
+        return unchanged(s);
+    }
+    let group = s.current.group;
+    if group == 0 {
+        return add_field(
+            s,
+            l,
+            place,
+            message - 1,
+            id,
+            attributes,
+            next,
+            doc,
+            rec,
+            text,
+        );
+    }
+    if owner_of(s, group - 1, rec) == message - 1 {
+        return add_field(s, l, place, group - 1, id, attributes, next, doc, rec, text);
+    }
+    refuse(s, Refusal::MisplacedField { place })
+}
+
+// The owner of an item of the state.
+fn owner_of(s: State, i: u32, rec: &[u32]) -> u32
+    ensures { λ r. ⌜ ((text : List ℕ) → r ≡ itemAt (schemaOf (modelIn s) (now (rec .entry)) text) i .owner) ⌝ }
+{
+    if i < s.place.count {
+        let e = entry_at(rec, i);
+        return e.owner;
+    }
+    0
+}
+
+fn open_by(
+    s: State,
+    e: Element,
+    l: Limits,
+    place: usize,
+    inside: bool,
+    attributes: usize,
+    next: usize,
+    doc: &[u8],
+    rec: &mut [u32],
+    text: &mut [u8],
+) -> Stepped
+    requires { ⌜ Ready s (next - attributes) (now rec) (now text) × Tagged (now doc) attributes next × (l .items ≤ 1024) ⌝ }
+    ensures { λ r. ⌜ After (openBy e l place inside (attributesIn (now (doc .entry)) attributes) (builderOf s (now (doc .entry)) (now (rec .entry)) (now (text .entry)))) s (next - attributes) (now (doc .entry)) r (now (rec .exit)) (now (text .exit)) ⌝ }
+{
+    match e {
+        Element::MessageSchema => open_schema(s, place, attributes, next, doc, rec, text),
+        Element::Type => open_type(s, l, place, inside, attributes, next, doc, rec, text),
+        Element::Ref => open_ref(s, l, place, attributes, next, doc, rec, text),
+        Element::Composite => open_composite(s, l, place, attributes, next, doc, rec, text),
+        Element::Enum => open_enum(s, l, place, attributes, next, doc, rec, text),
+        Element::ValidValue => open_value(s, l, place, attributes, next, doc, rec, text),
+        Element::Message => open_message(s, l, place, attributes, next, doc, rec, text),
+        Element::Group => open_group(s, l, place, attributes, next, doc, rec, text),
+        Element::Field => open_field(s, l, place, attributes, next, doc, rec, text),
+        Element::Other => unchanged(s),
+    }
+}
+
+pub fn on_open(
+    s: State,
+    l: Limits,
+    place: usize,
+    name: usize,
+    len: usize,
+    attributes: usize,
+    next: usize,
+    doc: &[u8],
+    rec: &mut [u32],
+    text: &mut [u8],
+) -> Stepped
+    requires { ⌜ Ready s (next - attributes) (now rec) (now text) × Tagged (now doc) attributes next × (l .items ≤ 1024) × (l .depth ≤ 64) × (name + len ≤ 32768) ⌝ }
+    ensures { λ r. ⌜ After (opened l place (piece (now (doc .entry)) name len) (attributesIn (now (doc .entry)) attributes) (builderOf s (now (doc .entry)) (now (rec .entry)) (now (text .entry)))) s (next - attributes) (now (doc .entry)) r (now (rec .exit)) (now (text .exit)) ⌝ }
+{
+    let depth = s.place.depth;
+    if l.depth <= depth {
+        return refuse(s, Refusal::TooDeep { place });
+    }
+    let inside = equal(top_name(depth, doc, rec), b"composite");
+    let e = element_of(part(doc, name, len));
+    let p = push(s, name, len, rec);
+    open_by(p, e, l, place, inside, attributes, next, doc, rec, text)
+}
