@@ -1,0 +1,181 @@
+-- Laws of how a type prints and of what a type name stands for.
+use mathlib.Core.Path.{_≡_, refl, sym, _∙_}
+use mathlib.Core.Bool.{Bool, true, false, not}
+use mathlib.Core.List.{List, [], _∷_, _++_}
+use mathlib.Core.Option.{Option, none, some}
+use Prim.Native.Nat.{ℕ, _≤_, _<_}
+use native.Mathlib.Omega.{arith}
+use borrow.Author.Tests.{lt-ltb, le-ltb}
+use Rattle.texts.specs.Choice.{_or_}
+use Rattle.texts.specs.Text.{ascii, same}
+use Rattle.xmlschema.specs.Schema.{Schema, lastNamed, aType, aComposite, anEnum}
+use Rattle.xmlschema.specs.Store.{found}
+use Rattle.xmlschema.specs.declared.items.Position.{Position}
+use Rattle.xmlschema.specs.declared.items.Position.the-variants.{At, Nothing}
+use Rattle.xmltoproto.specs.Lists.{isSome, among}
+use Rattle.xmltoproto.specs.Charset.{compatible}
+use Rattle.xmltoproto.specs.Types.{builtIns, chars, isChar, isByte, isRaw, isArray, asNamed, ofLength, narrow, asPrimitive, protoOf, isDeclared, typeOr, meaning}
+use Rattle.xmltoproto.specs.Names.{signedNames, unsignedNames, otherPrimitives}
+use Rattle.xmltoproto.specs.Shapes.{form, protoIn, meaningIn}
+use Rattle.xmltoproto.specs.declared.types.Shape.{Shape}
+use Rattle.xmltoproto.specs.declared.types.Shape.the-variants as shape
+use Rattle.xmltoproto.specs.declared.types.Sense.the-variants as sense
+use Rattle.xmltoproto.proofs.Cleaning.{among-append}
+
+-- ---- lengths
+
+module _ (n : ℕ) where
+  pub chars-given : 0 < n → n ≡ chars (form [] n [])
+  unfolding chars
+  chars-given h = rw (lt-ltb 0 n h)
+
+  pub chars-absent : n ≤ 0 → 1 ≡ chars (form [] n [])
+  unfolding chars
+  chars-absent h = rw (le-ltb 0 n h)
+
+pub byte-told : (p : List ℕ) {b : Bool} → b ≡ among p (ascii "uint8" ∷ ascii "int8" ∷ []) → b ≡ isByte (form p 0 [])
+unfolding isByte
+byte-told p e = e
+
+module _ (p : List ℕ) (n : ℕ) where
+  pub raw-short : n ≤ 1 → false ≡ isRaw (form p n [])
+  unfolding isRaw
+  raw-short h = rw (le-ltb 1 n h)
+
+  pub array-short : n ≤ 1 → false ≡ isArray (form p n [])
+  unfolding isArray
+  array-short h = rw (le-ltb 1 n h)
+
+  module _ (h : 1 < n) where
+    pub raw-long : {b : Bool} → b ≡ isByte (form p 0 []) → b ≡ isRaw (form p n [])
+    unfolding isRaw isByte
+    raw-long e = rw (lt-ltb 1 n h) e
+
+    module _ {a : Bool} (ea : a ≡ same p (ascii "char")) where
+      pub array-char : a ≡ true → false ≡ isArray (form p n [])
+      unfolding isArray isChar isByte
+      array-char t = rw (lt-ltb 1 n h, ← ea, t)
+
+      pub array-other : a ≡ false → {b : Bool} → b ≡ isByte (form p 0 []) → not b ≡ isArray (form p n [])
+      unfolding isArray isChar isByte
+      array-other t e = rw (lt-ltb 1 n h, ← ea, t, ← e)
+
+-- ---- primitives
+
+module _ (p : List ℕ) {a : Bool} (ea : a ≡ same p (ascii "int8")) where
+  pub shape-int8 : a ≡ true → (e : List ℕ) → protoIn shape.Signed p e ≡ asPrimitive p
+  unfolding asPrimitive narrow among
+  shape-int8 t e = rw (← ea, t)
+
+  module _ (fa : a ≡ false) {b : Bool} (eb : b ≡ same p (ascii "int16")) where
+    pub shape-int16 : b ≡ true → (e : List ℕ) → protoIn shape.Signed p e ≡ asPrimitive p
+    unfolding asPrimitive narrow among
+    shape-int16 t e = rw (← ea, fa, ← eb, t)
+
+    module _ (fb : b ≡ false) {c : Bool} (ec : c ≡ same p (ascii "uint8")) where
+      pub shape-uint8 : c ≡ true → (e : List ℕ) → protoIn shape.Unsigned p e ≡ asPrimitive p
+      unfolding asPrimitive narrow among
+      shape-uint8 t e = rw (← ea, fa, ← eb, fb, ← ec, t)
+
+      module _ (fc : c ≡ false) {d : Bool} (ed : d ≡ same p (ascii "uint16")) where
+        pub shape-uint16 : d ≡ true → (e : List ℕ) → protoIn shape.Unsigned p e ≡ asPrimitive p
+        unfolding asPrimitive narrow among
+        shape-uint16 t e = rw (← ea, fa, ← eb, fb, ← ec, fc, ← ed, t)
+
+        pub shape-plain : d ≡ false → (e : List ℕ) → protoIn shape.Plain p e ≡ asPrimitive p
+        unfolding asPrimitive asNamed among
+        shape-plain t e = rw (← ea, fa, ← eb, fb, ← ec, fc, ← ed, t)
+
+-- ---- the shape of a form
+
+module _ (p : List ℕ) (n : ℕ) (e : List ℕ) {a : Bool} (ea : a ≡ same p (ascii "char")) where
+  module _ (ta : a ≡ true) {k : ℕ} (ek : k ≡ chars (form [] n [])) {c : Bool} (ec : c ≡ compatible e) where
+    pub shape-text : c ≡ true → protoIn (shape.Text k) p e ≡ protoOf (form p n e)
+    unfolding protoOf isChar ofLength chars
+    shape-text t = rw (← ea, ta, ← ec, t, ← ek)
+
+    pub shape-foreign : c ≡ false → protoIn (shape.Foreign k) p e ≡ protoOf (form p n e)
+    unfolding protoOf isChar ofLength chars
+    shape-foreign t = rw (← ea, ta, ← ec, t, ← ek)
+
+  module _ (fa : a ≡ false) {b : Bool} (eb : b ≡ isRaw (form p n [])) where
+    pub shape-raw : b ≡ true → protoIn (shape.Raw n) p e ≡ protoOf (form p n e)
+    unfolding protoOf isChar ofLength isRaw isByte
+    shape-raw t = rw (← ea, fa, ← eb, t)
+
+    pub shape-primitive : b ≡ false → (r : Shape) → ((e : List ℕ) → protoIn r p e ≡ asPrimitive p) → protoIn r p e ≡ protoOf (form p n e)
+    unfolding protoOf isChar isRaw isByte
+    shape-primitive t r h = rw (← ea, fa, ← eb, t) (h e)
+
+-- ---- a type name
+
+module _ (s : Schema) (name : List ℕ) {q : Position} (eq : q ≡ found (lastNamed anEnum name s)) where
+  pub declared-enum : {i : ℕ} → q ≡ At i → true ≡ isDeclared s name
+  unfolding isDeclared
+  declared-enum f = go (lastNamed anEnum name s) (sym eq ∙ f)
+    where
+      go : {i : ℕ} (o : Option ℕ) → found o ≡ At i → true ≡ (isSome o or isSome (lastNamed aComposite name s))
+      go none g = absurd (let z : _≡_ {A = ℕ} 0 1 = cc in omega arith)
+      go (some j) g = refl
+
+  module _ (nq : q ≡ Nothing) {r : Position} (er : r ≡ found (lastNamed aComposite name s)) where
+    pub declared-composite : {i : ℕ} → r ≡ At i → true ≡ isDeclared s name
+    unfolding isDeclared
+    declared-composite f = go (lastNamed anEnum name s) (lastNamed aComposite name s) (sym er ∙ f)
+      where
+        go : {i : ℕ} (o : Option ℕ) (u : Option ℕ) → found u ≡ At i → true ≡ (isSome o or isSome u)
+        go none none g = absurd (let z : _≡_ {A = ℕ} 0 1 = cc in omega arith)
+        go (some k) none g = refl
+        go none (some j) g = refl
+        go (some k) (some j) g = refl
+
+    pub declared-not : r ≡ Nothing → false ≡ isDeclared s name
+    unfolding isDeclared
+    declared-not f = go (lastNamed anEnum name s) (lastNamed aComposite name s) (sym eq ∙ nq) (sym er ∙ f)
+      where
+        go : (o : Option ℕ) (u : Option ℕ) → found o ≡ Nothing → found u ≡ Nothing → false ≡ (isSome o or isSome u)
+        go none none g h = refl
+        go (some k) none g h = absurd (let z : _≡_ {A = ℕ} 0 1 = cc in omega arith)
+        go none (some j) g h = absurd (let z : _≡_ {A = ℕ} 0 1 = cc in omega arith)
+        go (some k) (some j) g h = absurd (let z : _≡_ {A = ℕ} 0 1 = cc in omega arith)
+
+module _ (w : List ℕ) {a : Bool} (ea : a ≡ among w signedNames) where
+  pub built-signed : a ≡ true → true ≡ among w builtIns
+  built-signed t = rw (among-append w signedNames (unsignedNames ++ otherPrimitives), ← ea, t)
+
+  module _ (fa : a ≡ false) {b : Bool} (eb : b ≡ among w unsignedNames) where
+    pub built-unsigned : b ≡ true → true ≡ among w builtIns
+    built-unsigned t = rw (among-append w signedNames (unsignedNames ++ otherPrimitives), ← ea, fa, among-append w unsignedNames otherPrimitives, ← eb, t)
+
+    pub built-other : b ≡ false → {c : Bool} → c ≡ among w otherPrimitives → c ≡ among w builtIns
+    built-other t g = rw (among-append w signedNames (unsignedNames ++ otherPrimitives), ← ea, fa, among-append w unsignedNames otherPrimitives, ← eb, t) g
+
+module _ (s : Schema) (name : List ℕ) {a : Bool} (ea : a ≡ isDeclared s name) where
+  pub sense-declared : a ≡ true → meaningIn s name sense.Declared ≡ meaning s name
+  unfolding meaning
+  sense-declared t = rw (← ea, t)
+
+  module _ (fa : a ≡ false) {q : Position} (eq : q ≡ found (lastNamed aType name s)) where
+    pub sense-typed : {i : ℕ} → q ≡ At i → meaningIn s name (sense.Typed i) ≡ meaning s name
+    unfolding meaning
+    sense-typed {i} f = rw (← ea, fa) (go (lastNamed aType name s) (sym eq ∙ f))
+      where
+        go : (o : Option ℕ) → found o ≡ At i → meaningIn s name (sense.Typed i) ≡ typeOr s name o
+        go none g = absurd (let z : _≡_ {A = ℕ} 0 1 = cc in omega arith)
+        go (some j) g = let e : i ≡ j = cc in rw e
+
+    module _ (nq : q ≡ Nothing) where
+      absent : meaning s name ≡ typeOr s name none
+      unfolding meaning
+      absent = rw (← ea, fa) (go (lastNamed aType name s) (sym eq ∙ nq))
+        where
+          go : (o : Option ℕ) → found o ≡ Nothing → typeOr s name o ≡ typeOr s name none
+          go none g = refl
+          go (some j) g = absurd (let z : _≡_ {A = ℕ} 0 1 = cc in omega arith)
+
+      module _ {b : Bool} (eb : b ≡ among name builtIns) where
+        pub sense-built-in : b ≡ true → meaningIn s name sense.BuiltIn ≡ meaning s name
+        sense-built-in t = rw (absent, ← eb, t)
+
+        pub sense-unknown : b ≡ false → meaningIn s name sense.Unknown ≡ meaning s name
+        sense-unknown t = rw (absent, ← eb, t)

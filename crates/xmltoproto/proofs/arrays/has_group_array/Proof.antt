@@ -1,0 +1,98 @@
+use native.Mathlib.Omega.{arith}
+use Prim.Native.Nat.{_-_}
+use Rattle.xmltoproto.proofs.Looping.{Asking}
+use Rattle.xmlschema.specs.Schema.{under, aGroup}
+use Rattle.xmlschema.specs.Store.{schemaOf}
+use Rattle.xmltoproto.proofs.Walking.{underOwner, under-within}
+use Rattle.xmltoproto.specs.Arrays.{holdsArray}
+use Rattle.xmltoproto.proofs.Laws.{ask as laws}
+use Rattle.xmltoproto.proofs.arrays.has_group_array.Statement.{statement}
+use Rattle.xmltoproto.proofs.arrays.has_group_array.Tie as tie
+use Rattle.xmltoproto.proofs.arrays.has_group_array.Reads as reads
+use Rattle.xmltoproto.proofs.arrays.has_group_array.Lts as lts
+use Rattle.xmlschema.proofs.items.count.Reads as count-reads
+use Rattle.xmlschema.proofs.items.next_under.Reads as next-under-reads
+use Rattle.xmltoproto.proofs.arrays.holds_array.Reads as holds-array-reads
+
+abbrev Inv-loop : tie.InvT-loop
+Inv-loop m rec text owner n from₀ from = Asking (holdsArray (schemaOf m rec text)) (under aGroup owner (schemaOf m rec text)) (underOwner aGroup owner) (schemaOf m rec text) from
+
+abbrev μ-loop : tie.MeasureT-loop
+μ-loop m rec text owner n from₀ from = n - from
+
+-- src/arrays.rt:134:9
+count-requires : tie.Need-count-requires Inv-loop μ-loop
+count-requires c κs = search laws
+
+-- src/arrays.rt:136:5
+loop-holds : tie.Need-loop-holds Inv-loop μ-loop
+loop-holds c = search laws
+
+-- src/arrays.rt:137:15
+next-under-requires : tie.Need-next-under-requires Inv-loop μ-loop
+next-under-requires c κs = search laws
+
+-- src/arrays.rt:138:26
+enum-known-i : tie.Need-enum-known-i Inv-loop μ-loop
+enum-known-i c = search laws
+
+-- src/arrays.rt:139:20
+holds-array-requires : tie.Need-holds-array-requires Inv-loop μ-loop
+holds-array-requires c κs = search laws
+
+-- src/arrays.rt:140:21
+returns : tie.Need-returns Inv-loop μ-loop
+returns c = search laws
+
+-- src/arrays.rt:142:24
+add-from : tie.Need-add-from Inv-loop μ-loop
+add-from c =
+    let at-i = c .before .before .before in
+    let at-next-under = at-i .before .before in
+    let at-count = at-next-under .before .before .before in
+    let h = under-within _ _ _ _ _ (at-i .i .given .1) _ (at-next-under .next-under .ensures) (at-count .count .ensures) in
+    omega (arith, h)
+
+-- src/arrays.rt:136:5
+loop-less : tie.Need-loop-less Inv-loop μ-loop
+loop-less c =
+    let at-i = c .before .before .before in
+    let at-next-under = at-i .before .before in
+    let at-count = at-next-under .before .before .before in
+    let h = under-within _ _ _ _ _ (at-i .i .given .1) _ (at-next-under .next-under .ensures) (at-count .count .ensures) in
+    omega (arith, h)
+
+-- src/arrays.rt:136:5
+loop-again : tie.Need-loop-again Inv-loop μ-loop
+loop-again c = search laws
+
+-- src/arrays.rt:145:17
+enum-told : tie.Need-enum-told Inv-loop μ-loop
+enum-told c = search laws
+
+-- src/arrays.rt:145:17
+returns-2 : tie.Need-returns-2 Inv-loop μ-loop
+returns-2 c = search laws
+
+-- src/arrays.rt:131:1
+returns-3 : tie.Need-returns-3 Inv-loop μ-loop
+returns-3 c = search laws
+
+pub has-group-array-spec : {M : Type 1} → statement M
+has-group-array-spec =
+    tie.close
+    (tie.spec
+    Inv-loop
+    μ-loop
+    count-requires
+    loop-holds
+    next-under-requires
+    enum-known-i
+    holds-array-requires
+    returns
+    add-from
+    loop-less
+    loop-again
+    enum-told
+    returns-2
+    returns-3)

@@ -1,0 +1,97 @@
+use native.Mathlib.Omega.{arith}
+use Prim.Native.Nat.{_-_}
+use Rattle.xmltoproto.proofs.Looping.{Counting, counting-room}
+use Rattle.xmlschema.specs.Schema.{under, aMember}
+use Rattle.xmlschema.specs.Store.{schemaOf}
+use Rattle.xmltoproto.proofs.Walking.{underOwner, next-under, under-within}
+use Rattle.xmltoproto.proofs.Laws.{number as laws}
+use Rattle.xmltoproto.proofs.composites.members_in.Statement.{statement}
+use Rattle.xmltoproto.proofs.composites.members_in.Tie as tie
+use Rattle.xmltoproto.proofs.composites.members_in.Reads as reads
+use Rattle.xmltoproto.proofs.composites.members_in.Lts as lts
+use Rattle.xmlschema.proofs.items.count.Reads as count-reads
+use Rattle.xmlschema.proofs.items.next_under.Reads as next-under-reads
+
+abbrev Inv-loop : tie.InvT-loop
+Inv-loop m rec text c n k₀ from₀ k from = Counting (under aMember c (schemaOf m rec text)) (underOwner aMember c) (schemaOf m rec text) n k from
+
+abbrev μ-loop : tie.MeasureT-loop
+μ-loop m rec text c n k₀ from₀ k from = n - from
+
+-- src/composites.rt:73:9
+count-requires : tie.Need-count-requires Inv-loop μ-loop
+count-requires c κs = search laws
+
+-- src/composites.rt:76:5
+loop-holds : tie.Need-loop-holds Inv-loop μ-loop
+loop-holds c = search laws
+
+-- src/composites.rt:77:15
+next-under-requires : tie.Need-next-under-requires Inv-loop μ-loop
+next-under-requires c κs = search laws
+
+-- src/composites.rt:78:26
+enum-known-i : tie.Need-enum-known-i Inv-loop μ-loop
+enum-known-i c = search laws
+
+-- src/composites.rt:79:17
+add-k : tie.Need-add-k Inv-loop μ-loop
+add-k c =
+    let at-i = c .before in
+    let at-next-under = at-i .before .before in
+    let at-loop = at-next-under .before .before in
+    let x = next-under _ _ _ _ _ _ (at-i .i .given .1) (at-next-under .next-under .ensures) in
+    let h = counting-room (at-loop .loop .inv) x in
+    omega (arith, h)
+
+-- src/composites.rt:80:24
+add-from : tie.Need-add-from Inv-loop μ-loop
+add-from c =
+    let at-i = c .before in
+    let at-next-under = at-i .before .before in
+    let at-count = at-next-under .before .before .before in
+    let h = under-within _ _ _ _ _ (at-i .i .given .1) _ (at-next-under .next-under .ensures) (at-count .count .ensures) in
+    omega (arith, h)
+
+-- src/composites.rt:76:5
+loop-less : tie.Need-loop-less Inv-loop μ-loop
+loop-less c =
+    let at-i = c .before in
+    let at-next-under = at-i .before .before in
+    let at-count = at-next-under .before .before .before in
+    let h = under-within _ _ _ _ _ (at-i .i .given .1) _ (at-next-under .next-under .ensures) (at-count .count .ensures) in
+    omega (arith, h)
+
+-- src/composites.rt:76:5
+loop-again : tie.Need-loop-again Inv-loop μ-loop
+loop-again c = search laws
+
+-- src/composites.rt:83:17
+enum-told : tie.Need-enum-told Inv-loop μ-loop
+enum-told c = search laws
+
+-- src/composites.rt:83:17
+returns : tie.Need-returns Inv-loop μ-loop
+returns c = search laws
+
+-- src/composites.rt:70:1
+returns-2 : tie.Need-returns-2 Inv-loop μ-loop
+returns-2 c = search laws
+
+pub members-in-spec : {M : Type 1} → statement M
+members-in-spec =
+    tie.close
+    (tie.spec
+    Inv-loop
+    μ-loop
+    count-requires
+    loop-holds
+    next-under-requires
+    enum-known-i
+    add-k
+    add-from
+    loop-less
+    loop-again
+    enum-told
+    returns
+    returns-2)

@@ -1,0 +1,114 @@
+use native.Mathlib.Omega.{arith}
+use Prim.Native.Nat.{_-_}
+use Rattle.xmltoproto.proofs.Looping.{Numbering, numbering-room}
+use Rattle.xmlschema.specs.Schema.{itemAt, under, aRef}
+use Rattle.xmlschema.specs.Store.{schemaOf}
+use Rattle.xmltoproto.proofs.Walking.{underOwner, next-under, under-within}
+use Rattle.xmltoproto.specs.Source.{refText}
+use Rattle.xmltoproto.proofs.Laws.{number as laws}
+use Rattle.xmltoproto.proofs.composites.put_refs.Statement.{statement}
+use Rattle.xmltoproto.proofs.composites.put_refs.Tie as tie
+use Rattle.xmltoproto.proofs.composites.put_refs.Reads as reads
+use Rattle.xmltoproto.proofs.composites.put_refs.Lts as lts
+use Rattle.xmlschema.proofs.items.count.Reads as count-reads
+use Rattle.xmlschema.proofs.items.next_under.Reads as next-under-reads
+use Rattle.xmltoproto.proofs.composites.put_ref.Reads as put-ref-reads
+
+abbrev Inv-loop : tie.InvT-loop
+Inv-loop out₀ at m rec text c members n p₀ k₀ from₀ out p k from = Numbering (λ n i. refText n (itemAt (schemaOf m rec text) i)) members (under aRef c (schemaOf m rec text)) (underOwner aRef c) (schemaOf m rec text) n k from out₀ at out p
+
+abbrev μ-loop : tie.MeasureT-loop
+μ-loop out₀ at m rec text c members n p₀ k₀ from₀ out p k from = n - from
+
+-- src/composites.rt:125:9
+count-requires : tie.Need-count-requires Inv-loop μ-loop
+count-requires c κs = search laws
+
+-- src/composites.rt:129:5
+loop-holds : tie.Need-loop-holds Inv-loop μ-loop
+loop-holds c = search laws
+
+-- src/composites.rt:130:15
+next-under-requires : tie.Need-next-under-requires Inv-loop μ-loop
+next-under-requires c κs = search laws
+
+-- src/composites.rt:131:26
+enum-known-i : tie.Need-enum-known-i Inv-loop μ-loop
+enum-known-i c = search laws
+
+-- src/composites.rt:132:17
+add-k : tie.Need-add-k Inv-loop μ-loop
+add-k c =
+    let at-i = c .before in
+    let at-next-under = at-i .before .before in
+    let at-loop = at-next-under .before .before in
+    let x = next-under _ _ _ _ _ _ (at-i .i .given .1) (at-next-under .next-under .ensures) in
+    let h = numbering-room (at-loop .loop .inv) x in
+    omega (arith, h)
+
+-- src/composites.rt:133:17
+put-ref-requires : tie.Need-put-ref-requires Inv-loop μ-loop
+put-ref-requires c κs = search laws
+
+-- src/composites.rt:134:24
+add-from : tie.Need-add-from Inv-loop μ-loop
+add-from c =
+    let at-i = c .before .before .before .before .before in
+    let at-next-under = at-i .before .before in
+    let at-count = at-next-under .before .before .before in
+    let h = under-within _ _ _ _ _ (at-i .i .given .1) _ (at-next-under .next-under .ensures) (at-count .count .ensures) in
+    omega (arith, h)
+
+-- src/composites.rt:129:5
+loop-less : tie.Need-loop-less Inv-loop μ-loop
+loop-less c =
+    let at-i = c .before .before .before .before .before in
+    let at-next-under = at-i .before .before in
+    let at-count = at-next-under .before .before .before in
+    let h = under-within _ _ _ _ _ (at-i .i .given .1) _ (at-next-under .next-under .ensures) (at-count .count .ensures) in
+    omega (arith, h)
+
+-- src/composites.rt:129:5
+loop-again : tie.Need-loop-again Inv-loop μ-loop
+loop-again c = search laws
+
+-- src/composites.rt:137:17
+enum-told : tie.Need-enum-told Inv-loop μ-loop
+enum-told c = search laws
+
+-- src/composites.rt:137:17
+same-length : tie.Need-same-length Inv-loop μ-loop
+same-length c = search laws
+
+-- src/composites.rt:137:17
+returns : tie.Need-returns Inv-loop μ-loop
+returns c = search laws
+
+-- src/composites.rt:113:1
+same-length-2 : tie.Need-same-length-2 Inv-loop μ-loop
+same-length-2 c = search laws
+
+-- src/composites.rt:113:1
+returns-2 : tie.Need-returns-2 Inv-loop μ-loop
+returns-2 c = search laws
+
+pub put-refs-spec : {M : Type 1} → statement M
+put-refs-spec =
+    tie.close
+    (tie.spec
+    Inv-loop
+    μ-loop
+    count-requires
+    loop-holds
+    next-under-requires
+    enum-known-i
+    add-k
+    put-ref-requires
+    add-from
+    loop-less
+    loop-again
+    enum-told
+    same-length
+    returns
+    same-length-2
+    returns-2)

@@ -1,0 +1,142 @@
+use Rattle.xmltoproto.proofs.Laws.{lines as laws}
+use Rattle.xmltoproto.proofs.messages.put_field.Statement.{statement}
+use Rattle.xmltoproto.proofs.messages.put_field.Tie as tie
+use Rattle.xmltoproto.proofs.messages.put_field.Reads as reads
+use Rattle.xmltoproto.proofs.messages.put_field.Lts as lts
+use Rattle.xmltoproto.proofs.line.put_line.Reads as put-line-reads
+use Rattle.xmltoproto.proofs.typed.put_typed.Reads as put-typed-reads
+use Rattle.xmltoproto.proofs.types.sense_of.Reads as sense-of-reads
+use Rattle.xmltoproto.proofs.types.shape_of.Reads as shape-of-reads
+use Rattle.xmltoproto.proofs.view.name_at.Reads as name-at-reads
+use Rattle.xmltoproto.proofs.view.number_at.Reads as number-at-reads
+use Rattle.xmltoproto.proofs.view.second_at.Reads as second-at-reads
+
+-- src/messages.rt:41:9
+second-at-requires : tie.Need-second-at-requires
+second-at-requires c κs = search laws
+
+-- src/messages.rt:42:9
+name-at-requires : tie.Need-name-at-requires
+name-at-requires c κs = search laws
+
+-- src/messages.rt:43:9
+number-at-requires : tie.Need-number-at-requires
+number-at-requires c κs = search laws
+
+-- src/messages.rt:44:11
+sense-of-requires : tie.Need-sense-of-requires
+sense-of-requires c κs = search laws
+
+-- src/messages.rt:45:37
+enum-told : tie.Need-enum-told
+enum-told c = search laws
+
+-- src/messages.rt:45:79
+slice-aggregate-put-line : tie.Need-slice-aggregate-put-line
+slice-aggregate-put-line c = search laws
+
+-- src/messages.rt:45:28
+put-line-requires : tie.Need-put-line-requires
+put-line-requires c κs = search laws
+
+-- src/messages.rt:46:22
+enum-known-t : tie.Need-enum-known-t
+enum-known-t c = search laws
+
+-- src/messages.rt:46:28
+put-typed-requires : tie.Need-put-typed-requires
+put-typed-requires c κs = search laws
+
+-- src/messages.rt:48:48
+enum-told-2 : tie.Need-enum-told-2
+enum-told-2 c = search laws
+
+-- src/messages.rt:48:48
+slice-aggregate-shape-of : tie.Need-slice-aggregate-shape-of
+slice-aggregate-shape-of c = search laws
+
+-- src/messages.rt:48:17
+shape-of-requires : tie.Need-shape-of-requires
+shape-of-requires c κs = search laws
+
+-- src/messages.rt:49:57
+slice-aggregate-put-line-2 : tie.Need-slice-aggregate-put-line-2
+slice-aggregate-put-line-2 c = search laws
+
+-- src/messages.rt:49:13
+put-line-requires-2 : tie.Need-put-line-requires-2
+put-line-requires-2 c κs = search laws
+
+-- src/messages.rt:51:36
+enum-told-3 : tie.Need-enum-told-3
+enum-told-3 c = search laws
+
+-- src/messages.rt:51:78
+slice-aggregate-put-line-3 : tie.Need-slice-aggregate-put-line-3
+slice-aggregate-put-line-3 c = search laws
+
+-- src/messages.rt:51:27
+put-line-requires-3 : tie.Need-put-line-requires-3
+put-line-requires-3 c κs = search laws
+
+-- src/messages.rt:30:1
+same-length : tie.Need-same-length
+same-length c = search laws
+
+-- src/messages.rt:30:1
+returns : tie.Need-returns
+returns c = search laws
+
+-- src/messages.rt:30:1
+same-length-2 : tie.Need-same-length-2
+same-length-2 c = search laws
+
+-- src/messages.rt:30:1
+returns-2 : tie.Need-returns-2
+returns-2 c = search laws
+
+-- src/messages.rt:30:1
+same-length-3 : tie.Need-same-length-3
+same-length-3 c = search laws
+
+-- src/messages.rt:30:1
+returns-3 : tie.Need-returns-3
+returns-3 c = search laws
+
+-- src/messages.rt:30:1
+same-length-4 : tie.Need-same-length-4
+same-length-4 c = search laws
+
+-- src/messages.rt:30:1
+returns-4 : tie.Need-returns-4
+returns-4 c = search laws
+
+pub put-field-spec : {M : Type 1} → statement M
+put-field-spec =
+    tie.close
+    (tie.spec
+    second-at-requires
+    name-at-requires
+    number-at-requires
+    sense-of-requires
+    enum-told
+    slice-aggregate-put-line
+    put-line-requires
+    enum-known-t
+    put-typed-requires
+    enum-told-2
+    slice-aggregate-shape-of
+    shape-of-requires
+    slice-aggregate-put-line-2
+    put-line-requires-2
+    enum-told-3
+    slice-aggregate-put-line-3
+    put-line-requires-3
+    same-length
+    returns
+    same-length-2
+    returns-2
+    same-length-3
+    returns-3
+    same-length-4
+    returns-4)

@@ -1,0 +1,19 @@
+-- The printed source of a schema, the array refusals, plain schemas and the wire sheet.
+pub mod Lists
+pub mod Charset
+pub mod Names
+pub mod Escape
+pub mod Escaping
+pub mod Types
+pub mod Shapes
+pub mod Composites
+pub mod Source
+pub mod Parts
+pub mod Arrays
+pub mod Refusing
+pub mod Generate
+pub mod Convert
+pub mod Demand
+pub mod Plain
+pub mod Sheet
+pub mod SheetLines

@@ -1,0 +1,197 @@
+// Refusals 40 and 41: arrays that no proto field represents, found before anything is written.
+use crate::composites::is_printed;
+use crate::types::Sense;
+use crate::types::is_array;
+use crate::types::sense_of;
+use crate::view::second_at;
+use crate::view::size_at;
+use refusals::Refusal;
+use xmlschema::items::COMPOSITE;
+use xmlschema::items::FIELD;
+use xmlschema::items::GROUP;
+use xmlschema::items::MEMBER;
+use xmlschema::items::MESSAGE;
+use xmlschema::items::Model;
+use xmlschema::items::Position;
+use xmlschema::items::count;
+use xmlschema::items::next_of;
+use xmlschema::items::next_under;
+ghost use mathlib.Core.Path.{_≡_};
+ghost use Rattle.xmlschema.specs.Schema.{itemAt, under, allOf, aMember, aComposite, aMessage, aGroup};
+ghost use Rattle.xmlschema.specs.Store.{schemaOf, found};
+ghost use Rattle.xmltoproto.specs.Lists.{any};
+ghost use Rattle.xmltoproto.specs.Types.{formOf, isArray, meaning};
+ghost use Rattle.xmltoproto.specs.Arrays.{firstFrom, refusedComposite, isArrayType, holdsArray, refusedMessage, arrayRefusal};
+ghost use Rattle.xmltoproto.specs.Refusing.{refusing};
+
+// What is said of a schema before it is printed.
+pub enum Arrays {
+    Fine,
+    Refused(Refusal),
+}
+
+// ---- composites
+
+fn is_member_array(m: Model, rec: &[u32], text: &[u8], i: u32) -> bool
+    ensures { λ r. ⌜ r ≡ isArray (formOf (itemAt (schemaOf m (now (rec .entry)) (now (text .entry))) i)) ⌝ }
+{
+    is_array(second_at(m, rec, text, i), size_at(m, rec, text, i))
+}
+
+fn has_member_array(m: Model, rec: &[u32], text: &[u8], c: u32) -> bool
+    ensures { λ r. ⌜ r ≡ any (λ i. isArray (formOf (itemAt (schemaOf m (now (rec .entry)) (now (text .entry))) i))) (under aMember c (schemaOf m (now (rec .entry)) (now (text .entry)))) ⌝ }
+{
+    let n = count(m, rec, text);
+    let mut from = 0;
+    while from < n {
+        match next_under(m, rec, MEMBER, c, from) {
+            Position::At(i) => {
+                if is_member_array(m, rec, text, i) {
+                    return true;
+                }
+                from = i + 1;
+            }
+            Position::Nothing => {
+                return false;
+            }
+        }
+    }
+    false
+}
+
+// Such a member in a composite that is printed.
+fn is_refused_composite(m: Model, rec: &[u32], text: &[u8], c: u32) -> bool
+    ensures { λ r. ⌜ r ≡ refusedComposite (schemaOf m (now (rec .entry)) (now (text .entry))) c ⌝ }
+{
+    if is_printed(m, rec, text, c) {
+        return has_member_array(m, rec, text, c);
+    }
+    false
+}
+
+// The place, among all composites, of the first that is refused.
+fn first_composite(m: Model, rec: &[u32], text: &[u8]) -> Position
+    ensures { λ r. ⌜ r ≡ found (firstFrom 0 (refusedComposite (schemaOf m (now (rec .entry)) (now (text .entry)))) (allOf aComposite (schemaOf m (now (rec .entry)) (now (text .entry))))) ⌝ }
+{
+    let n = count(m, rec, text);
+    let mut k = 0;
+    let mut from = 0;
+    while from < n {
+        match next_of(m, rec, COMPOSITE, from) {
+            Position::At(i) => {
+                if is_refused_composite(m, rec, text, i) {
+                    return Position::At(k);
+                }
+                k += 1;
+                from = i + 1;
+            }
+            Position::Nothing => {
+                return Position::Nothing;
+            }
+        }
+    }
+    Position::Nothing
+}
+
+// ---- messages
+
+fn is_field_array(m: Model, rec: &[u32], text: &[u8], i: u32) -> bool
+    ensures { λ r. ⌜ r ≡ isArrayType (meaning (schemaOf m (now (rec .entry)) (now (text .entry))) (itemAt (schemaOf m (now (rec .entry)) (now (text .entry))) i .second)) ⌝ }
+{
+    match sense_of(m, rec, text, second_at(m, rec, text, i)) {
+        Sense::Declared => false,
+        Sense::Typed(t) => is_member_array(m, rec, text, t),
+        Sense::BuiltIn => false,
+        Sense::Unknown => false,
+    }
+}
+
+// A message or group that has a field of such a type.
+fn holds_array(m: Model, rec: &[u32], text: &[u8], owner: u32) -> bool
+    ensures { λ r. ⌜ r ≡ holdsArray (schemaOf m (now (rec .entry)) (now (text .entry))) owner ⌝ }
+{
+    let n = count(m, rec, text);
+    let mut from = 0;
+    while from < n {
+        match next_under(m, rec, FIELD, owner, from) {
+            Position::At(i) => {
+                if is_field_array(m, rec, text, i) {
+                    return true;
+                }
+                from = i + 1;
+            }
+            Position::Nothing => {
+                return false;
+            }
+        }
+    }
+    false
+}
+
+fn has_group_array(m: Model, rec: &[u32], text: &[u8], owner: u32) -> bool
+    ensures { λ r. ⌜ r ≡ any (holdsArray (schemaOf m (now (rec .entry)) (now (text .entry)))) (under aGroup owner (schemaOf m (now (rec .entry)) (now (text .entry)))) ⌝ }
+{
+    let n = count(m, rec, text);
+    let mut from = 0;
+    while from < n {
+        match next_under(m, rec, GROUP, owner, from) {
+            Position::At(i) => {
+                if holds_array(m, rec, text, i) {
+                    return true;
+                }
+                from = i + 1;
+            }
+            Position::Nothing => {
+                return false;
+            }
+        }
+    }
+    false
+}
+
+fn is_refused_message(m: Model, rec: &[u32], text: &[u8], i: u32) -> bool
+    ensures { λ r. ⌜ r ≡ refusedMessage (schemaOf m (now (rec .entry)) (now (text .entry))) i ⌝ }
+{
+    if holds_array(m, rec, text, i) {
+        return true;
+    }
+    has_group_array(m, rec, text, i)
+}
+
+fn first_message(m: Model, rec: &[u32], text: &[u8]) -> Position
+    ensures { λ r. ⌜ r ≡ found (firstFrom 0 (refusedMessage (schemaOf m (now (rec .entry)) (now (text .entry)))) (allOf aMessage (schemaOf m (now (rec .entry)) (now (text .entry))))) ⌝ }
+{
+    let n = count(m, rec, text);
+    let mut k = 0;
+    let mut from = 0;
+    while from < n {
+        match next_of(m, rec, MESSAGE, from) {
+            Position::At(i) => {
+                if is_refused_message(m, rec, text, i) {
+                    return Position::At(k);
+                }
+                k += 1;
+                from = i + 1;
+            }
+            Position::Nothing => {
+                return Position::Nothing;
+            }
+        }
+    }
+    Position::Nothing
+}
+
+// ---- both
+
+// 40 by composite, then 41 by message.
+pub fn array_refusal(m: Model, rec: &[u32], text: &[u8]) -> Arrays
+    ensures { λ r. ⌜ r ≡ refusing (arrayRefusal (schemaOf m (now (rec .entry)) (now (text .entry)))) ⌝ }
+{
+    match first_composite(m, rec, text) {
+        Position::At(c) => Arrays::Refused(Refusal::ArrayInComposite { place: c as usize }),
+        Position::Nothing => match first_message(m, rec, text) {
+            Position::At(i) => Arrays::Refused(Refusal::ArrayInMessage { place: i as usize }),
+            Position::Nothing => Arrays::Fine,
+        },
+    }
+}

@@ -1,0 +1,112 @@
+// Which character encodings are UTF-8 compatible: 01 cleans the encoding afresh for each name that it is compared with.
+use names::convert::lower;
+use texts::trim;
+ghost use mathlib.Core.Path.{_≡_};
+ghost use Rattle.texts.specs.Text.{ascii, same};
+ghost use Rattle.xmltoproto.specs.Lists.{among};
+ghost use Rattle.xmltoproto.specs.Charset.{isPunctuation, cleaned, compatible};
+ghost use Rattle.xmltoproto.specs.Names.{ansiNames, isoNames, otherNames};
+
+// '-', '_', '.', ':' and the space.
+fn is_punctuation(b: u8) -> bool
+    ensures { λ r. ⌜ r ≡ isPunctuation b ⌝ }
+{
+    match b {
+        b'-' => true,
+        b'_' => true,
+        b'.' => true,
+        b':' => true,
+        b' ' => true,
+        _ => false,
+    }
+}
+
+// Whether the cleaned encoding is `name`.
+fn cleaned_is(s: &[u8], name: &[u8]) -> bool
+    ensures { λ r. ⌜ r ≡ same (cleaned (now (s .entry))) (now (name .entry)) ⌝ }
+{
+    let mut i = 0;
+    let mut j = 0;
+    while i < s.len() {
+        if is_punctuation(s[i]) {
+            i += 1;
+        } else {
+            if name.len() <= j {
+                return false;
+            }
+            if lower(s[i]) != name[j] {
+                return false;
+            }
+            i += 1;
+            j += 1;
+        }
+    }
+    name.len() <= j
+}
+
+// Of the 13 names, those of ANSI.
+fn is_ansi_name(s: &[u8]) -> bool
+    ensures { λ r. ⌜ r ≡ among (cleaned (now (s .entry))) ansiNames ⌝ }
+{
+    if cleaned_is(s, b"usascii") {
+        return true;
+    }
+    if cleaned_is(s, b"ascii") {
+        return true;
+    }
+    if cleaned_is(s, b"ansix341968") {
+        return true;
+    }
+    cleaned_is(s, b"ansix341986")
+}
+
+// Those of ISO, and "us".
+fn is_iso_name(s: &[u8]) -> bool
+    ensures { λ r. ⌜ r ≡ among (cleaned (now (s .entry))) isoNames ⌝ }
+{
+    if cleaned_is(s, b"iso646us") {
+        return true;
+    }
+    if cleaned_is(s, b"isoir6") {
+        return true;
+    }
+    if cleaned_is(s, b"iso646irv1991") {
+        return true;
+    }
+    cleaned_is(s, b"us")
+}
+
+// The others.
+fn is_other_name(s: &[u8]) -> bool
+    ensures { λ r. ⌜ r ≡ among (cleaned (now (s .entry))) otherNames ⌝ }
+{
+    if cleaned_is(s, b"ibm367") {
+        return true;
+    }
+    if cleaned_is(s, b"cp367") {
+        return true;
+    }
+    if cleaned_is(s, b"csascii") {
+        return true;
+    }
+    if cleaned_is(s, b"utf8") {
+        return true;
+    }
+    cleaned_is(s, b"csutf8")
+}
+
+pub fn is_compatible(encoding: &[u8]) -> bool
+    ensures { λ r. ⌜ r ≡ compatible (now (encoding .entry)) ⌝ }
+{
+    let s = trim(encoding);
+    if cleaned_is(s, b"") {
+        return true;
+    }
+    if is_ansi_name(s) {
+        return true;
+    }
+    if is_iso_name(s) {
+        return true;
+    }
+    is_other_name(s)
+}

@@ -1,0 +1,207 @@
+// Composites, printed: members, then refs, numbered from 1.
+use crate::line::put_line;
+use crate::typed::put_typed;
+use crate::types::Shape;
+use crate::view::name_at;
+use crate::view::second_at;
+use printing::put_bytes;
+use texts::equal;
+use xmlschema::items::COMPOSITE;
+use xmlschema::items::MEMBER;
+use xmlschema::items::Model;
+use xmlschema::items::Position;
+use xmlschema::items::REF;
+use xmlschema::items::count;
+use xmlschema::items::next_of;
+use xmlschema::items::next_under;
+ghost use mathlib.Core.Path.{_≡_};
+ghost use mathlib.Core.List.{[]};
+ghost use Prim.Native.Nat.{_+_};
+ghost use Rattle.texts.specs.Choice.{pick};
+ghost use Rattle.printing.specs.Printed.{Printed};
+ghost use Rattle.xmlschema.specs.Schema.{itemAt, under, aMember, aRef};
+ghost use Rattle.xmlschema.specs.Store.{schemaOf};
+ghost use Rattle.xmltoproto.specs.Lists.{each, numbered};
+ghost use Rattle.xmltoproto.specs.Composites.{isPrinted, printedComposites};
+ghost use Rattle.xmltoproto.specs.Source.{memberText, refText, partTexts, compositeText};
+ghost use Rattle.xmltoproto.specs.Parts.{Members};
+
+fn put_member(
+    out: &mut [u8],
+    at: usize,
+    m: Model,
+    rec: &[u32],
+    text: &[u8],
+    i: u32,
+    number: u32,
+) -> usize
+    ensures { λ r. ⌜ Printed (now (out .entry)) at (now (out .exit)) r (memberText number (itemAt (schemaOf m (now (rec .entry)) (now (text .entry))) i)) ⌝ }
+{
+    put_typed(
+        out,
+        at,
+        m,
+        rec,
+        text,
+        b"  ",
+        i,
+        name_at(m, rec, text, i),
+        number,
+    )
+}
+
+fn put_ref(
+    out: &mut [u8],
+    at: usize,
+    m: Model,
+    rec: &[u32],
+    text: &[u8],
+    i: u32,
+    number: u32,
+) -> usize
+    ensures { λ r. ⌜ Printed (now (out .entry)) at (now (out .exit)) r (refText number (itemAt (schemaOf m (now (rec .entry)) (now (text .entry))) i)) ⌝ }
+{
+    let type_name = second_at(m, rec, text, i);
+    let name = name_at(m, rec, text, i);
+    put_line(out, at, b"  ", Shape::Plain, type_name, b"", name, number)
+}
+
+// How many members a composite has.
+fn members_in(m: Model, rec: &[u32], text: &[u8], c: u32) -> u32
+    ensures { λ r. ⌜ Members (schemaOf m (now (rec .entry)) (now (text .entry))) c r ⌝ }
+{
+    let n = count(m, rec, text);
+    let mut k = 0;
+    let mut from = 0;
+    while from < n {
+        match next_under(m, rec, MEMBER, c, from) {
+            Position::At(i) => {
+                k += 1;
+                from = i + 1;
+            }
+            Position::Nothing => {
+                return k;
+            }
+        }
+    }
+    k
+}
+
+fn put_members(out: &mut [u8], at: usize, m: Model, rec: &[u32], text: &[u8], c: u32) -> usize
+    ensures { λ r. ⌜ Printed (now (out .entry)) at (now (out .exit)) r (numbered (λ n i. memberText n (itemAt (schemaOf m (now (rec .entry)) (now (text .entry))) i)) 1 (under aMember c (schemaOf m (now (rec .entry)) (now (text .entry))))) ⌝ }
+{
+    let n = count(m, rec, text);
+    let mut p = at;
+    let mut k = 0;
+    let mut from = 0;
+    while from < n {
+        match next_under(m, rec, MEMBER, c, from) {
+            Position::At(i) => {
+                k += 1;
+                p = put_member(out, p, m, rec, text, i, k);
+                from = i + 1;
+            }
+            Position::Nothing => {
+                return p;
+            }
+        }
+    }
+    p
+}
+
+// The refs, numbered on from the composite's `members`.
+fn put_refs(
+    out: &mut [u8],
+    at: usize,
+    m: Model,
+    rec: &[u32],
+    text: &[u8],
+    c: u32,
+    members: u32,
+) -> usize
+    requires { ⌜ Members (schemaOf m (now rec) (now text)) c members ⌝ }
+    ensures { λ r. ⌜ Printed (now (out .entry)) at (now (out .exit)) r (numbered (λ n i. refText n (itemAt (schemaOf m (now (rec .entry)) (now (text .entry))) i)) (members + 1) (under aRef c (schemaOf m (now (rec .entry)) (now (text .entry))))) ⌝ }
+{
+    let n = count(m, rec, text);
+    let mut p = at;
+    let mut k = members;
+    let mut from = 0;
+    while from < n {
+        match next_under(m, rec, REF, c, from) {
+            Position::At(i) => {
+                k += 1;
+                p = put_ref(out, p, m, rec, text, i, k);
+                from = i + 1;
+            }
+            Position::Nothing => {
+                return p;
+            }
+        }
+    }
+    p
+}
+
+fn put_parts(out: &mut [u8], at: usize, m: Model, rec: &[u32], text: &[u8], c: u32) -> usize
+    ensures { λ r. ⌜ Printed (now (out .entry)) at (now (out .exit)) r (partTexts (schemaOf m (now (rec .entry)) (now (text .entry))) c) ⌝ }
+{
+    let members = members_in(m, rec, text, c);
+    let p = put_members(out, at, m, rec, text, c);
+    put_refs(out, p, m, rec, text, c, members)
+}
+
+fn put_composite(out: &mut [u8], at: usize, m: Model, rec: &[u32], text: &[u8], c: u32) -> usize
+    ensures { λ r. ⌜ Printed (now (out .entry)) at (now (out .exit)) r (compositeText (schemaOf m (now (rec .entry)) (now (text .entry))) c) ⌝ }
+{
+    let p = put_bytes(out, at, b"message ");
+    let p = put_bytes(out, p, name_at(m, rec, text, c));
+    let p = put_bytes(out, p, b" {\n");
+    let p = put_parts(out, p, m, rec, text, c);
+    put_bytes(out, p, b"}\n\n")
+}
+
+// All composites are printed but messageHeader and groupSizeEncoding.
+pub fn is_printed(m: Model, rec: &[u32], text: &[u8], c: u32) -> bool
+    ensures { λ r. ⌜ r ≡ isPrinted (itemAt (schemaOf m (now (rec .entry)) (now (text .entry))) c) ⌝ }
+{
+    let name = name_at(m, rec, text, c);
+    if equal(name, b"messageHeader") {
+        return false;
+    }
+    !equal(name, b"groupSizeEncoding")
+}
+
+fn put_composite_if_printed(
+    out: &mut [u8],
+    at: usize,
+    m: Model,
+    rec: &[u32],
+    text: &[u8],
+    c: u32,
+) -> usize
+    ensures { λ r. ⌜ Printed (now (out .entry)) at (now (out .exit)) r (pick (isPrinted (itemAt (schemaOf m (now (rec .entry)) (now (text .entry))) c)) (compositeText (schemaOf m (now (rec .entry)) (now (text .entry))) c) []) ⌝ }
+{
+    if is_printed(m, rec, text, c) {
+        return put_composite(out, at, m, rec, text, c);
+    }
+    at
+}
+
+pub fn put_composites(out: &mut [u8], at: usize, m: Model, rec: &[u32], text: &[u8]) -> usize
+    ensures { λ r. ⌜ Printed (now (out .entry)) at (now (out .exit)) r (each (compositeText (schemaOf m (now (rec .entry)) (now (text .entry)))) (printedComposites (schemaOf m (now (rec .entry)) (now (text .entry))))) ⌝ }
+{
+    let n = count(m, rec, text);
+    let mut p = at;
+    let mut from = 0;
+    while from < n {
+        match next_of(m, rec, COMPOSITE, from) {
+            Position::At(i) => {
+                p = put_composite_if_printed(out, p, m, rec, text, i);
+                from = i + 1;
+            }
+            Position::Nothing => {
+                return p;
+            }
+        }
+    }
+    p
+}

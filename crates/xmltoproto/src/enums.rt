@@ -1,0 +1,105 @@
+// Enums, printed.
+use crate::view::name_at;
+use crate::view::second_at;
+use names::convert::put_screaming;
+use printing::put_byte;
+use printing::put_bytes;
+use xmlschema::items::ENUM;
+use xmlschema::items::Model;
+use xmlschema::items::Position;
+use xmlschema::items::VALUE;
+use xmlschema::items::count;
+use xmlschema::items::next_of;
+use xmlschema::items::next_under;
+ghost use Rattle.printing.specs.Printed.{Printed};
+ghost use Rattle.names.specs.Conversions.{prefixOf};
+ghost use Rattle.xmlschema.specs.Schema.{itemAt, under, allOf, anEnum, aValue};
+ghost use Rattle.xmlschema.specs.Store.{schemaOf};
+ghost use Rattle.xmltoproto.specs.Lists.{each};
+ghost use Rattle.xmltoproto.specs.Source.{valueText, enumText};
+
+fn put_prefix(out: &mut [u8], at: usize, name: &[u8]) -> usize
+    ensures { λ r. ⌜ Printed (now (out .entry)) at (now (out .exit)) r (prefixOf (now (name .entry))) ⌝ }
+{
+    let p = put_screaming(out, at, name);
+    put_byte(out, p, b'_')
+}
+
+// A value of the enum `name`.
+fn put_value(
+    out: &mut [u8],
+    at: usize,
+    m: Model,
+    rec: &[u32],
+    text: &[u8],
+    name: &[u8],
+    i: u32,
+) -> usize
+    ensures { λ r. ⌜ Printed (now (out .entry)) at (now (out .exit)) r (valueText (now (name .entry)) (itemAt (schemaOf m (now (rec .entry)) (now (text .entry))) i)) ⌝ }
+{
+    let p = put_bytes(out, at, b"  ");
+    let p = put_prefix(out, p, name);
+    let p = put_screaming(out, p, name_at(m, rec, text, i));
+    let p = put_bytes(out, p, b" = ");
+    let p = put_bytes(out, p, second_at(m, rec, text, i));
+    put_bytes(out, p, b";\n")
+}
+
+fn put_values(
+    out: &mut [u8],
+    at: usize,
+    m: Model,
+    rec: &[u32],
+    text: &[u8],
+    name: &[u8],
+    e: u32,
+) -> usize
+    ensures { λ r. ⌜ Printed (now (out .entry)) at (now (out .exit)) r (each (λ v. valueText (now (name .entry)) (itemAt (schemaOf m (now (rec .entry)) (now (text .entry))) v)) (under aValue e (schemaOf m (now (rec .entry)) (now (text .entry))))) ⌝ }
+{
+    let n = count(m, rec, text);
+    let mut p = at;
+    let mut from = 0;
+    while from < n {
+        match next_under(m, rec, VALUE, e, from) {
+            Position::At(i) => {
+                p = put_value(out, p, m, rec, text, name, i);
+                from = i + 1;
+            }
+            Position::Nothing => {
+                return p;
+            }
+        }
+    }
+    p
+}
+
+fn put_enum(out: &mut [u8], at: usize, m: Model, rec: &[u32], text: &[u8], e: u32) -> usize
+    ensures { λ r. ⌜ Printed (now (out .entry)) at (now (out .exit)) r (enumText (schemaOf m (now (rec .entry)) (now (text .entry))) e) ⌝ }
+{
+    let name = name_at(m, rec, text, e);
+    let p = put_bytes(out, at, b"enum ");
+    let p = put_bytes(out, p, name);
+    let p = put_bytes(out, p, b" {\n");
+    let p = put_values(out, p, m, rec, text, name, e);
+    put_bytes(out, p, b"}\n\n")
+}
+
+pub fn put_enums(out: &mut [u8], at: usize, m: Model, rec: &[u32], text: &[u8]) -> usize
+    ensures { λ r. ⌜ Printed (now (out .entry)) at (now (out .exit)) r (each (enumText (schemaOf m (now (rec .entry)) (now (text .entry)))) (allOf anEnum (schemaOf m (now (rec .entry)) (now (text .entry))))) ⌝ }
+{
+    let n = count(m, rec, text);
+    let mut p = at;
+    let mut from = 0;
+    while from < n {
+        match next_of(m, rec, ENUM, from) {
+            Position::At(i) => {
+                p = put_enum(out, p, m, rec, text, i);
+                from = i + 1;
+            }
+            Position::Nothing => {
+                return p;
+            }
+        }
+    }
+    p
+}

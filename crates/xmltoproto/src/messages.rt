@@ -1,0 +1,157 @@
+// Messages, printed: fields, then groups.
+use crate::line::put_line;
+use crate::typed::put_typed;
+use crate::types::Sense;
+use crate::types::Shape;
+use crate::types::sense_of;
+use crate::types::shape_of;
+use crate::view::name_at;
+use crate::view::number_at;
+use crate::view::second_at;
+use names::convert::put_singular;
+use names::convert::put_snake;
+use printing::put_bytes;
+use printing::put_decimal;
+use xmlschema::items::FIELD;
+use xmlschema::items::GROUP;
+use xmlschema::items::MESSAGE;
+use xmlschema::items::Model;
+use xmlschema::items::Position;
+use xmlschema::items::count;
+use xmlschema::items::next_of;
+use xmlschema::items::next_under;
+ghost use Rattle.printing.specs.Printed.{Printed};
+ghost use Rattle.xmlschema.specs.Schema.{itemAt, under, allOf, aMessage, aGroup, aField};
+ghost use Rattle.xmlschema.specs.Store.{schemaOf};
+ghost use Rattle.xmltoproto.specs.Lists.{each};
+ghost use Rattle.xmltoproto.specs.Source.{fieldText, groupText, messageText};
+ghost use Rattle.xmltoproto.specs.Parts.{groupHead};
+
+fn put_field(
+    out: &mut [u8],
+    at: usize,
+    m: Model,
+    rec: &[u32],
+    text: &[u8],
+    indent: &[u8],
+    i: u32,
+) -> usize
+    ensures { λ r. ⌜ Printed (now (out .entry)) at (now (out .exit)) r (fieldText (schemaOf m (now (rec .entry)) (now (text .entry))) (now (indent .entry)) (itemAt (schemaOf m (now (rec .entry)) (now (text .entry))) i)) ⌝ }
+{
+    let type_name = second_at(m, rec, text, i);
+    let name = name_at(m, rec, text, i);
+    let number = number_at(m, rec, text, i);
+    match sense_of(m, rec, text, type_name) {
+        Sense::Declared => put_line(out, at, indent, Shape::Plain, type_name, b"", name, number),
+        Sense::Typed(t) => put_typed(out, at, m, rec, text, indent, t, name, number),
+        Sense::BuiltIn => {
+            let shape = shape_of(type_name, 0, b"");
+            put_line(out, at, indent, shape, type_name, b"", name, number)
+        }
+        Sense::Unknown => put_line(out, at, indent, Shape::Plain, type_name, b"", name, number),
+    }
+}
+
+fn put_fields(
+    out: &mut [u8],
+    at: usize,
+    m: Model,
+    rec: &[u32],
+    text: &[u8],
+    indent: &[u8],
+    owner: u32,
+) -> usize
+    ensures { λ r. ⌜ Printed (now (out .entry)) at (now (out .exit)) r (each (λ f. fieldText (schemaOf m (now (rec .entry)) (now (text .entry))) (now (indent .entry)) (itemAt (schemaOf m (now (rec .entry)) (now (text .entry))) f)) (under aField owner (schemaOf m (now (rec .entry)) (now (text .entry))))) ⌝ }
+{
+    let n = count(m, rec, text);
+    let mut p = at;
+    let mut from = 0;
+    while from < n {
+        match next_under(m, rec, FIELD, owner, from) {
+            Position::At(i) => {
+                p = put_field(out, p, m, rec, text, indent, i);
+                from = i + 1;
+            }
+            Position::Nothing => {
+                return p;
+            }
+        }
+    }
+    p
+}
+
+fn put_group_head(out: &mut [u8], at: usize, m: Model, rec: &[u32], text: &[u8], g: u32) -> usize
+    ensures { λ r. ⌜ Printed (now (out .entry)) at (now (out .exit)) r (groupHead (schemaOf m (now (rec .entry)) (now (text .entry))) g) ⌝ }
+{
+    let p = put_bytes(out, at, b"  message ");
+    let p = put_singular(out, p, name_at(m, rec, text, g));
+    let p = put_bytes(out, p, b" {\n");
+    put_fields(out, p, m, rec, text, b"    ", g)
+}
+
+fn put_group(out: &mut [u8], at: usize, m: Model, rec: &[u32], text: &[u8], g: u32) -> usize
+    ensures { λ r. ⌜ Printed (now (out .entry)) at (now (out .exit)) r (groupText (schemaOf m (now (rec .entry)) (now (text .entry))) g) ⌝ }
+{
+    let name = name_at(m, rec, text, g);
+    let p = put_group_head(out, at, m, rec, text, g);
+    let p = put_bytes(out, p, b"  }\n  repeated ");
+    let p = put_singular(out, p, name);
+    let p = put_bytes(out, p, b" ");
+    let p = put_snake(out, p, name);
+    let p = put_bytes(out, p, b" = ");
+    let p = put_decimal(out, p, number_at(m, rec, text, g));
+    put_bytes(out, p, b";\n")
+}
+
+fn put_groups(out: &mut [u8], at: usize, m: Model, rec: &[u32], text: &[u8], owner: u32) -> usize
+    ensures { λ r. ⌜ Printed (now (out .entry)) at (now (out .exit)) r (each (groupText (schemaOf m (now (rec .entry)) (now (text .entry)))) (under aGroup owner (schemaOf m (now (rec .entry)) (now (text .entry))))) ⌝ }
+{
+    let n = count(m, rec, text);
+    let mut p = at;
+    let mut from = 0;
+    while from < n {
+        match next_under(m, rec, GROUP, owner, from) {
+            Position::At(i) => {
+                p = put_group(out, p, m, rec, text, i);
+                from = i + 1;
+            }
+            Position::Nothing => {
+                return p;
+            }
+        }
+    }
+    p
+}
+
+fn put_message(out: &mut [u8], at: usize, m: Model, rec: &[u32], text: &[u8], i: u32) -> usize
+    ensures { λ r. ⌜ Printed (now (out .entry)) at (now (out .exit)) r (messageText (schemaOf m (now (rec .entry)) (now (text .entry))) i) ⌝ }
+{
+    let p = put_bytes(out, at, b"message ");
+    let p = put_bytes(out, p, name_at(m, rec, text, i));
+    let p = put_bytes(out, p, b" {\n  option (sbe.template_id) = ");
+    let p = put_decimal(out, p, number_at(m, rec, text, i));
+    let p = put_bytes(out, p, b";\n");
+    let p = put_fields(out, p, m, rec, text, b"  ", i);
+    let p = put_groups(out, p, m, rec, text, i);
+    put_bytes(out, p, b"}\n\n")
+}
+
+pub fn put_messages(out: &mut [u8], at: usize, m: Model, rec: &[u32], text: &[u8]) -> usize
+    ensures { λ r. ⌜ Printed (now (out .entry)) at (now (out .exit)) r (each (messageText (schemaOf m (now (rec .entry)) (now (text .entry)))) (allOf aMessage (schemaOf m (now (rec .entry)) (now (text .entry))))) ⌝ }
+{
+    let n = count(m, rec, text);
+    let mut p = at;
+    let mut from = 0;
+    while from < n {
+        match next_of(m, rec, MESSAGE, from) {
+            Position::At(i) => {
+                p = put_message(out, p, m, rec, text, i);
+                from = i + 1;
+            }
+            Position::Nothing => {
+                return p;
+            }
+        }
+    }
+    p
+}

@@ -1,0 +1,33 @@
+// The line of a type or member.
+use crate::line::put_line;
+use crate::types::shape_of;
+use crate::view::encoding_at;
+use crate::view::second_at;
+use crate::view::size_at;
+use xmlschema::items::Model;
+ghost use Rattle.printing.specs.Printed.{Printed};
+ghost use Rattle.names.specs.Conversions.{camelToSnake};
+ghost use Rattle.xmlschema.specs.Schema.{itemAt};
+ghost use Rattle.xmlschema.specs.Store.{schemaOf};
+ghost use Rattle.xmltoproto.specs.Types.{formOf, protoOf};
+ghost use Rattle.xmltoproto.specs.Source.{line};
+
+// The line of the type or member at `i`, under a name and a number.
+pub fn put_typed(
+    out: &mut [u8],
+    at: usize,
+    m: Model,
+    rec: &[u32],
+    text: &[u8],
+    indent: &[u8],
+    i: u32,
+    name: &[u8],
+    number: u32,
+) -> usize
+    ensures { λ r. ⌜ Printed (now (out .entry)) at (now (out .exit)) r (line (now (indent .entry)) (protoOf (formOf (itemAt (schemaOf m (now (rec .entry)) (now (text .entry))) i))) (camelToSnake (now (name .entry))) number) ⌝ }
+{
+    let primitive = second_at(m, rec, text, i);
+    let encoding = encoding_at(m, rec, text, i);
+    let shape = shape_of(primitive, size_at(m, rec, text, i), encoding);
+    put_line(out, at, indent, shape, primitive, encoding, name, number)
+}
