@@ -1,0 +1,2 @@
+-- Laws of reporting an answer.
+pub mod Reporting

@@ -1,0 +1,2 @@
+-- What the functions of the static library report.
+pub mod Report
