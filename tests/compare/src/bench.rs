@@ -1,0 +1,156 @@
+//! The reference and the proved converter in one process on the same inputs: medians and their ratio.
+//! The work buffers and the output are as the last call left them.
+
+use std::hint::black_box;
+use std::time::{Duration, Instant};
+
+use reference::xmltoproto::xml_to_proto;
+
+use crate::library::Converter;
+use crate::prng::Prng;
+use crate::schema::limits::real;
+
+/// Each side is called for so long, in turns.
+const BUDGET: Duration = Duration::from_millis(700);
+const LEAST: usize = 7;
+
+/// The middle of a list of times.
+fn median(mut times: Vec<f64>) -> f64 {
+    times.sort_by(f64::total_cmp);
+    times[times.len() / 2]
+}
+
+/// Microseconds of both sides.
+fn measure(document: &str) -> (f64, f64) {
+    let mut converter = Converter::new();
+    let due = xml_to_proto(document).map(String::into_bytes);
+    let answer = converter.run(document.as_bytes());
+    match due {
+        Ok(source) => assert!(answer == Ok(source), "the sources differ"),
+        Err(_) => assert!(answer.is_err(), "a refusal is due"),
+    }
+    let (mut rust, mut proved) = (Vec::new(), Vec::new());
+    let start = Instant::now();
+    while rust.len() < LEAST || start.elapsed() < BUDGET {
+        let at = Instant::now();
+        let _ = black_box(xml_to_proto(black_box(document)));
+        rust.push(at.elapsed().as_secs_f64() * 1e6);
+        let at = Instant::now();
+        black_box(converter.call(black_box(document.as_bytes())));
+        proved.push(at.elapsed().as_secs_f64() * 1e6);
+    }
+    (median(rust), median(proved))
+}
+
+/// As many times as there is room for in a document of the longest length.
+fn most(before: &str, each: impl Fn(usize) -> String, after: &str, count: usize) -> String {
+    let mut text = before.to_string();
+    for k in 0..count {
+        let next = each(k);
+        if text.len() + next.len() + after.len() > 32_768 {
+            break;
+        }
+        text += &next;
+    }
+    text + after
+}
+
+/// What may be slow for either side, within the limits.
+fn hard() -> Vec<(&'static str, String)> {
+    vec![
+        ("nothing", String::new()),
+        ("text alone", "x".repeat(32_768)),
+        ("'&' alone, in a value", format!("<enum><validValue>{}</validValue></enum>", "&".repeat(32_000))),
+        ("entities, in a value", format!("<enum><validValue>{}</validValue></enum>", "&amp;".repeat(6_400))),
+        ("one long name", format!("<message name='{}'/>", "aB".repeat(16_000))),
+        (
+            "one long encoding",
+            format!(
+                "<composite><type primitiveType='char' characterEncoding='{}'/></composite>",
+                "-".repeat(32_000)
+            ),
+        ),
+        ("one long tag of attributes", most("<field ", |k| format!("a{k}='' "), "/>", 9_999)),
+        ("one long tag of one attribute", most("<field ", |_| "a=''".into(), "/>", 9_999)),
+        ("empty closes", "</>".repeat(10_922)),
+        ("messages", most("", |_| "<message/>".into(), "", 1_024)),
+        ("fields of unknown type", most("<message>", |_| "<field type='zzzz'/>".into(), "</message>", 1_023)),
+        ("fields after types", {
+            let types = most("", |k| format!("<type name='t{k:03}'/>"), "", 512);
+            most(&format!("{types}<message>"), |_| "<field type='t000'/>".into(), "</message>", 511)
+        }),
+        ("fields after types, one name begins as the other", {
+            let types = most("", |_| "<type name='aaaaaaaaaaaaaaab'/>".to_string(), "", 500);
+            most(
+                &format!("{types}<message>"),
+                |_| "<field type='aaaaaaaaaaaaaaaa'/>".into(),
+                "</message>",
+                500,
+            )
+        }),
+        ("groups, a field each", most("<message>", |_| "<group><field/></group>".into(), "</message>", 511)),
+        ("messages, a field each", most("", |_| "<message><field/></message>".into(), "", 512)),
+        ("composites, a member each", most("", |_| "<composite><type/></composite>".into(), "", 512)),
+        ("enums, a value each", most("", |_| "<enum><validValue/></enum>".into(), "", 512)),
+        ("values", most("<enum>", |_| "<validValue/>".into(), "</enum>", 1_023)),
+        ("values of one long enum name", {
+            let name = "aB".repeat(6_000);
+            most(&format!("<enum name='{name}'>"), |_| "<validValue/>".into(), "</enum>", 1_020)
+        }),
+        ("fields of two hundred long type names", {
+            let name = "a".repeat(60);
+            let types = most("", |k| format!("<type name='{name}{k:03}'/>"), "", 200);
+            let field = format!("<field type='{name}000'/>");
+            most(&format!("{types}<message>"), |_| field.clone(), "</message>", 800)
+        }),
+        ("groups of long names", {
+            most(
+                "<message>",
+                |k| format!("<group name='aBcDeFgHiJkLmNoPqRsTuVwXyZ{k}'/>"),
+                "</message>",
+                1_023,
+            )
+        }),
+        ("members of a strange encoding", {
+            let each = "<type primitiveType='char' characterEncoding='\u{1}'/>".to_string();
+            most("<composite>", |_| each.clone(), "</composite>", 1_023)
+        }),
+        ("messages, a group with a field each", {
+            most("", |_| "<message><group><field/></group></message>".into(), "", 341)
+        }),
+        ("fields of one type with a long encoding", {
+            let encoding = "-".repeat(10_000);
+            let types =
+                format!("<type name='t' primitiveType='char' characterEncoding='{encoding}'/><message>");
+            most(&types, |_| "<field type='t'/>".into(), "</message>", 1_020)
+        }),
+        ("fields of one type with a long strange encoding", {
+            let encoding = "x".repeat(10_000);
+            let types =
+                format!("<type name='t' primitiveType='char' characterEncoding='{encoding}'/><message>");
+            most(&types, |_| "<field type='t'/>".into(), "</message>", 1_020)
+        }),
+        ("deep", "<a>".repeat(64) + &"</a>".repeat(64)),
+    ]
+}
+
+fn line(name: &str, document: &str, (rust, proved): (f64, f64)) {
+    let length = document.len();
+    println!("{name}: {length} bytes, Rust {rust:.1} us, proved {proved:.1} us, ratio {:.2}", proved / rust);
+}
+
+pub fn run() -> bool {
+    drop(std::panic::take_hook());
+    let mut rng = Prng::new(0x6265_6e63);
+    for (name, length) in [("small", 1_800), ("real size", 30_000)] {
+        let document = String::from_utf8(real(&mut rng, length)).expect("the document is ASCII");
+        line(name, &document, measure(&document));
+    }
+    let mut hard: Vec<_> =
+        hard().into_iter().map(|(name, document)| (name, measure(&document), document)).collect();
+    hard.sort_by(|a, b| (b.1 .1 / b.1 .0).total_cmp(&(a.1 .1 / a.1 .0)));
+    for (name, times, document) in &hard {
+        line(name, document, *times);
+    }
+    true
+}
