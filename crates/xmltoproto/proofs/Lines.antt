@@ -17,7 +17,8 @@ use Rattle.xmltoproto.specs.Lists.{all, Every, among}
 use Rattle.xmltoproto.specs.Escape.{quoted}
 use Rattle.xmltoproto.specs.Types.{Proto, builtIns, asNamed, ofLength, noteOn, narrow, asPrimitive}
 use Rattle.xmltoproto.specs.Source.{noteLine, bracketed, line}
-use Rattle.xmltoproto.specs.Plain.{isLetter, isDigit, isIdentifier, reserved}
+use Rattle.xmlschema.specs.Numbers.{isDigit}
+use Rattle.xmltoproto.specs.Plain.{isLetter, isIdentifier, reserved}
 use Rattle.xmltoproto.specs.Sheet.{Kind, single, text, textIn, raw, named}
 use Rattle.xmltoproto.proofs.Splitting.{Splits, done, seq, lit, gives, apart, token, stops, _▹_}
 use Rattle.xmltoproto.proofs.Numbers.{number}

@@ -19,7 +19,8 @@ use Rattle.xmltoproto.specs.Lists.{isSome, all, Every, among}
 use Rattle.xmltoproto.specs.Charset.{compatible}
 use Rattle.xmltoproto.specs.Types.{Form, formOf, builtIn, isChar, isRaw, builtIns, typed, unknown, isDeclared, typeOr, meaning}
 use Rattle.xmltoproto.specs.Composites.{isPrinted, printedComposites}
-use Rattle.xmltoproto.specs.Plain.{isLetter, isDigit, isNameByte, isIdentifier, reserved, Named, Unreserved, PlainValue, PlainEnum, PlainMember, PlainRef, PlainComposite, Resolves, PlainField, PlainGroup, PlainMessage, Plain}
+use Rattle.xmlschema.specs.Numbers.{isDigit}
+use Rattle.xmltoproto.specs.Plain.{isLetter, isNameByte, isIdentifier, reserved, Named, Unreserved, PlainValue, PlainEnum, PlainMember, PlainRef, PlainComposite, Resolves, PlainField, PlainGroup, PlainMessage, Plain}
 use Rattle.xmltoproto.specs.Sheet.{kindOf, kindBy, valueOf, enumOf, memberOf, refOf, compositeOf, fieldOf, groupOf, messageOf, sheet}
 use Rattle.xmltoproto.proofs.Numbers.{and-both}
 use Rattle.xmltoproto.proofs.Tokens.{Free, or-elim, identifier-free, package-free, integer-free, snake-free, screaming-free, singular-free}

@@ -6,7 +6,7 @@ use native.Mathlib.Omega.{arith}
 use Rattle.texts.specs.Text.{ascii, same}
 use Rattle.names.specs.Conversions.{prefixOf}
 use Rattle.xmltoproto.specs.Lists.{each, numbered, all, Every, among}
-use Rattle.xmltoproto.specs.Plain.{isDigit}
+use Rattle.xmlschema.specs.Numbers.{isDigit}
 use Rattle.xmltoproto.specs.Source.{packageLine}
 use Rattle.xmltoproto.specs.Sheet.{Value, Enum, Part, Composite, Field, Group, Message, Sheet}
 use Rattle.xmltoproto.proofs.Splitting.{Splits, done, lit, gives, flip, clash, apart, token, counted, listed, _▹_}

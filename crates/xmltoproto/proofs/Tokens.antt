@@ -14,7 +14,8 @@ use Rattle.printing.specs.Repeated.{upTo}
 use Rattle.names.specs.Letters.{lowered, raised}
 use Rattle.names.specs.Conversions.{camelToSnake, snakeAt, breaksSnake, camelToScreamingSnake, screamingAt, breaksScreaming, endsInIes, endsInS, singular, capitalized, singularPascal}
 use Rattle.xmltoproto.specs.Lists.{isEmpty, all}
-use Rattle.xmltoproto.specs.Plain.{isLetter, isDigit, isNameByte, isIdentifier, isDotted, isPackage, isDigits, isInteger}
+use Rattle.xmlschema.specs.Numbers.{isDigit}
+use Rattle.xmltoproto.specs.Plain.{isLetter, isNameByte, isIdentifier, isDotted, isPackage, isDigits, isInteger}
 use Rattle.xmltoproto.proofs.Numbers.{and-both, all-append}
 
 -- any byte but c

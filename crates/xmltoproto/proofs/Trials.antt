@@ -21,7 +21,8 @@ use Rattle.xmltoproto.specs.Types.{formOf, builtIn, isChar, chars, isByt
 use Rattle.xmltoproto.specs.Composites.{isPrinted, printedComposites}
 use Rattle.xmltoproto.specs.Source.{packageLine, header, valueText, enumText, noteLine, bracketed, line, memberText, refText, partTexts, compositeText, fieldText, groupText, messageText, source}
 use Rattle.xmltoproto.specs.Arrays.{firstFrom, refusedComposite, holdsArray, refusedMessage, arrayRefusal}
-use Rattle.xmltoproto.specs.Plain.{isLetter, isDigit, isNameByte, isIdentifier, isDotted, isPackage, isDigits, isInteger, Plain}
+use Rattle.xmlschema.specs.Numbers.{isDigit}
+use Rattle.xmltoproto.specs.Plain.{isLetter, isNameByte, isIdentifier, isDotted, isPackage, isDigits, isInteger, Plain}
 use Rattle.xmltoproto.specs.Sheet.{kindOf, valueOf, enumOf, memberOf, refOf, compositeOf, fieldOf, groupOf, messageOf, sheet, shown, kindShown, enumShown, compositeShown, fieldShown, groupShown, messageShown, sheetLines}
 
 abbrev item : ℕ → ℕ → List ℕ → List ℕ → ℕ → Item

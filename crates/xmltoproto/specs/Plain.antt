@@ -2,10 +2,11 @@
 use mathlib.Core.Bool.{Bool, true, false, not}
 use mathlib.Core.List.{List, [], _∷_}
 use Prim.Native.Nat.{ℕ}
-use lib.Dec.{T, eqb, leb}
+use lib.Dec.{T, eqb}
 use Rattle.texts.specs.Choice.{_or_, _and_}
 use Rattle.texts.specs.Text.{ascii}
 use Rattle.classes.specs.Class.{isUpper, isLower}
+use Rattle.xmlschema.specs.Numbers.{isDigit}
 use Rattle.xmlschema.specs.Schema.{Item, Schema, itemAt, allOf, under, aMember, aRef, aComposite, anEnum, aValue, aMessage, aGroup, aField}
 use Rattle.xmltoproto.specs.Lists.{isEmpty, all, Every, among}
 use Rattle.xmltoproto.specs.Types.{Meaning, declared, typed, unknown, builtIns, isDeclared, meaning}
@@ -15,9 +16,6 @@ use Rattle.xmltoproto.specs.Composites.{printedComposites}
 
 unfoldable pub isLetter : ℕ → Bool
 isLetter b = isUpper b or isLower b
-
-unfoldable pub isDigit : ℕ → Bool
-isDigit b = leb 48 b and leb b 57
 
 -- a letter, a digit or '_'
 unfoldable pub isNameByte : ℕ → Bool
