@@ -3,4 +3,5 @@ pub mod Sequencing
 pub mod Decimals
 pub mod Finishing
 pub mod Repeating
+pub mod Passing
 pub mod Laws

@@ -2,7 +2,9 @@
 use mathlib.Core.Path.{_≡_}
 use mathlib.Core.List.{List, [], _∷_}
 use Prim.Native.Nat.{ℕ, _+_, _^_, min}
+use lib.Dec.{eqb}
 use lib.ListN.{set}
+use Rattle.texts.specs.Choice.{pick}
 
 -- a position counts up to 2 ^ 63, which no slice reaches, and stays there
 abbrev pub last : ℕ
@@ -15,6 +17,10 @@ next at = min (at + 1) last
 unfoldable pub past : ℕ → List ℕ → ℕ
 past at [] = at
 past at (b ∷ t) = past (next at) t
+
+-- the position n bytes on from `at`
+unfoldable pub skipped : ℕ → ℕ → ℕ
+skipped at n = pick (eqb n 0) at (min (at + n) last)
 
 -- `out` with a text laid over it from `at` on, cut off at the end of `out`
 unfoldable pub laid : List ℕ → ℕ → List ℕ → List ℕ

@@ -7,8 +7,10 @@
 // proofs/Finishing.antt has "measure, then write", the law that every public entry ends with.
 ghost use mathlib.Core.Path.{_≡_};
 ghost use mathlib.Core.List.{[], _∷_};
+ghost use Prim.Native.Nat.{_+_, _≤_};
+ghost use lib.ListN.{length};
 ghost use Rattle.texts.specs.Choice.{pick};
-ghost use Rattle.printing.specs.Printed.{Printed, next};
+ghost use Rattle.printing.specs.Printed.{Printed, next, skipped};
 ghost use Rattle.printing.specs.Decimal.{decimal};
 
 // The largest position, which no slice reaches; counting stays there.
@@ -39,8 +41,34 @@ pub fn put_byte_if(out: &mut [u8], at: usize, on: bool, b: u8) -> usize
     if on { put_byte(out, at, b) } else { at }
 }
 
-// Prints the bytes of `s`.
-pub fn put_bytes(out: &mut [u8], at: usize, s: &[u8]) -> usize
+// The position `n` bytes on. A text that does not fit is passed so without a walk over it.
+pub fn skip(at: usize, n: usize) -> usize
+    ensures { λ r. ⌜ r ≡ skipped at n ⌝ }
+{
+    if n == 0 {
+        return at;
+    }
+    if LAST <= at {
+        return LAST;
+    }
+    if n < LAST - at { at + n } else { LAST }
+}
+
+// Prints the bytes of `s` where all of them fit: a loop with no test but its own.
+fn copy(out: &mut [u8], at: usize, s: &[u8]) -> usize
+    requires { ⌜ at + length (now s) ≤ length (now out) ⌝ }
+    ensures { λ r. ⌜ Printed (now (out .entry)) at (now (out .exit)) r (now (s .entry)) ⌝ }
+{
+    let mut i = 0;
+    while i < s.len() {
+        out[at + i] = s[i];
+        i += 1;
+    }
+    at + s.len()
+}
+
+// Prints the bytes of `s` one by one, those that fit.
+fn put_each(out: &mut [u8], at: usize, s: &[u8]) -> usize
     ensures { λ r. ⌜ Printed (now (out .entry)) at (now (out .exit)) r (now (s .entry)) ⌝ }
 {
     let mut p = at;
@@ -50,6 +78,19 @@ pub fn put_bytes(out: &mut [u8], at: usize, s: &[u8]) -> usize
         i += 1;
     }
     p
+}
+
+// Prints the bytes of `s`: counted where none fits, as when measuring, copied where all fit.
+pub fn put_bytes(out: &mut [u8], at: usize, s: &[u8]) -> usize
+    ensures { λ r. ⌜ Printed (now (out .entry)) at (now (out .exit)) r (now (s .entry)) ⌝ }
+{
+    if out.len() <= at {
+        return skip(at, s.len());
+    }
+    if s.len() <= out.len() - at {
+        return copy(out, at, s);
+    }
+    put_each(out, at, s)
 }
 
 // Prints a number in decimal.

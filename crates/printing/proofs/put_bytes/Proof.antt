@@ -1,74 +1,60 @@
-use Prim.Native.Nat.{_≤_, _<_, _-_, _+_}
 use native.Mathlib.Omega.{arith}
-use native.Mathlib.Numerals.{add-one}
-use lib.ListN.{length, take}
-use lib.Seq.{take-suc, take-all}
-use denote.Ref.{now}
-use Rattle.printing.specs.Printed.{Printed}
-use Rattle.printing.proofs.Sequencing.{blank, _▸_, length-printed}
-use borrow.Author.Needs.{needs}
+use Rattle.printing.proofs.Passing.{counted}
+use Rattle.printing.proofs.Laws.{laws}
 use Rattle.printing.proofs.put_bytes.Statement.{statement}
 use Rattle.printing.proofs.put_bytes.Tie as tie
 use Rattle.printing.proofs.put_bytes.Reads as reads
 use Rattle.printing.proofs.put_bytes.Lts as lts
-use Rattle.printing.proofs.put_byte.Reads as put-byte-reads
+use Rattle.printing.proofs.copy.Reads as copy-reads
+use Rattle.printing.proofs.put_each.Reads as put-each-reads
+use Rattle.printing.proofs.skip.Reads as skip-reads
 
-abbrev Inv-loop : tie.InvT-loop
-Inv-loop out₀ at s p₀ i₀ out p i = Printed out₀ at out p (take i s) × (i ≤ length s)
+-- src/lib.rt:88:9
+skip-requires : tie.Need-skip-requires
+skip-requires c κs = search laws
 
-abbrev μ-loop : tie.MeasureT-loop
-μ-loop out₀ at s p₀ i₀ out p i = length s - i
+-- src/lib.rt:88:9
+returns : tie.Need-returns
+returns c = counted _ (omega arith) (omega arith) (c .skip .ensures)
 
--- src/lib.rt:40:5
-loop-holds : tie.Need-loop-holds Inv-loop μ-loop
-loop-holds c = (blank, omega arith)
+-- src/lib.rt:90:19
+sub-if2 : tie.Need-sub-if2
+sub-if2 c = search laws
 
--- src/lib.rt:41:30
-shared-slice-read-put-byte : tie.Need-shared-slice-read-put-byte Inv-loop μ-loop
-shared-slice-read-put-byte c = search needs
+-- src/lib.rt:91:9
+copy-requires : tie.Need-copy-requires
+copy-requires c κs = search laws
 
--- src/lib.rt:41:9
-put-byte-requires : tie.Need-put-byte-requires Inv-loop μ-loop
-put-byte-requires c κs = search needs
+-- src/lib.rt:91:9
+same-length : tie.Need-same-length
+same-length c = search laws
 
--- src/lib.rt:42:9
-add-i : tie.Need-add-i Inv-loop μ-loop
-add-i c = search needs
+-- src/lib.rt:91:9
+returns-2 : tie.Need-returns-2
+returns-2 c = search laws
 
--- src/lib.rt:40:5
-loop-less : tie.Need-loop-less Inv-loop μ-loop
-loop-less c = search needs
+-- src/lib.rt:93:5
+put-each-requires : tie.Need-put-each-requires
+put-each-requires c κs = search laws
 
--- src/lib.rt:40:5
-loop-again : tie.Need-loop-again Inv-loop μ-loop
-loop-again c =
-    let q = c .before .before in
-    let l = q .before .before .before .before in
-    let s = now (l .before .before .before .args .s) in
-    let h : l .loop .i < length s = omega arith in
-    (rw (add-one, take-suc s (l .loop .i) 0) (l .loop .inv .0 ▸ q .put-byte .ensures), omega arith)
+-- src/lib.rt:84:1
+same-length-2 : tie.Need-same-length-2
+same-length-2 c = search laws
 
--- src/lib.rt:35:1
-same-length : tie.Need-same-length Inv-loop μ-loop
-same-length c = length-printed (c .before .loop .inv .0)
-
--- src/lib.rt:35:1
-returns : tie.Need-returns Inv-loop μ-loop
-returns c =
-    let h : length (now (c .before .before .before .before .args .s)) ≤ c .before .loop .i = c .loop-test .left in
-    rw take-all at (c .before .loop .inv .0)
+-- src/lib.rt:84:1
+returns-3 : tie.Need-returns-3
+returns-3 c = search laws
 
 pub put-bytes-spec : {M : Type 1} → statement M
 put-bytes-spec =
     tie.close
     (tie.spec
-    Inv-loop
-    μ-loop
-    loop-holds
-    shared-slice-read-put-byte
-    put-byte-requires
-    add-i
-    loop-less
-    loop-again
+    skip-requires
+    returns
+    sub-if2
+    copy-requires
     same-length
-    returns)
+    returns-2
+    put-each-requires
+    same-length-2
+    returns-3)
