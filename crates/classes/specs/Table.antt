@@ -1,7 +1,9 @@
--- What a class number says of its byte. Internal: the crates above cite specs/Class.antt alone.
+-- What a class number says of its byte, and a table of such numbers. The crates above hand such a table on, and else cite specs/Class.antt alone.
 use mathlib.Core.Path.{_≡_}
-use Prim.Native.Nat.{ℕ}
+use mathlib.Core.List.{List}
+use Prim.Native.Nat.{ℕ, _<_}
 use lib.Dec.{eqb, ltb}
+use lib.ListN.{getD}
 use Rattle.classes.specs.Class.{isSpace, isTagNameEnd, isAttributeNameEnd, isUpper, isLower}
 
 -- k is the class number of the byte b
@@ -11,3 +13,7 @@ pub record ClassOf (b k : ℕ) : Type 0 where
   pub attribute-name-end : ltb k 3 ≡ isAttributeNameEnd b
   pub upper : eqb k 3 ≡ isUpper b
   pub lower : eqb k 4 ≡ isLower b
+
+-- t has the class number of every byte
+pub record IsTable (t : List ℕ) : Type 0 where
+  pub rule : (b : ℕ) → b < 256 → ClassOf b (getD t b 0)

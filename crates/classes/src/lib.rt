@@ -1,10 +1,10 @@
 // Classes of bytes: space, tag-name end, attribute-name end, upper case, lower case.
 //
 // One constant table of 256 class numbers decides them all. Its rule is proved once over the whole
-// table (proofs/class), and each test promises the predicate of specs/Class.antt for every byte.
+// table (proofs/table), and each test promises the predicate of specs/Class.antt for every byte.
 ghost use mathlib.Core.Path.{_≡_};
 ghost use Rattle.classes.specs.Class.{isSpace, isTagNameEnd, isAttributeNameEnd, isUpper, isLower};
-ghost use Rattle.classes.specs.Table.{ClassOf};
+ghost use Rattle.classes.specs.Table.{ClassOf, IsTable};
 
 // The class number of each byte, numbered so that each test is one comparison:
 // 0 space, 1 '>' and '/', 2 '=', 3 upper case, 4 lower case, 5 any other.
@@ -267,10 +267,26 @@ const CLASSES: [u8; 256] = [
     5,
 ];
 
+// The table. A constant is built anew on the stack wherever it is used, so a loop that looks up many bytes
+// has the table made once and lends it.
+pub fn table() -> [u8; 256]
+    ensures { λ r. ⌜ IsTable r ⌝ }
+{
+    CLASSES
+}
+
+fn class_in(t: &[u8; 256], b: u8) -> u8
+    requires { ⌜ IsTable (now t) ⌝ }
+    ensures { λ r. ⌜ ClassOf b r ⌝ }
+{
+    t[b as usize]
+}
+
 fn class(b: u8) -> u8
     ensures { λ r. ⌜ ClassOf b r ⌝ }
 {
-    CLASSES[b as usize]
+    let t = table();
+    class_in(&t, b)
 }
 
 pub fn is_space(b: u8) -> bool
@@ -301,4 +317,20 @@ pub fn is_lower(b: u8) -> bool
     ensures { λ r. ⌜ r ≡ isLower b ⌝ }
 {
     class(b) == 4
+}
+
+// ---- by a lent table
+
+pub fn is_upper_in(t: &[u8; 256], b: u8) -> bool
+    requires { ⌜ IsTable (now t) ⌝ }
+    ensures { λ r. ⌜ r ≡ isUpper b ⌝ }
+{
+    class_in(t, b) == 3
+}
+
+pub fn is_lower_in(t: &[u8; 256], b: u8) -> bool
+    requires { ⌜ IsTable (now t) ⌝ }
+    ensures { λ r. ⌜ r ≡ isLower b ⌝ }
+{
+    class_in(t, b) == 4
 }

@@ -1,6 +1,11 @@
 // The conversions as printing steps: each prints its text from a position on (crate `printing`).
-use classes::is_lower;
+//
+// The table of classes is made once for each name and lent to each position's step: made anew at each look-up,
+// it would take most of the time.
+use classes::is_lower_in;
 use classes::is_upper;
+use classes::is_upper_in;
+use classes::table;
 use printing::put_byte;
 use printing::put_byte_if;
 use printing::put_bytes;
@@ -10,6 +15,7 @@ ghost use mathlib.Core.Path.{_≡_};
 ghost use mathlib.Core.List.{[], _∷_};
 ghost use Prim.Native.Nat.{_<_};
 ghost use lib.ListN.{length};
+ghost use Rattle.classes.specs.Table.{IsTable};
 ghost use Rattle.printing.specs.Printed.{Printed};
 ghost use Rattle.names.specs.Letters.{lowered, raised};
 ghost use Rattle.names.specs.Conversions.{breaksSnake, snakeAt, camelToSnake, breaksScreaming, screamingAt, camelToScreamingSnake, follows, camelAt, snakeToCamel, pascalAt, screamingSnakeToPascal, endsWith, endsInIes, endsInS, capitalized, singularPascal};
@@ -20,45 +26,54 @@ pub fn lower(b: u8) -> u8
     if is_upper(b) { b + 32 } else { b }
 }
 
-pub fn raise(b: u8) -> u8
+fn lower_in(t: &[u8; 256], b: u8) -> u8
+    requires { ⌜ IsTable (now t) ⌝ }
+    ensures { λ r. ⌜ r ≡ lowered b ⌝ }
+{
+    if is_upper_in(t, b) { b + 32 } else { b }
+}
+
+pub fn raise_in(t: &[u8; 256], b: u8) -> u8
+    requires { ⌜ IsTable (now t) ⌝ }
     ensures { λ r. ⌜ r ≡ raised b ⌝ }
 {
-    if is_lower(b) { b - 32 } else { b }
+    if is_lower_in(t, b) { b - 32 } else { b }
 }
 
 // ---- Snake
 
-fn breaks_snake(name: &[u8], i: usize) -> bool
-    requires { ⌜ i < length (now name) ⌝ }
+fn breaks_snake(t: &[u8; 256], name: &[u8], i: usize) -> bool
+    requires { ⌜ IsTable (now t) × (i < length (now name)) ⌝ }
     ensures { λ r. ⌜ r ≡ breaksSnake (now (name .entry)) i ⌝ }
 {
     if i == 0 {
         return false;
     }
-    if is_upper(byte_at(name, i)) {
-        if is_lower(byte_at(name, i - 1)) {
+    if is_upper_in(t, byte_at(name, i)) {
+        if is_lower_in(t, byte_at(name, i - 1)) {
             return true;
         }
-        return is_lower(byte_at(name, i + 1));
+        return is_lower_in(t, byte_at(name, i + 1));
     }
     false
 }
 
-fn put_snake_at(out: &mut [u8], at: usize, name: &[u8], i: usize) -> usize
-    requires { ⌜ i < length (now name) ⌝ }
+fn put_snake_at(out: &mut [u8], at: usize, t: &[u8; 256], name: &[u8], i: usize) -> usize
+    requires { ⌜ IsTable (now t) × (i < length (now name)) ⌝ }
     ensures { λ r. ⌜ Printed (now (out .entry)) at (now (out .exit)) r (snakeAt (now (name .entry)) i) ⌝ }
 {
-    let p = put_byte_if(out, at, breaks_snake(name, i), b'_');
-    put_byte(out, p, lower(byte_at(name, i)))
+    let p = put_byte_if(out, at, breaks_snake(t, name, i), b'_');
+    put_byte(out, p, lower_in(t, byte_at(name, i)))
 }
 
 pub fn put_snake(out: &mut [u8], at: usize, name: &[u8]) -> usize
     ensures { λ r. ⌜ Printed (now (out .entry)) at (now (out .exit)) r (camelToSnake (now (name .entry))) ⌝ }
 {
+    let t = table();
     let mut p = at;
     let mut i = 0;
     while i < name.len() {
-        p = put_snake_at(out, p, name, i);
+        p = put_snake_at(out, p, &t, name, i);
         i += 1;
     }
     p
@@ -66,32 +81,35 @@ pub fn put_snake(out: &mut [u8], at: usize, name: &[u8]) -> usize
 
 // ---- Screaming
 
-pub fn breaks_screaming(name: &[u8], i: usize) -> bool
+pub fn breaks_screaming(t: &[u8; 256], name: &[u8], i: usize) -> bool
+    requires { ⌜ IsTable (now t) ⌝ }
     ensures { λ r. ⌜ r ≡ breaksScreaming (now (name .entry)) i ⌝ }
 {
     if i == 0 {
         return false;
     }
-    if is_upper(byte_at(name, i)) {
-        return is_lower(byte_at(name, i - 1));
+    if is_upper_in(t, byte_at(name, i)) {
+        return is_lower_in(t, byte_at(name, i - 1));
     }
     false
 }
 
-fn put_screaming_at(out: &mut [u8], at: usize, name: &[u8], i: usize) -> usize
+fn put_screaming_at(out: &mut [u8], at: usize, t: &[u8; 256], name: &[u8], i: usize) -> usize
+    requires { ⌜ IsTable (now t) ⌝ }
     ensures { λ r. ⌜ Printed (now (out .entry)) at (now (out .exit)) r (screamingAt (now (name .entry)) i) ⌝ }
 {
-    let p = put_byte_if(out, at, breaks_screaming(name, i), b'_');
-    put_byte(out, p, raise(byte_at(name, i)))
+    let p = put_byte_if(out, at, breaks_screaming(t, name, i), b'_');
+    put_byte(out, p, raise_in(t, byte_at(name, i)))
 }
 
 pub fn put_screaming(out: &mut [u8], at: usize, name: &[u8]) -> usize
     ensures { λ r. ⌜ Printed (now (out .entry)) at (now (out .exit)) r (camelToScreamingSnake (now (name .entry))) ⌝ }
 {
+    let t = table();
     let mut p = at;
     let mut i = 0;
     while i < name.len() {
-        p = put_screaming_at(out, p, name, i);
+        p = put_screaming_at(out, p, &t, name, i);
         i += 1;
     }
     p
@@ -108,7 +126,8 @@ fn follows_underscore(name: &[u8], i: usize) -> bool
     byte_at(name, i - 1) == b'_'
 }
 
-fn put_camel_at(out: &mut [u8], at: usize, name: &[u8], i: usize) -> usize
+fn put_camel_at(out: &mut [u8], at: usize, t: &[u8; 256], name: &[u8], i: usize) -> usize
+    requires { ⌜ IsTable (now t) ⌝ }
     ensures { λ r. ⌜ Printed (now (out .entry)) at (now (out .exit)) r (camelAt (now (name .entry)) i) ⌝ }
 {
     let b = byte_at(name, i);
@@ -116,7 +135,7 @@ fn put_camel_at(out: &mut [u8], at: usize, name: &[u8], i: usize) -> usize
         return at;
     }
     if follows_underscore(name, i) {
-        return put_byte(out, at, raise(b));
+        return put_byte(out, at, raise_in(t, b));
     }
     put_byte(out, at, b)
 }
@@ -124,16 +143,18 @@ fn put_camel_at(out: &mut [u8], at: usize, name: &[u8], i: usize) -> usize
 pub fn put_camel(out: &mut [u8], at: usize, name: &[u8]) -> usize
     ensures { λ r. ⌜ Printed (now (out .entry)) at (now (out .exit)) r (snakeToCamel (now (name .entry))) ⌝ }
 {
+    let t = table();
     let mut p = at;
     let mut i = 0;
     while i < name.len() {
-        p = put_camel_at(out, p, name, i);
+        p = put_camel_at(out, p, &t, name, i);
         i += 1;
     }
     p
 }
 
-fn put_pascal_at(out: &mut [u8], at: usize, name: &[u8], i: usize) -> usize
+fn put_pascal_at(out: &mut [u8], at: usize, t: &[u8; 256], name: &[u8], i: usize) -> usize
+    requires { ⌜ IsTable (now t) ⌝ }
     ensures { λ r. ⌜ Printed (now (out .entry)) at (now (out .exit)) r (pascalAt (now (name .entry)) i) ⌝ }
 {
     let b = byte_at(name, i);
@@ -141,21 +162,22 @@ fn put_pascal_at(out: &mut [u8], at: usize, name: &[u8], i: usize) -> usize
         return at;
     }
     if i == 0 {
-        return put_byte(out, at, raise(b));
+        return put_byte(out, at, raise_in(t, b));
     }
     if follows_underscore(name, i) {
-        return put_byte(out, at, raise(b));
+        return put_byte(out, at, raise_in(t, b));
     }
-    put_byte(out, at, lower(b))
+    put_byte(out, at, lower_in(t, b))
 }
 
 pub fn put_pascal(out: &mut [u8], at: usize, name: &[u8]) -> usize
     ensures { λ r. ⌜ Printed (now (out .entry)) at (now (out .exit)) r (screamingSnakeToPascal (now (name .entry))) ⌝ }
 {
+    let t = table();
     let mut p = at;
     let mut i = 0;
     while i < name.len() {
-        p = put_pascal_at(out, p, name, i);
+        p = put_pascal_at(out, p, &t, name, i);
         i += 1;
     }
     p
@@ -180,7 +202,8 @@ fn put_capitalized(out: &mut [u8], at: usize, name: &[u8]) -> usize
     if name.len() == 0 {
         return at;
     }
-    let p = put_byte(out, at, raise(name[0]));
+    let t = table();
+    let p = put_byte(out, at, raise_in(&t, name[0]));
     put_bytes(out, p, &name[1..])
 }
 

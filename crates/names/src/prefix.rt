@@ -2,10 +2,12 @@
 // enum's screaming name as it would be printed.
 use crate::convert::breaks_screaming;
 use crate::convert::put_pascal;
-use crate::convert::raise;
+use crate::convert::raise_in;
+use classes::table;
 use texts::byte_at;
 ghost use mathlib.Core.Path.{_≡_};
 ghost use mathlib.Core.List.{[], _∷_};
+ghost use Rattle.classes.specs.Table.{IsTable};
 ghost use Rattle.printing.specs.Printed.{Printed};
 ghost use Rattle.names.specs.Conversions.{screamingAt, prefixOf, withoutPrefix, stripEnumPrefix};
 ghost use Rattle.names.specs.Prefix.{pastText};
@@ -30,11 +32,12 @@ fn past_byte(value: &[u8], j: usize, b: u8) -> Past
 }
 
 // Past what position `i` of the enum name gives, at `j`.
-fn past_position(value: &[u8], j: usize, enum_name: &[u8], i: usize) -> Past
+fn past_position(t: &[u8; 256], value: &[u8], j: usize, enum_name: &[u8], i: usize) -> Past
+    requires { ⌜ IsTable (now t) ⌝ }
     ensures { λ r. ⌜ r ≡ pastText (screamingAt (now («enum_name» .entry)) i) (now (value .entry)) j ⌝ }
 {
-    let b = raise(byte_at(enum_name, i));
-    if breaks_screaming(enum_name, i) {
+    let b = raise_in(t, byte_at(enum_name, i));
+    if breaks_screaming(t, enum_name, i) {
         return match past_byte(value, j, b'_') {
             Past::At(k) => past_byte(value, k, b),
             Past::Nothing => Past::Nothing,
@@ -47,10 +50,11 @@ fn past_position(value: &[u8], j: usize, enum_name: &[u8], i: usize) -> Past
 fn past_prefix(value: &[u8], enum_name: &[u8]) -> Past
     ensures { λ r. ⌜ r ≡ pastText (prefixOf (now («enum_name» .entry))) (now (value .entry)) 0 ⌝ }
 {
+    let t = table();
     let mut j = 0;
     let mut i = 0;
     while i < enum_name.len() {
-        match past_position(value, j, enum_name, i) {
+        match past_position(&t, value, j, enum_name, i) {
             Past::At(k) => {
                 j = k;
             }

@@ -7,39 +7,44 @@ use Rattle.names.proofs.convert.put_screaming.Statement.{statement}
 use Rattle.names.proofs.convert.put_screaming.Tie as tie
 use Rattle.names.proofs.convert.put_screaming.Reads as reads
 use Rattle.names.proofs.convert.put_screaming.Lts as lts
+use Rattle.classes.proofs.table.Reads as table-reads
 use Rattle.names.proofs.convert.put_screaming_at.Reads as put-screaming-at-reads
 
 abbrev Inv-loop : tie.InvT-loop
-Inv-loop out₀ at name p₀ i₀ out p i = Repeating (screamingAt name) (length name) out₀ at out p i
+Inv-loop out₀ at name t p₀ i₀ out p i = Repeating (screamingAt name) (length name) out₀ at out p i
 
 abbrev μ-loop : tie.MeasureT-loop
-μ-loop out₀ at name p₀ i₀ out p i = length name - i
+μ-loop out₀ at name t p₀ i₀ out p i = length name - i
 
--- src/convert.rt:93:5
+-- src/convert.rt:108:13
+table-requires : tie.Need-table-requires Inv-loop μ-loop
+table-requires c κs = search laws
+
+-- src/convert.rt:111:5
 loop-holds : tie.Need-loop-holds Inv-loop μ-loop
 loop-holds c = search laws
 
--- src/convert.rt:94:9
+-- src/convert.rt:112:9
 put-screaming-at-requires : tie.Need-put-screaming-at-requires Inv-loop μ-loop
 put-screaming-at-requires c κs = search laws
 
--- src/convert.rt:95:9
+-- src/convert.rt:113:9
 add-i : tie.Need-add-i Inv-loop μ-loop
 add-i c = search laws
 
--- src/convert.rt:93:5
+-- src/convert.rt:111:5
 loop-less : tie.Need-loop-less Inv-loop μ-loop
 loop-less c = search laws
 
--- src/convert.rt:93:5
+-- src/convert.rt:111:5
 loop-again : tie.Need-loop-again Inv-loop μ-loop
 loop-again c = search laws
 
--- src/convert.rt:88:1
+-- src/convert.rt:105:1
 same-length : tie.Need-same-length Inv-loop μ-loop
 same-length c = search laws
 
--- src/convert.rt:88:1
+-- src/convert.rt:105:1
 returns : tie.Need-returns Inv-loop μ-loop
 returns c = search laws
 
@@ -49,6 +54,7 @@ put-screaming-spec =
     (tie.spec
     Inv-loop
     μ-loop
+    table-requires
     loop-holds
     put-screaming-at-requires
     add-i

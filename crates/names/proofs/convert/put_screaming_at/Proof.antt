@@ -4,36 +4,36 @@ use Rattle.names.proofs.convert.put_screaming_at.Tie as tie
 use Rattle.names.proofs.convert.put_screaming_at.Reads as reads
 use Rattle.names.proofs.convert.put_screaming_at.Lts as lts
 use Rattle.names.proofs.convert.breaks_screaming.Reads as breaks-screaming-reads
-use Rattle.names.proofs.convert.raise.Reads as raise-reads
+use Rattle.names.proofs.convert.raise_in.Reads as raise-in-reads
 use Rattle.printing.proofs.put_byte.Reads as put-byte-reads
 use Rattle.printing.proofs.put_byte_if.Reads as put-byte-if-reads
 use Rattle.texts.proofs.byte_at.Reads as byte-at-reads
 
--- src/convert.rt:84:34
+-- src/convert.rt:101:34
 breaks-screaming-requires : tie.Need-breaks-screaming-requires
 breaks-screaming-requires c κs = search laws
 
--- src/convert.rt:84:9
+-- src/convert.rt:101:9
 put-byte-if-requires : tie.Need-put-byte-if-requires
 put-byte-if-requires c κs = search laws
 
--- src/convert.rt:85:28
+-- src/convert.rt:102:34
 byte-at-requires : tie.Need-byte-at-requires
 byte-at-requires c κs = search laws
 
--- src/convert.rt:85:22
-raise-requires : tie.Need-raise-requires
-raise-requires c κs = search laws
+-- src/convert.rt:102:22
+raise-in-requires : tie.Need-raise-in-requires
+raise-in-requires c κs = search laws
 
--- src/convert.rt:85:5
+-- src/convert.rt:102:5
 put-byte-requires : tie.Need-put-byte-requires
 put-byte-requires c κs = search laws
 
--- src/convert.rt:81:1
+-- src/convert.rt:97:1
 same-length : tie.Need-same-length
 same-length c = search laws
 
--- src/convert.rt:81:1
+-- src/convert.rt:97:1
 returns : tie.Need-returns
 returns c = search laws
 
@@ -44,7 +44,7 @@ put-screaming-at-spec =
     breaks-screaming-requires
     put-byte-if-requires
     byte-at-requires
-    raise-requires
+    raise-in-requires
     put-byte-requires
     same-length
     returns)

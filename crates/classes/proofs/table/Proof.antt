@@ -6,10 +6,10 @@ use lib.ListN.{getD}
 use native.Mathlib.Omega.{arith}
 use borrow.Author.Needs.{needs}
 use Rattle.classes.specs.Class.{isSpace, isTagNameEnd, isAttributeNameEnd, isUpper, isLower}
-use Rattle.classes.specs.Table.{ClassOf}
+use Rattle.classes.specs.Table.{ClassOf, IsTable}
 use Rattle.classes.proofs.Rule.{agree}
-use Rattle.classes.proofs.class.Statement.{statement}
-use Rattle.classes.proofs.class.Tie as tie
+use Rattle.classes.proofs.table.Statement.{statement}
+use Rattle.classes.proofs.table.Tie as tie
 
 classes : List ℕ
 classes =
@@ -31,9 +31,6 @@ classes =
     5 ∷ 5 ∷ 5 ∷ 5 ∷ 5 ∷ 5 ∷ 5 ∷ 5 ∷ 5 ∷ 5 ∷ 5 ∷ 5 ∷ 5 ∷ 5 ∷ 5 ∷ 5 ∷
     []
 
-array-read-result : tie.Need-array-read-result
-array-read-result c = search needs
-
 rule : (b : ℕ) → b < 256 → ClassOf b (getD classes b 0)
 unfolding classes isSpace isTagNameEnd isAttributeNameEnd isUpper isLower
 rule b h =
@@ -47,7 +44,7 @@ rule b h =
 
 returns : tie.Need-returns
 unfolding classes
-returns c = rule (c .args .b) (omega arith)
+returns c = record { rule = rule }
 
-pub class-spec : {M : Type 1} → statement M
-class-spec = tie.close (tie.spec array-read-result returns)
+pub table-spec : {M : Type 1} → statement M
+table-spec = tie.close (tie.spec returns)
