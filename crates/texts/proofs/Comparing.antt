@@ -2,11 +2,12 @@
 use mathlib.Core.Path.{_≡_, refl, sym, ap, _∙_}
 use mathlib.Core.Bool.{Bool, true, false}
 use mathlib.Core.List.{List, [], _∷_, _++_}
-use Prim.Native.Nat.{ℕ, suc, _+_, _≤_, _<_, zero-le, suc-le-suc}
+use Prim.Native.Nat.{ℕ, suc, _+_, _-_, _≤_, _<_, zero-le, suc-le-suc}
+use native.Mathlib.Nat.{add-zero}
 use native.Mathlib.Numerals.{add-one}
 use native.Mathlib.Omega.{arith}
 use lib.Dec.{eqb, T}
-use lib.ListN.{length, drop, getD, drop-of-length-le}
+use lib.ListN.{length, drop, getD, length-drop, drop-of-length-le}
 use lib.Seq.{drop-cons}
 use borrow.Author.Tests.{eq-eqb, ne-eqb, eqb-true}
 use Rattle.texts.specs.Choice.{_and_}
@@ -104,27 +105,36 @@ starts-append (n ∷ a) b (x ∷ s) =
     (λ t. starts-yes n x (a ++ b) s t ∙ starts-append a b s ∙ sym (ap (λ (c : Bool). c and startsWith b (drop (length a) s)) (starts-yes n x a s t)))
     (λ f. starts-no n x (a ++ b) s f ∙ sym (ap (λ (c : Bool). c and startsWith b (drop (length a) s)) (starts-no n x a s f)))
 
--- a loop that compares n with s at `at` stands at i in s and at j in n
-pub record Matching (n s : List ℕ) (at i j : ℕ) : Type 0 where
-  pub rest : startsWith (drop j n) (drop i s) ≡ startsWith n (drop at s)
+-- past the end of s only the empty text stands, and a text stands nowhere where it does not fit
+pub starts-past : (n s : List ℕ) (at : ℕ) → length s ≤ at → eqb (length n) 0 ≡ startsWith n (drop at s)
+unfolding startsWith
+starts-past [] s at h = refl
+starts-past (x ∷ n) s at h = ne-eqb (suc (length n)) 0 (λ z. omega arith) ∙ rw (drop-of-length-le s h)
 
-pub matching-start : {n s : List ℕ} {at : ℕ} → Matching n s at at 0
-matching-start = record { rest = refl }
+pub starts-long : (n s : List ℕ) (at : ℕ) → length s - at < length n → false ≡ startsWith n (drop at s)
+starts-long n s at h =
+    by-test (startsWith n (drop at s))
+    (λ t. absurd (let k : length n ≤ length (drop at s) = starts-length n (drop at s) t in omega (arith, length-drop at s)))
+    (λ f. sym f)
 
-module _ {n s : List ℕ} {at i j : ℕ} (inv : Matching n s at i j) where
-  pub matching-on : i < length s → j < length n → getD s i 0 ≡ getD n j 0 → Matching n s at (i + 1) (j + 1)
+-- a loop that compares n with s at `at` has passed j bytes
+pub record Matching (n s : List ℕ) (at j : ℕ) : Type 0 where
+  pub rest : startsWith (drop j n) (drop (at + j) s) ≡ startsWith n (drop at s)
+
+pub matching-start : {n s : List ℕ} {at : ℕ} → Matching n s at 0
+matching-start = record { rest = rw add-zero }
+
+module _ {n s : List ℕ} {at j : ℕ} (inv : Matching n s at j) where
+  pub matching-on : at + j < length s → j < length n → getD s (at + j) 0 ≡ getD n j 0 → Matching n s at (j + 1)
   matching-on h k e =
       let t = eq-eqb _ _ e in
-      record { rest = rw (← (inv .rest), drop-cons s i 0, drop-cons n j 0, starts-yes, add-one, add-one) }
+      let z : at + suc j ≡ suc (at + j) = omega arith in
+      record { rest = rw (← (inv .rest), drop-cons s (at + j) 0, drop-cons n j 0, starts-yes, add-one, z) }
 
-  pub matching-no : i < length s → j < length n → (getD s i 0 ≡ getD n j 0 → ⊥) → false ≡ startsWith n (drop at s)
+  pub matching-no : at + j < length s → j < length n → (getD s (at + j) 0 ≡ getD n j 0 → ⊥) → false ≡ startsWith n (drop at s)
   matching-no h k e =
       let t = ne-eqb _ _ e in
-      rw (← (inv .rest), drop-cons s i 0, drop-cons n j 0, starts-no)
-
-  pub matching-short : length s ≤ i → j < length n → false ≡ startsWith n (drop at s)
-  unfolding startsWith
-  matching-short h k = rw (← (inv .rest), drop-of-length-le s h, drop-cons n j 0)
+      rw (← (inv .rest), drop-cons s (at + j) 0, drop-cons n j 0, starts-no)
 
   pub matching-end : length n ≤ j → true ≡ startsWith n (drop at s)
   unfolding startsWith

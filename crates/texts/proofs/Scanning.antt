@@ -7,6 +7,7 @@ use Prim.Native.Nat.{ℕ, suc, _+_, _≤_, _<_}
 use native.Mathlib.Nat.{add-zero, add-suc, suc-add}
 use native.Mathlib.Numerals.{add-one}
 use native.Mathlib.Omega.{arith}
+use lib.Bits.{bitOr, or-add-and, and-le-l, and-le-r}
 use lib.ListN.{length, drop, getD, drop-of-length-le}
 use lib.Seq.{drop-cons}
 use borrow.Author.Tests.{eq-eqb, ne-eqb, lt-ltb, le-ltb}
@@ -66,6 +67,41 @@ module _ {s : List ℕ} {at i : ℕ} (inv : Scanning isAscii s at i) (h : i < le
   pub ascii-stop : 128 ≤ getD s i 0 → i ≡ scan isAscii s at
   unfolding isAscii
   ascii-stop l = scan-stop inv h refl (le-ltb _ _ l)
+
+-- ---- 8 bytes at once
+
+or-below : (a b : ℕ) → bitOr a b < 128 → (a < 128) × (b < 128)
+or-below a b h = (omega (arith, or-add-and a b, and-le-r a b), omega (arith, or-add-and a b, and-le-l a b))
+
+module _ (s : List ℕ) (i : ℕ) (h : i + 8 ≤ length s) where
+  next : (k : ℕ) → k < 8 → Scanning isAscii s i (i + k) → getD s (i + k) 0 < 128 → Scanning isAscii s i (i + suc k)
+  next k l inv b =
+      let e : i + k + 1 ≡ i + suc k = omega arith in
+      rw e at (ascii-on inv (omega arith) b)
+
+  pub ascii-eight : bitOr (bitOr (bitOr (bitOr (getD s i 0) (getD s (i + 1) 0)) (bitOr (getD s (i + 2) 0) (getD s (i + 3) 0))) (bitOr (getD s (i + 4) 0) (getD s (i + 5) 0))) (bitOr (getD s (i + 6) 0) (getD s (i + 7) 0)) < 128
+      → scan isAscii s (i + 8) ≡ scan isAscii s i
+  ascii-eight all =
+      let g : ℕ → ℕ = λ k. getD s (i + k) 0 in
+      let ab = bitOr (getD s i 0) (g 1) in
+      let cd = bitOr (g 2) (g 3) in
+      let ef = bitOr (g 4) (g 5) in
+      let gh = bitOr (g 6) (g 7) in
+      let most = or-below (bitOr (bitOr ab cd) ef) gh all in
+      let more = or-below (bitOr ab cd) ef (most .0) in
+      let some = or-below ab cd (more .0) in
+      let a = or-below (getD s i 0) (g 1) (some .0) in
+      let b = or-below (g 2) (g 3) (some .1) in
+      let c = or-below (g 4) (g 5) (more .1) in
+      let d = or-below (g 6) (g 7) (most .1) in
+      next 7 (omega arith) (next 6 (omega arith) (next 5 (omega arith) (next 4 (omega arith) (next 3 (omega arith) (next 2 (omega arith) (next 1 (omega arith) (ascii-on scan-start (omega arith) (a .0)) (a .1)) (b .0)) (b .1)) (c .0)) (c .1)) (d .0)) (d .1) .rest
+
+module _ {s : List ℕ} {at i : ℕ} (inv : Scanning isAscii s at i) where
+  pub eight-on : scan isAscii s (i + 8) ≡ scan isAscii s i → Scanning isAscii s at (i + 8)
+  eight-on e = record { rest = e ∙ inv .rest }
+
+  pub scan-rest : {r : ℕ} → r ≡ scan isAscii s i → r ≡ scan isAscii s at
+  scan-rest e = e ∙ inv .rest
 
 -- a scan goes on, and ends within the text where it starts there
 pub scan-from : (p : ℕ → Bool) (s : List ℕ) (at : ℕ) → at ≤ scan p s at

@@ -4,7 +4,9 @@
 // first byte beyond ASCII is, and a text trimmed. Every function is total, asks nothing of its caller, and promises
 // a definition of specs/.
 ghost use mathlib.Core.Path.{_≡_};
-ghost use lib.ListN.{drop, getD};
+ghost use mathlib.Core.Bool.{true};
+ghost use Prim.Native.Nat.{_+_, _≤_};
+ghost use lib.ListN.{length, drop, getD};
 ghost use Rattle.texts.specs.Text.{piece, same, startsWith};
 ghost use Rattle.texts.specs.Scan.{scan, isAscii};
 ghost use Rattle.texts.specs.Trim.{isBlank, trimmed, TrimmedTo, KeptTo};
@@ -58,26 +60,40 @@ pub fn equal(a: &[u8], b: &[u8]) -> bool
 pub fn starts_with(s: &[u8], at: usize, needle: &[u8]) -> bool
     ensures { λ r. ⌜ r ≡ startsWith (now (needle .entry)) (drop at (now (s .entry))) ⌝ }
 {
-    let mut i = at;
+    if s.len() <= at {
+        return needle.len() == 0;
+    }
+    if s.len() - at < needle.len() {
+        return false;
+    }
     let mut j = 0;
     while j < needle.len() {
-        if s.len() <= i {
+        if s[at + j] != needle[j] {
             return false;
         }
-        if s[i] != needle[j] {
-            return false;
-        }
-        i += 1;
         j += 1;
     }
     true
 }
 
-// Where the first byte of 128 or more stands, or the end.
-pub fn ascii_end(s: &[u8]) -> usize
-    ensures { λ r. ⌜ r ≡ scan isAscii (now (s .entry)) 0 ⌝ }
+// Whether the 8 bytes from `i` on are ASCII: one test for all of them.
+fn is_ascii_eight(s: &[u8], i: usize) -> bool
+    requires { ⌜ i + 8 ≤ length (now s) ⌝ }
+    ensures { λ r. ⌜ (r ≡ true → scan isAscii (now (s .entry)) (i + 8) ≡ scan isAscii (now (s .entry)) i) ⌝ }
 {
-    let mut i = 0;
+    let a = s[i] | s[i + 1];
+    let b = s[i + 2] | s[i + 3];
+    let c = s[i + 4] | s[i + 5];
+    let d = s[i + 6] | s[i + 7];
+    let all = a | b | c | d;
+    all < 128
+}
+
+// Where the first byte of 128 or more stands from `from` on, or the end.
+fn ascii_from(s: &[u8], from: usize) -> usize
+    ensures { λ r. ⌜ r ≡ scan isAscii (now (s .entry)) from ⌝ }
+{
+    let mut i = from;
     while i < s.len() {
         if s[i] < 128 {
             i += 1;
@@ -86,6 +102,21 @@ pub fn ascii_end(s: &[u8]) -> usize
         }
     }
     i
+}
+
+// Where the first byte of 128 or more stands, or the end.
+pub fn ascii_end(s: &[u8]) -> usize
+    ensures { λ r. ⌜ r ≡ scan isAscii (now (s .entry)) 0 ⌝ }
+{
+    let mut i = 0;
+    while i + 8 <= s.len() {
+        if is_ascii_eight(s, i) {
+            i += 8;
+        } else {
+            return ascii_from(s, i);
+        }
+    }
+    ascii_from(s, i)
 }
 
 // ---- trimming

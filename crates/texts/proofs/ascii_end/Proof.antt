@@ -1,44 +1,59 @@
-use Prim.Native.Nat.{_-_}
+use Prim.Native.Nat.{_≤_, _-_}
+use native.Mathlib.Omega.{arith}
 use lib.ListN.{length}
 use Rattle.texts.specs.Scan.{isAscii}
-use Rattle.texts.proofs.Scanning.{Scanning}
+use Rattle.texts.proofs.Scanning.{Scanning, eight-on}
 use Rattle.texts.proofs.Laws.{laws}
 use Rattle.texts.proofs.ascii_end.Statement.{statement}
 use Rattle.texts.proofs.ascii_end.Tie as tie
 use Rattle.texts.proofs.ascii_end.Reads as reads
 use Rattle.texts.proofs.ascii_end.Lts as lts
+use Rattle.texts.proofs.ascii_from.Reads as ascii-from-reads
+use Rattle.texts.proofs.is_ascii_eight.Reads as is-ascii-eight-reads
 
 abbrev Inv-loop : tie.InvT-loop
-Inv-loop s i₀ i = Scanning isAscii s 0 i
+Inv-loop s i₀ i = Scanning isAscii s 0 i × (i ≤ length s)
 
 abbrev μ-loop : tie.MeasureT-loop
 μ-loop s i₀ i = length s - i
 
--- src/lib.rt:67:5
+-- src/lib.rt:112:5
 loop-holds : tie.Need-loop-holds Inv-loop μ-loop
 loop-holds c = search laws
 
--- src/lib.rt:68:12
-shared-slice-read-if1 : tie.Need-shared-slice-read-if1 Inv-loop μ-loop
-shared-slice-read-if1 c = search laws
+-- src/lib.rt:112:11
+add-loop : tie.Need-add-loop Inv-loop μ-loop
+add-loop c = search laws
 
--- src/lib.rt:69:13
+-- src/lib.rt:113:12
+is-ascii-eight-requires : tie.Need-is-ascii-eight-requires Inv-loop μ-loop
+is-ascii-eight-requires c κs = search laws
+
+-- src/lib.rt:114:13
 add-i : tie.Need-add-i Inv-loop μ-loop
 add-i c = search laws
 
--- src/lib.rt:67:5
+-- src/lib.rt:112:5
 loop-less : tie.Need-loop-less Inv-loop μ-loop
 loop-less c = search laws
 
--- src/lib.rt:67:5
+-- src/lib.rt:112:5
 loop-again : tie.Need-loop-again Inv-loop μ-loop
-loop-again c = search laws
+loop-again c = (eight-on (c .before .before .before .loop .inv .0) (c .before .is-ascii-eight .ensures (c .if1 .taken)), omega arith)
 
--- src/lib.rt:71:13
+-- src/lib.rt:116:13
+ascii-from-requires : tie.Need-ascii-from-requires Inv-loop μ-loop
+ascii-from-requires c κs = search laws
+
+-- src/lib.rt:116:13
 returns : tie.Need-returns Inv-loop μ-loop
 returns c = search laws
 
--- src/lib.rt:63:1
+-- src/lib.rt:119:5
+ascii-from-requires-2 : tie.Need-ascii-from-requires-2 Inv-loop μ-loop
+ascii-from-requires-2 c κs = search laws
+
+-- src/lib.rt:108:1
 returns-2 : tie.Need-returns-2 Inv-loop μ-loop
 returns-2 c = search laws
 
@@ -49,9 +64,12 @@ ascii-end-spec =
     Inv-loop
     μ-loop
     loop-holds
-    shared-slice-read-if1
+    add-loop
+    is-ascii-eight-requires
     add-i
     loop-less
     loop-again
+    ascii-from-requires
     returns
+    ascii-from-requires-2
     returns-2)
