@@ -4,6 +4,7 @@ use crate::view::second_at;
 use names::convert::put_screaming;
 use printing::put_byte;
 use printing::put_bytes;
+use printing::skip;
 use xmlschema::items::ENUM;
 use xmlschema::items::Model;
 use xmlschema::items::Position;
@@ -11,7 +12,8 @@ use xmlschema::items::VALUE;
 use xmlschema::items::count;
 use xmlschema::items::next_of;
 use xmlschema::items::next_under;
-ghost use Rattle.printing.specs.Printed.{Printed};
+ghost use mathlib.Core.Path.{_≡_};
+ghost use Rattle.printing.specs.Printed.{Printed, past};
 ghost use Rattle.names.specs.Conversions.{prefixOf};
 ghost use Rattle.xmlschema.specs.Schema.{itemAt, under, allOf, anEnum, aValue};
 ghost use Rattle.xmlschema.specs.Store.{schemaOf};
@@ -25,7 +27,18 @@ fn put_prefix(out: &mut [u8], at: usize, name: &[u8]) -> usize
     put_byte(out, p, b'_')
 }
 
-// A value of the enum `name`.
+// The prefix again, of which the length is known: where none of it fits, as when measuring, the name is not walked.
+fn put_known_prefix(out: &mut [u8], at: usize, name: &[u8], width: usize) -> usize
+    requires { ⌜ width ≡ past 0 (prefixOf (now name)) ⌝ }
+    ensures { λ r. ⌜ Printed (now (out .entry)) at (now (out .exit)) r (prefixOf (now (name .entry))) ⌝ }
+{
+    if out.len() <= at {
+        return skip(at, width);
+    }
+    put_prefix(out, at, name)
+}
+
+// A value of the enum `name`, whose prefix has the length `width`.
 fn put_value(
     out: &mut [u8],
     at: usize,
@@ -33,12 +46,14 @@ fn put_value(
     rec: &[u32],
     text: &[u8],
     name: &[u8],
+    width: usize,
     i: u32,
 ) -> usize
+    requires { ⌜ width ≡ past 0 (prefixOf (now name)) ⌝ }
     ensures { λ r. ⌜ Printed (now (out .entry)) at (now (out .exit)) r (valueText (now (name .entry)) (itemAt (schemaOf m (now (rec .entry)) (now (text .entry))) i)) ⌝ }
 {
     let p = put_bytes(out, at, b"  ");
-    let p = put_prefix(out, p, name);
+    let p = put_known_prefix(out, p, name, width);
     let p = put_screaming(out, p, name_at(m, rec, text, i));
     let p = put_bytes(out, p, b" = ");
     let p = put_bytes(out, p, second_at(m, rec, text, i));
@@ -56,13 +71,15 @@ fn put_values(
 ) -> usize
     ensures { λ r. ⌜ Printed (now (out .entry)) at (now (out .exit)) r (each (λ v. valueText (now (name .entry)) (itemAt (schemaOf m (now (rec .entry)) (now (text .entry))) v)) (under aValue e (schemaOf m (now (rec .entry)) (now (text .entry))))) ⌝ }
 {
+    let mut none = [0u8; 0];
+    let width = put_prefix(&mut none, 0, name);
     let n = count(m, rec, text);
     let mut p = at;
     let mut from = 0;
     while from < n {
         match next_under(m, rec, VALUE, e, from) {
             Position::At(i) => {
-                p = put_value(out, p, m, rec, text, name, i);
+                p = put_value(out, p, m, rec, text, name, width, i);
                 from = i + 1;
             }
             Position::Nothing => {

@@ -7,7 +7,7 @@ use Rattle.xmltoproto.proofs.enums.put_value.Reads as reads
 use Rattle.xmltoproto.proofs.enums.put_value.Lts as lts
 use Rattle.names.proofs.convert.put_screaming.Reads as put-screaming-reads
 use Rattle.printing.proofs.put_bytes.Reads as put-bytes-reads
-use Rattle.xmltoproto.proofs.enums.put_prefix.Reads as put-prefix-reads
+use Rattle.xmltoproto.proofs.enums.put_known_prefix.Reads as put-known-prefix-reads
 use Rattle.xmltoproto.proofs.view.name_at.Reads as name-at-reads
 use Rattle.xmltoproto.proofs.view.second_at.Reads as second-at-reads
 
@@ -20,8 +20,8 @@ put-bytes-requires : tie.Need-put-bytes-requires
 put-bytes-requires c κs = search laws
 
 -- src/enums.rt:41:9
-put-prefix-requires : tie.Need-put-prefix-requires
-put-prefix-requires c κs = search laws
+put-known-prefix-requires : tie.Need-put-known-prefix-requires
+put-known-prefix-requires c κs = search laws
 
 -- src/enums.rt:42:35
 name-at-requires : tie.Need-name-at-requires
@@ -64,9 +64,9 @@ returns c =
     let at-put-bytes2 = at-second-at .before .before .before .before in
     let at-put-screaming = at-put-bytes2 .before .before .before .before .before in
     let at-name-at = at-put-screaming .before in
-    let at-put-prefix = at-name-at .before .before .before .before in
-    let at-put-bytes = at-put-prefix .before .before .before .before in
-    value-printed _ _ (at-name-at .name-at .ensures) (at-second-at .second-at .ensures) ((at-put-bytes .put-bytes .ensures) ▸ (at-put-prefix .put-prefix .ensures) ▸ (at-put-screaming .put-screaming .ensures) ▸ (at-put-bytes2 .put-bytes2 .ensures) ▸ (at-put-bytes3 .put-bytes3 .ensures) ▸ (at-put-bytes4 .put-bytes4 .ensures))
+    let at-put-known-prefix = at-name-at .before .before .before .before in
+    let at-put-bytes = at-put-known-prefix .before .before .before .before in
+    value-printed _ _ (at-name-at .name-at .ensures) (at-second-at .second-at .ensures) ((at-put-bytes .put-bytes .ensures) ▸ (at-put-known-prefix .put-known-prefix .ensures) ▸ (at-put-screaming .put-screaming .ensures) ▸ (at-put-bytes2 .put-bytes2 .ensures) ▸ (at-put-bytes3 .put-bytes3 .ensures) ▸ (at-put-bytes4 .put-bytes4 .ensures))
 
 -- src/enums.rt:29:1
 same-length : tie.Need-same-length
@@ -78,7 +78,7 @@ put-value-spec =
     (tie.spec
     slice-aggregate-put-bytes
     put-bytes-requires
-    put-prefix-requires
+    put-known-prefix-requires
     name-at-requires
     put-screaming-requires
     slice-aggregate-put-bytes-2

@@ -12,35 +12,44 @@ use Rattle.xmltoproto.proofs.enums.put_values.Reads as reads
 use Rattle.xmltoproto.proofs.enums.put_values.Lts as lts
 use Rattle.xmlschema.proofs.items.count.Reads as count-reads
 use Rattle.xmlschema.proofs.items.next_under.Reads as next-under-reads
+use Rattle.xmltoproto.proofs.enums.put_prefix.Reads as put-prefix-reads
 use Rattle.xmltoproto.proofs.enums.put_value.Reads as put-value-reads
 
 abbrev Inv-loop : tie.InvT-loop
-Inv-loop out₀ at m rec text name e n p₀ from₀ out p from = Walking (λ v. valueText name (itemAt (schemaOf m rec text) v)) (under aValue e (schemaOf m rec text)) (underOwner aValue e) (schemaOf m rec text) from out₀ at out p
+Inv-loop out₀ at m rec text name e width n p₀ from₀ out p from = Walking (λ v. valueText name (itemAt (schemaOf m rec text) v)) (under aValue e (schemaOf m rec text)) (underOwner aValue e) (schemaOf m rec text) from out₀ at out p
 
 abbrev μ-loop : tie.MeasureT-loop
-μ-loop out₀ at m rec text name e n p₀ from₀ out p from = n - from
+μ-loop out₀ at m rec text name e width n p₀ from₀ out p from = n - from
 
--- src/enums.rt:59:9
+-- src/enums.rt:75:28
+slice-aggregate-put-prefix : tie.Need-slice-aggregate-put-prefix Inv-loop μ-loop
+slice-aggregate-put-prefix c = search laws
+
+-- src/enums.rt:75:9
+put-prefix-requires : tie.Need-put-prefix-requires Inv-loop μ-loop
+put-prefix-requires c κs = search laws
+
+-- src/enums.rt:76:9
 count-requires : tie.Need-count-requires Inv-loop μ-loop
 count-requires c κs = search laws
 
--- src/enums.rt:62:5
+-- src/enums.rt:79:5
 loop-holds : tie.Need-loop-holds Inv-loop μ-loop
 loop-holds c = search laws
 
--- src/enums.rt:63:15
+-- src/enums.rt:80:15
 next-under-requires : tie.Need-next-under-requires Inv-loop μ-loop
 next-under-requires c κs = search laws
 
--- src/enums.rt:64:26
+-- src/enums.rt:81:26
 enum-known-i : tie.Need-enum-known-i Inv-loop μ-loop
 enum-known-i c = search laws
 
--- src/enums.rt:65:17
+-- src/enums.rt:82:17
 put-value-requires : tie.Need-put-value-requires Inv-loop μ-loop
 put-value-requires c κs = search laws
 
--- src/enums.rt:66:24
+-- src/enums.rt:83:24
 add-from : tie.Need-add-from Inv-loop μ-loop
 add-from c =
     let at-i = c .before .before .before .before .before in
@@ -49,7 +58,7 @@ add-from c =
     let h = under-within _ _ _ _ _ (at-i .i .given .1) _ (at-next-under .next-under .ensures) (at-count .count .ensures) in
     omega (arith, h)
 
--- src/enums.rt:62:5
+-- src/enums.rt:79:5
 loop-less : tie.Need-loop-less Inv-loop μ-loop
 loop-less c =
     let at-i = c .before .before .before .before .before in
@@ -58,27 +67,27 @@ loop-less c =
     let h = under-within _ _ _ _ _ (at-i .i .given .1) _ (at-next-under .next-under .ensures) (at-count .count .ensures) in
     omega (arith, h)
 
--- src/enums.rt:62:5
+-- src/enums.rt:79:5
 loop-again : tie.Need-loop-again Inv-loop μ-loop
 loop-again c = search laws
 
--- src/enums.rt:69:17
+-- src/enums.rt:86:17
 enum-told : tie.Need-enum-told Inv-loop μ-loop
 enum-told c = search laws
 
--- src/enums.rt:69:17
+-- src/enums.rt:86:17
 same-length : tie.Need-same-length Inv-loop μ-loop
 same-length c = search laws
 
--- src/enums.rt:69:17
+-- src/enums.rt:86:17
 returns : tie.Need-returns Inv-loop μ-loop
 returns c = search laws
 
--- src/enums.rt:48:1
+-- src/enums.rt:63:1
 same-length-2 : tie.Need-same-length-2 Inv-loop μ-loop
 same-length-2 c = search laws
 
--- src/enums.rt:48:1
+-- src/enums.rt:63:1
 returns-2 : tie.Need-returns-2 Inv-loop μ-loop
 returns-2 c = search laws
 
@@ -88,6 +97,8 @@ put-values-spec =
     (tie.spec
     Inv-loop
     μ-loop
+    slice-aggregate-put-prefix
+    put-prefix-requires
     count-requires
     loop-holds
     next-under-requires
