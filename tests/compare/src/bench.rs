@@ -56,7 +56,7 @@ fn most(before: &str, each: impl Fn(usize) -> String, after: &str, count: usize)
 }
 
 /// What may be slow for either side, within the limits.
-fn hard() -> Vec<(&'static str, String)> {
+pub fn hard() -> Vec<(&'static str, String)> {
     vec![
         ("nothing", String::new()),
         ("text alone", "x".repeat(32_768)),

@@ -1,7 +1,9 @@
 //! Calls of the proved static libraries: the only unsafe code. Every call gets an output with known
 //! bytes in and around it, and three numbers that it has to set.
 
+use std::arch::asm;
 use std::fmt;
+use std::hint::black_box;
 
 use crate::markup::events::Reading;
 use crate::names::Conversion;
@@ -295,4 +297,42 @@ impl Converter {
             (number, _) => Err(number),
         }
     }
+
+    /// How many bytes of stack a call touches, with this function's own few.
+    pub fn stack_used(&mut self, document: &[u8]) -> usize {
+        let mut stack = vec![PAINT; STACK / 8];
+        let mut job = Job { converter: self, document };
+        // SAFETY: `convert_job` gets a stack of its own, whose top is aligned as the ABI asks, and a job that
+        // lives. r12 and r13 are kept by every callee, so that the old stack is found again.
+        unsafe {
+            let top = (stack.as_mut_ptr_range().end as usize) & !15;
+            asm!(
+                "xchg rsp, r12",
+                "call r13",
+                "mov rsp, r12",
+                inout("r12") top => _,
+                in("r13") convert_job as extern "C" fn(&mut Job<'_>),
+                in("rdi") &mut job,
+                clobber_abi("C"),
+            );
+        }
+        let untouched = stack.iter().take_while(|word| **word == PAINT).count();
+        8 * (stack.len() - untouched)
+    }
+}
+
+// ---- the stack
+
+/// Far more than is allowed.
+const STACK: usize = 8 << 20;
+const PAINT: u64 = 0x5af0_c3e1_963c_a5d2;
+
+/// A call on another stack.
+struct Job<'a> {
+    converter: &'a mut Converter,
+    document: &'a [u8],
+}
+
+extern "C" fn convert_job(job: &mut Job<'_>) {
+    black_box(job.converter.call(job.document));
 }

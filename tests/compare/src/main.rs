@@ -11,6 +11,7 @@ mod prng;
 mod record;
 mod refusals;
 mod schema;
+mod stack;
 mod suite;
 mod survey;
 
@@ -26,6 +27,7 @@ const SUITES: &[(&str, Run)] = &[
     ("markup", || suite::run(&markup::Markup)),
     ("schema", || suite::run(&schema::Schemas)),
     ("convert", || suite::run(&convert::Conversions)),
+    ("stack", stack::run),
 ];
 
 /// Writes recorded answers into a folder; false where that fails.
