@@ -43,8 +43,8 @@ pub extern "C" fn sbe_xml_to_proto(
 ) -> u32
     ensures { λ r. ⌜ ConversionReports (answerOf (now (document .entry)) (length (now (records .entry))) (length (now (text .entry)))) (now (output .entry)) (now (output .exit)) r (now (offset .exit)) (now (place .exit)) (now (n .exit)) ⌝ }
 {
-    let answer = xmltoproto::xml_to_proto(document, records, text, output);
-    report(answer, offset, place, n)
+    let converted = xmltoproto::xml_to_proto(document, records, text, output);
+    report(converted, offset, place, n)
 }
 
 #[no_mangle]
