@@ -1,4 +1,4 @@
--- Laws of the look-up: what the loop of `attribute` keeps.
+-- Laws of the look-up: what the loop of `attributes` keeps.
 use mathlib.Core.Path.{_≡_, refl, sym, ap, _∙_}
 use mathlib.Core.Bool.{Bool, true, false}
 use mathlib.Core.List.{List}
@@ -13,6 +13,7 @@ use Rattle.saxlite.specs.declared.tag.Found.{Found}
 use Rattle.saxlite.specs.declared.tag.Found.the-variants.{Value, Absent}
 use Rattle.saxlite.specs.Names.{prefixLength, localName, isXmlns}
 use Rattle.saxlite.specs.Attributes.{tagPartAt, Tag, withPart, tagAt, later, lastOf, attributeAt}
+use Rattle.saxlite.specs.Noting.{valueIfNamed}
 use Rattle.saxlite.proofs.Naming.{local-of}
 use Rattle.saxlite.proofs.Tagging.{tag-part, tag-end, tag-bad}
 
@@ -31,10 +32,6 @@ later-assoc : (f g h : Found) → later (later f g) h ≡ later f (later g h)
 later-assoc (Value from len) g h = refl
 later-assoc Absent g h = refl
 
--- the value of one attribute, where it has that name
-abbrev pub valueIfNamed : List ℕ → ℕ → ℕ → List ℕ → Found
-valueIfNamed raw value len name = pick (isXmlns raw) Absent (pick (same (localName raw) name) (Value value len) Absent)
-
 -- the look-up in a tag with one more attribute at its front
 last-with : (doc : List ℕ) (raw n value len : ℕ) (rest : Tag) (name : List ℕ) (found : Found) → later (lastOf name (withPart doc raw n value len rest .attributes)) found ≡ later (lastOf name (rest .attributes)) (later (valueIfNamed (piece doc raw n) value len name) found)
 unfolding withPart lastOf
@@ -43,21 +40,27 @@ last-with doc raw n value len rest name found =
     (λ t. simp (pick-yes, t))
     (λ f. simp (pick-no, f, later-assoc))
 
--- ---- the code's own test: w is the raw name, v its local name, b and c what the tests say
+-- ---- the code's own tests: b is what the comparison of a name and a key says
 
-module _ (doc : List ℕ) (raw n value len : ℕ) (name : List ℕ) {w : List ℕ} (e : w ≡ piece doc raw n) {b : Bool} (x : b ≡ isXmlns w) where
-  pub named-xmlns : b ≡ true → Absent ≡ valueIfNamed (piece doc raw n) value len name
+module _ (name key : List ℕ) (value len : ℕ) {b : Bool} (e : b ≡ same name key) where
+  pub value-yes : b ≡ true → Value value len ≡ pick (same name key) (Value value len) Absent
+  value-yes t = rw (← e, t)
+
+  pub value-no : b ≡ false → Absent ≡ pick (same name key) (Value value len) Absent
+  value-no f = rw (← e, f)
+
+pub latest-is : (name key : List ℕ) (value len : ℕ) (earlier : Found) {this r : Found} → this ≡ pick (same name key) (Value value len) Absent → r ≡ later this earlier → r ≡ later (pick (same name key) (Value value len) Absent) earlier
+latest-is name key value len earlier e f = rw e at f
+
+-- w is the raw name, and b whether it declares a namespace; v is the local name, and y what is found under a key
+module _ (doc : List ℕ) (raw n value len : ℕ) (key : List ℕ) (was : Found) {w : List ℕ} (e : w ≡ piece doc raw n) {b : Bool} (x : b ≡ isXmlns w) where
+  pub named-xmlns : b ≡ true → was ≡ later (valueIfNamed (piece doc raw n) value len key) was
   named-xmlns t = rw (← e, ← x, t)
 
-  module _ (f : b ≡ false) {lost : ℕ} (l : lost ≡ prefixLength w) {v : List ℕ} (p : v ≡ piece w lost n) {c : Bool} (s : c ≡ same v name) where
-    same-local : c ≡ same (localName (piece doc raw n)) name
-    same-local = s ∙ ap (λ (u : List ℕ). same u name) (p ∙ local-of doc raw n e l)
-
-    pub named-value : c ≡ true → Value value len ≡ valueIfNamed (piece doc raw n) value len name
-    named-value t = rw (← same-local, t, ← e, ← x, f)
-
-    pub named-other : c ≡ false → Absent ≡ valueIfNamed (piece doc raw n) value len name
-    named-other t = rw (← same-local, t, ← e, ← x, f)
+  pub named-local : b ≡ false → {lost : ℕ} → lost ≡ prefixLength w → {v : List ℕ} → v ≡ piece w lost n → {y : Found} → y ≡ later (pick (same v key) (Value value len) Absent) was → y ≡ later (valueIfNamed (piece doc raw n) value len key) was
+  named-local f l p h =
+      let z = p ∙ local-of doc raw n e l in
+      rw (← z, ← e, ← x, f) h
 
 -- ---- a loop that looks a name up in the tag at `at` stands at i, and has found `found`; p is the part at i
 
@@ -69,10 +72,9 @@ unfolding attributeAt
 looking-start {doc} {at} {name} = record { rest = later-absent (lastOf name (tagAt doc at 0 .attributes)) }
 
 module _ {doc : List ℕ} {at : ℕ} {name : List ℕ} {i : ℕ} {found : Found} (inv : Looking doc at name i found) {p : TagPart} (e : p ≡ tagPartAt doc i 0) where
-  -- v is the value of the attribute there, where it has that name, and g the later of it and what was found
-  pub looking-on : {raw n value len next : ℕ} → p ≡ Part raw n value len next → {v : Found} → v ≡ valueIfNamed (piece doc raw n) value len name → {g : Found} → g ≡ later v found → Looking doc at name next g
-  looking-on {raw} {n} {value} {len} {next} f {v} h {g} l =
-      let m : g ≡ later (valueIfNamed (piece doc raw n) value len name) found = l ∙ ap (λ (u : Found). later u found) h in
+  -- g is the later of the attribute there, where it has that name, and what was found
+  pub looking-on : {raw n value len next : ℕ} → p ≡ Part raw n value len next → {g : Found} → g ≡ later (valueIfNamed (piece doc raw n) value len name) found → Looking doc at name next g
+  looking-on {raw} {n} {value} {len} {next} f m =
       record { rest = ap (later (lastOf name (tagAt doc next 0 .attributes))) m ∙ sym (last-with doc raw n value len (tagAt doc next 0) name found) ∙ (rw (tag-part doc i 0 (sym e ∙ f)) at (inv .rest)) }
 
   pub looking-end : {next : ℕ} {closed : Bool} → p ≡ TagEnd next closed → found ≡ attributeAt doc at name

@@ -2,7 +2,7 @@
 //
 // `step::step_at` tells what stands at a place of the document: text, an open tag, a close tag,
 // markup that is passed over, the end, or a refusal (11 to 20). An open tag has been read whole
-// before it is told of, so that `tag::attribute` can look a name up in it and never fails.
+// before it is told of, so that `tag::attributes` can look names up in it and never fails.
 // `entities::decode` writes a text or a value, its entities decoded, into a lent slice.
 //
 // Nothing is required of a caller. Each promise is one equation with a definition of specs/, on all

@@ -9,7 +9,7 @@ ghost use mathlib.Core.Path.{_≡_};
 ghost use Rattle.texts.specs.Choice.{pick};
 ghost use Rattle.texts.specs.Text.{piece, same};
 ghost use Rattle.saxlite.specs.Attributes.{quotedAt, valueAt, attributePartAt, tagPartAt, tagAt, later, attributeAt};
-ghost use Rattle.saxlite.specs.Names.{localName, isXmlns};
+ghost use Rattle.saxlite.specs.Noting.{NotedWith};
 ghost use Rattle.saxlite.specs.declared.tag.Found.the-variants.{Value, Absent};
 
 // One part of a tag: an attribute with the ranges of its raw name and raw value, the tag's end, or
@@ -39,6 +39,14 @@ pub enum Ending {
 pub enum Found {
     Value { from: usize, len: usize },
     Absent,
+}
+
+// What was found under four names.
+pub struct Noted {
+    pub first: Found,
+    pub second: Found,
+    pub third: Found,
+    pub fourth: Found,
 }
 
 // The value that begins at `at`, up to the next `quote`.
@@ -149,21 +157,6 @@ pub fn tag_ending(doc: &[u8], at: usize, place: usize) -> Ending
     }
 }
 
-// The value of one attribute, where its local name is `name` and it declares no namespace.
-fn value_if_named(doc: &[u8], raw: usize, n: usize, value: usize, len: usize, name: &[u8]) -> Found
-    ensures { λ r. ⌜ r ≡ pick (isXmlns (piece (now (doc .entry)) raw n)) Absent (pick (same (localName (piece (now (doc .entry)) raw n)) (now (name .entry))) (Value value len) Absent) ⌝ }
-{
-    let whole = texts::part(doc, raw, n);
-    if is_xmlns(whole) {
-        return Found::Absent;
-    }
-    let lost = prefix_len(whole);
-    if texts::equal(texts::part(whole, lost, n), name) {
-        return Found::Value { from: value, len };
-    }
-    Found::Absent
-}
-
 // Of equal names the last counts.
 fn later_of(found: Found, earlier: Found) -> Found
     ensures { λ r. ⌜ r ≡ later found earlier ⌝ }
@@ -174,36 +167,121 @@ fn later_of(found: Found, earlier: Found) -> Found
     }
 }
 
-// The raw value of the last attribute of that name, in the tag whose attributes begin at `at`.
-pub fn attribute(doc: &[u8], at: usize, name: &[u8]) -> Found
-    ensures { λ r. ⌜ r ≡ attributeAt (now (doc .entry)) at (now (name .entry)) ⌝ }
+// The value of an attribute, where its name is `key`.
+fn value_if(name: &[u8], key: &[u8], value: usize, len: usize) -> Found
+    ensures { λ r. ⌜ r ≡ pick (same (now (name .entry)) (now (key .entry))) (Value value len) Absent ⌝ }
+{
+    if texts::equal(name, key) {
+        return Found::Value { from: value, len };
+    }
+    Found::Absent
+}
+
+// The value of an attribute, where its name is `key`, else what was found earlier.
+fn latest(name: &[u8], key: &[u8], value: usize, len: usize, earlier: Found) -> Found
+    ensures { λ r. ⌜ r ≡ later (pick (same (now (name .entry)) (now (key .entry))) (Value value len) Absent) earlier ⌝ }
+{
+    let this = value_if(name, key, value, len);
+    later_of(this, earlier)
+}
+
+// What is noted with one more attribute; one that declares a namespace counts for nothing.
+fn noted_with(
+    doc: &[u8],
+    raw: usize,
+    n: usize,
+    value: usize,
+    len: usize,
+    first: &[u8],
+    second: &[u8],
+    third: &[u8],
+    fourth: &[u8],
+    earlier: Noted,
+) -> Noted
+    ensures { λ r. ⌜ NotedWith (piece (now (doc .entry)) raw n) value len (now (first .entry)) (now (second .entry)) (now (third .entry)) (now (fourth .entry)) earlier r ⌝ }
+{
+    let whole = texts::part(doc, raw, n);
+    if is_xmlns(whole) {
+        return earlier;
+    }
+    let lost = prefix_len(whole);
+    let name = texts::part(whole, lost, n);
+    let was1 = earlier.first;
+    let was2 = earlier.second;
+    let was3 = earlier.third;
+    let was4 = earlier.fourth;
+    let now1 = latest(name, first, value, len, was1);
+    let now2 = latest(name, second, value, len, was2);
+    let now3 = latest(name, third, value, len, was3);
+    let now4 = latest(name, fourth, value, len, was4);
+    Noted {
+        first: now1,
+        second: now2,
+        third: now3,
+        fourth: now4,
+    }
+}
+
+// The raw values of the last attributes of four names, in the tag whose attributes begin at `at`.
+pub fn attributes(
+    doc: &[u8],
+    at: usize,
+    first: &[u8],
+    second: &[u8],
+    third: &[u8],
+    fourth: &[u8],
+) -> Noted
+    ensures { λ r. ⌜ (r .first ≡ attributeAt (now (doc .entry)) at (now (first .entry))) × (r .second ≡ attributeAt (now (doc .entry)) at (now (second .entry))) × (r .third ≡ attributeAt (now (doc .entry)) at (now (third .entry))) × (r .fourth ≡ attributeAt (now (doc .entry)) at (now (fourth .entry))) ⌝ }
 {
     let mut i = at;
-    let mut found = Found::Absent;
+    let mut noted = Noted {
+        first: Found::Absent,
+        second: Found::Absent,
+        third: Found::Absent,
+        fourth: Found::Absent,
+    };
     loop {
         // The place matters to refusals alone, and none is told here.
         let part = tag_part(doc, i, 0);
         match part {
             TagPart::Attribute {
-                name: raw,
+                name,
                 name_len,
                 value,
                 value_len,
                 next,
             } => {
-                let this = value_if_named(doc, raw, name_len, value, value_len, name);
-                found = later_of(this, found);
+                noted = noted_with(
+                    doc,
+                    name,
+                    name_len,
+                    value,
+                    value_len,
+                    first,
+                    second,
+                    third,
+                    fourth,
+                    noted,
+                );
                 i = next;
             }
             TagPart::TagEnd {
                 next: _,
                 self_closed: _,
             } => {
-                return found;
+                return noted;
             }
             TagPart::Bad(_) => {
-                return found;
+                return noted;
             }
         }
     }
+}
+
+// The raw value of the last attribute of that name, in the tag whose attributes begin at `at`.
+pub fn attribute(doc: &[u8], at: usize, name: &[u8]) -> Found
+    ensures { λ r. ⌜ r ≡ attributeAt (now (doc .entry)) at (now (name .entry)) ⌝ }
+{
+    let noted = attributes(doc, at, name, b"", b"", b"");
+    noted.first
 }

@@ -2,14 +2,14 @@ use Rattle.saxlite.proofs.Laws.{laws}
 use Prim.Native.Nat.{_-_}
 use lib.ListN.{length}
 use Rattle.saxlite.proofs.Looking.{Looking}
-use Rattle.saxlite.proofs.tag.attribute.Statement.{statement}
-use Rattle.saxlite.proofs.tag.attribute.Tie as tie
+use Rattle.saxlite.proofs.tag.attributes.Statement.{statement}
+use Rattle.saxlite.proofs.tag.attributes.Tie as tie
 
 abbrev Inv-loop : tie.InvT-loop
-Inv-loop doc at name i₀ found₀ i found = Looking doc at name i found
+Inv-loop doc at first second third fourth i₀ noted₀ i noted = Looking doc at first i (noted .first) × Looking doc at second i (noted .second) × Looking doc at third i (noted .third) × Looking doc at fourth i (noted .fourth)
 
 abbrev μ-loop : tie.MeasureT-loop
-μ-loop doc at name i₀ found₀ i found = length doc - i
+μ-loop doc at first second third fourth i₀ noted₀ i noted = length doc - i
 
 loop-holds : tie.Need-loop-holds Inv-loop μ-loop
 loop-holds c = search laws
@@ -20,17 +20,14 @@ tag-part-requires c κs = search laws
 enum-known-part : tie.Need-enum-known-part Inv-loop μ-loop
 enum-known-part c = search laws
 
-value-if-named-requires : tie.Need-value-if-named-requires Inv-loop μ-loop
-value-if-named-requires c κs = search laws
-
-later-of-requires : tie.Need-later-of-requires Inv-loop μ-loop
-later-of-requires c κs = search laws
+noted-with-requires : tie.Need-noted-with-requires Inv-loop μ-loop
+noted-with-requires c κs = search laws
 
 loop-less : tie.Need-loop-less Inv-loop μ-loop
 loop-less c = search laws
 
 loop-again : tie.Need-loop-again Inv-loop μ-loop
-loop-again c = search laws
+loop-again c = (search laws, search laws, search laws, search laws)
 
 enum-told : tie.Need-enum-told Inv-loop μ-loop
 enum-told c = search laws
@@ -44,8 +41,8 @@ enum-told-2 c = search laws
 returns-2 : tie.Need-returns-2 Inv-loop μ-loop
 returns-2 c = search laws
 
-pub attribute-spec : {M : Type 1} → statement M
-attribute-spec =
+pub attributes-spec : {M : Type 1} → statement M
+attributes-spec =
     tie.close
     (tie.spec
     Inv-loop
@@ -53,8 +50,7 @@ attribute-spec =
     loop-holds
     tag-part-requires
     enum-known-part
-    value-if-named-requires
-    later-of-requires
+    noted-with-requires
     loop-less
     loop-again
     enum-told
