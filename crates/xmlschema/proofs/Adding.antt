@@ -106,7 +106,7 @@ module _ (s : State) (l : Limits) (place : ℕ) (e : Entry) (doc rec text : List
     add-fine er = rw er added-fine
 
 -- an item whose texts were taken on the way
-module _ (s : State) (l : Limits) (place n m : ℕ) (it : Item) (doc rec text : List ℕ) (r : Ready s n rec text) (h : m ≤ n) {e : Entry} {t : List ℕ} (p : Made it m (s .place .high) text e t) where
+module _ (s : State) (l : Limits) (place n : ℕ) (it : Item) (doc rec text : List ℕ) (r : Ready s n rec text) {e : Entry} {t : List ℕ} (p : Made it n (s .place .high) text e t) where
   below : s .place .low ≤ e .encoding
   below = omega (arith, p .start, r .room)
 
@@ -161,5 +161,6 @@ pub current-added : (s : State) (rec text : List ℕ) {n : ℕ} → n ≡ s .pla
 unfolding current schemaOf
 current-added s rec text e = rw (e, add-one, length-items)
 
-pub added-after : {l : Limits} {place : ℕ} {it : Item} {s : State} {n : ℕ} {doc rec text : List ℕ} {r : Stepped} {rec′ text′ : List ℕ} → Added l place it s n doc rec text r rec′ text′ → After (added l place it (builderOf s doc rec text)) s n doc r rec′ text′
-added-after p = p .after
+-- more space than an item took
+pub added-more : {l : Limits} {place : ℕ} {it : Item} {s : State} {n : ℕ} (m : ℕ) {doc rec text : List ℕ} {r : Stepped} {rec′ text′ : List ℕ} → n ≤ m → Added l place it s n doc rec text r rec′ text′ → Added l place it s m doc rec text r rec′ text′
+added-more m h p = record { after = after-more m h (p .after); counted = p .counted }

@@ -14,6 +14,7 @@ use Rattle.texts.specs.Choice.{pick}
 use Rattle.texts.specs.Text.{ascii, piece, same}
 use Rattle.texts.proofs.Stores.{piece-above}
 use Rattle.refusals.specs.declared.Refusal.the-variants.{TooDeep}
+use Rattle.saxlite.specs.declared.tag.Found.{Found}
 use Rattle.saxlite.specs.Attributes.{attributeAt, rawLength}
 use Rattle.saxlite.specs.Event.{valueIn}
 use Rattle.xmlschema.specs.Schema.{Item, Schema, noItem, itemAt}
@@ -35,10 +36,10 @@ use Rattle.xmlschema.specs.declared.state.Stepped.{Stepped}
 use Rattle.xmlschema.specs.declared.state.Verdict.the-variants.{Fine, Refused}
 use Rattle.xmlschema.specs.declared.take.Taken.{Taken}
 use Rattle.xmlschema.proofs.Records.{getD-items, length-items}
-use Rattle.xmlschema.proofs.Alikes.{alike-self, alike-wider, alike-trans, builder-alike, kept-alike, tag-one}
+use Rattle.xmlschema.proofs.Alikes.{alike-self, alike-wider, alike-trans, builder-alike, kept-alike}
 use Rattle.xmlschema.proofs.Stacking.{length-stack, push-ready, push-builder}
 use Rattle.xmlschema.proofs.Adding.{after-refused, after-same, after-as}
-use Rattle.xmlschema.proofs.Opening.{numberAt, parsed-some, number-builder, number-ready}
+use Rattle.xmlschema.proofs.Opening.{one-least, number-is, number-builder, number-ready}
 
 -- ---- messageSchema
 
@@ -49,25 +50,25 @@ schema-by place a b id version f g = rw (f, g)
 
 -- two numbers, then the package's name
 module _ (place : ℕ) (s : State) (doc rec text : List ℕ) (attributes next : ℕ) (r : Ready s (next - attributes) rec text) (g : Tagged doc attributes next)
-    {t₁ : List ℕ} {x : Number} (p₁ : ReadAt (attributeAt doc attributes (ascii "id")) doc (s .place .low) text x t₁)
+    {f₁ : Found} (e₁ : f₁ ≡ attributeAt doc attributes (ascii "id")) {t₁ : List ℕ} {x : Number} (p₁ : ReadAt f₁ doc (s .place .low) text x t₁)
   where
     ready₁ : Ready s (next - attributes) rec t₁
-    ready₁ = number-ready s doc rec text attributes next r g (ascii "id") p₁
+    ready₁ = number-ready s doc rec text attributes next r g (ascii "id") e₁ p₁
 
-    pub version-room : (key : List ℕ) → s .place .low + rawLength (attributeAt doc attributes key) ≤ length t₁
-    version-room key = omega (arith, tag-one doc attributes next g key, ready₁ .room, ready₁ .kept .top, ready₁ .kept .bytes)
+    pub version-room : {f : Found} → f ≡ attributeAt doc attributes (ascii "version") → s .place .low + rawLength f ≤ length t₁
+    version-room e = omega (arith, one-least doc attributes next g (ascii "version") e, ready₁ .room, ready₁ .kept .top, ready₁ .kept .bytes)
 
-    module _ {t₂ : List ℕ} {y : Number} (p₂ : ReadAt (attributeAt doc attributes (ascii "version")) doc (s .place .low) t₁ y t₂) where
+    module _ {f₂ : Found} (e₂ : f₂ ≡ attributeAt doc attributes (ascii "version")) {t₂ : List ℕ} {y : Number} (p₂ : ReadAt f₂ doc (s .place .low) t₁ y t₂) where
       ready₂ : Ready s (next - attributes) rec t₂
-      ready₂ = number-ready s doc rec t₁ attributes next ready₁ g (ascii "version") p₂
+      ready₂ = number-ready s doc rec t₁ attributes next ready₁ g (ascii "version") e₂ p₂
 
-      pub package-high : rawLength (attributeAt doc attributes (ascii "package")) ≤ s .place .high
-      package-high = omega (arith, tag-one doc attributes next g (ascii "package"), ready₂ .room)
+      pub package-high : {f : Found} → f ≡ attributeAt doc attributes (ascii "package") → rawLength f ≤ s .place .high
+      package-high e = omega (arith, one-least doc attributes next g (ascii "package") e, ready₂ .room)
 
       pub package-text : s .place .high ≤ length t₂
       package-text = omega (arith, ready₂ .kept .top, ready₂ .kept .bytes)
 
-      module _ {t₃ : List ℕ} {k : Taken} (q : TakenAt (attributeAt doc attributes (ascii "package")) doc t₂ (s .place .high) k t₃) where
+      module _ {f₃ : Found} {t₃ : List ℕ} {k : Taken} (q : TakenAt f₃ doc t₂ (s .place .high) k t₃) where
         pub package-fits : Fits w32 (k .from)
         package-fits = omega (arith, q .start, ready₂ .kept .top)
 
@@ -75,11 +76,11 @@ module _ (place : ℕ) (s : State) (doc rec text : List ℕ) (attributes next : 
         package-long = omega (arith, q .start, q .within, ready₂ .kept .top)
 
       builder₂ : builderOf s doc rec t₂ ≡ builderOf s doc rec text
-      builder₂ = number-builder s doc rec t₁ attributes next ready₁ g (ascii "version") p₂ ∙ number-builder s doc rec text attributes next r g (ascii "id") p₁
+      builder₂ = number-builder s doc rec t₁ attributes next ready₁ g (ascii "version") e₂ p₂ ∙ number-builder s doc rec text attributes next r g (ascii "id") e₁ p₁
 
-      module _ {t₃ : List ℕ} {k : Taken} (q : TakenAt (attributeAt doc attributes (ascii "package")) doc t₂ (s .place .high) k t₃) (id version : ℕ) where
+      module _ {f₃ : Found} (e₃ : f₃ ≡ attributeAt doc attributes (ascii "package")) {t₃ : List ℕ} {k : Taken} (q : TakenAt f₃ doc t₂ (s .place .high) k t₃) (id version : ℕ) where
         low : s .place .low ≤ k .from
-        low = omega (arith, tag-one doc attributes next g (ascii "package"), ready₂ .room, q .start)
+        low = omega (arith, one-least doc attributes next g (ascii "package") e₃, ready₂ .room, q .start)
 
         abbrev now : State
         now = record { place = record { depth = s .place .depth; count = s .place .count; low = s .place .low; high = k .from; start = s .place .start }; current = s .current; head = record { name = k .from; len = k .len; id = id; version = version } }
@@ -90,7 +91,7 @@ module _ (place : ℕ) (s : State) (doc rec text : List ℕ) (attributes next : 
         schema-now : (t : List ℕ) → Alike (s .place .low) (k .from) t₃ t → schemaOf (modelIn now) rec t ≡ record { packageName = textIn (attributesIn doc attributes) "package"; id = id; version = version; items = schemaOf (modelIn s) rec t₂ .items }
         unfolding schemaOf
         schema-now t a =
-            let n : piece t (k .from) (k .len) ≡ orEmpty (valueIn doc (attributeAt doc attributes (ascii "package"))) = piece-above t₃ t (k .from) (k .from) (k .len) (omega arith) (a .above) ∙ q .is in
+            let n : piece t (k .from) (k .len) ≡ orEmpty (valueIn doc (attributeAt doc attributes (ascii "package"))) = piece-above t₃ t (k .from) (k .from) (k .len) (omega arith) (a .above) ∙ q .is ∙ ap (λ (x : Found). orEmpty (valueIn doc x)) e₃ in
             let i : itemsOf (s .place .count) rec t ≡ itemsOf (s .place .count) rec t₂ =
             ap (λ (x : Schema). x .items) (ready₂ .kept .stable t (alike-trans whole (alike-wider t₃ t (s .place .low) (k .from) (s .place .high) (omega (arith, q .start)) a))) in
             rw (n, i)
@@ -101,7 +102,7 @@ module _ (place : ℕ) (s : State) (doc rec text : List ℕ) (attributes next : 
             let c : piece t₃ (s .place .start) (s .place .low - s .place .start) ≡ piece t₂ (s .place .start) (s .place .low - s .place .start) =
             ap (λ (b : Builder). b .collected) (builder-alike s doc rec t₂ t₃ (ready₂ .kept) whole) in
             after-as
-            (schema-by place (attributesIn doc attributes) (builderOf s doc rec t₂) id version (parsed-some (numberAt doc attributes (ascii "id")) id (p₁ .is) ex) (parsed-some (numberAt doc attributes (ascii "version")) version (p₂ .is) ey)
+            (schema-by place (attributesIn doc attributes) (builderOf s doc rec t₂) id version (number-is doc attributes (ascii "id") e₁ p₁ id ex) (number-is doc attributes (ascii "version") e₂ p₂ version ey)
             ∙ ap (openSchema place (attributesIn doc attributes)) builder₂)
             (record {
               is = rw (c, schema-now t₃ alike-self);
@@ -116,7 +117,7 @@ module _ (place : ℕ) (s : State) (doc rec text : List ℕ) (attributes next : 
                     bytes = omega (arith, q .long, ready₂ .kept .bytes);
                     stable = λ t a. schema-now t a ∙ sym (schema-now t₃ alike-self);
                   };
-              used = λ v. omega (arith, q .start, ready₂ .kept .top, tag-one doc attributes next g (ascii "package"));
+              used = λ v. omega (arith, q .start, ready₂ .kept .top, one-least doc attributes next g (ascii "package") e₃);
             })
 
 -- ---- the owner of an item

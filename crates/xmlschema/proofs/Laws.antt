@@ -5,8 +5,8 @@ use Rattle.xmlschema.proofs.Showing.{count-shown, item-shown, no-item-s
 use Rattle.xmlschema.proofs.Searching.{kind-and, kind-named, kind-not, seeking-start, seeking-on, next-none, next-found, next-under-none, next-under-found, backward-start, named-on, last-none, last-found, any-start, any-on, any-none, any-found}
 use Rattle.xmlschema.proofs.Takes.{value-least, taken-absent, taken-value, taken-none, number-absent, number-value, number-none, given-not, given-yes, made-named, made-typed, made-type}
 use Rattle.xmlschema.proofs.Stacking.{top-none, top-some, pop-none, pop-kept}
-use Rattle.xmlschema.proofs.Adding.{after-refused, after-same, add-full, add-fine, made-kept, made-steady, made-added, made-low, made-high, added-after}
-use Rattle.xmlschema.proofs.Opening.{number-room, high-text, high-top, named-least, named-high, typed-least, typed-high, type-least, type-high, number-ready, number-kept, bad-message, bad-group, bad-field, bad-type, bad-id, bad-version, ref-dropped, member-dropped, group-dropped, field-dropped, ref-on, composite-on, enum-on, value-on, value-lost, member-on, type-on, message-on, group-on, field-message, field-group, field-misplaced}
+use Rattle.xmlschema.proofs.Adding.{after-refused, after-same, add-full, add-fine, made-kept, made-steady, made-added, made-low, made-high}
+use Rattle.xmlschema.proofs.Opening.{number-room, high-text, high-top, ready-high, type-ready, named-ready, field-ready, enum-ready, number-ready, number-kept, bad-message, bad-group, bad-field, bad-type, bad-id, bad-version, ref-dropped, member-dropped, group-dropped, field-dropped, ref-on, composite-on, enum-on, value-on, value-lost, member-on, type-on, message-on, group-on, field-message, field-group, field-misplaced}
 use Rattle.xmlschema.proofs.Dispatching.{version-room, package-high, package-text, package-fits, package-long, schema-on, owner-shown, owner-none, by-schema, by-type, by-ref, by-composite, by-enum, by-value, by-message, by-group, by-field, by-other, open-deep, pushed-ready, open-done}
 use Rattle.xmlschema.proofs.Closing.{give-none, give-fits, give-some, value-lost as value-unowned, value-given, shut-schema, shut-type, shut-ref, shut-field, shut-other, shut-composite, shut-enum, shut-message, shut-group, shut-value, close-wrong, close-right, decoded-count, decoded-never, decoded-sets, text-off, text-room, text-fits, text-on}
 use Rattle.xmlschema.proofs.Driving.{reading-start, reading-ready, reading-inside, reading-refused, reading-less, reading-on, reading-open, reading-done, answer-long, answer-records, answer-text, answer-high, answer-read}
@@ -18,7 +18,7 @@ pub ruleset taking = (value-least, taken-absent, taken-value, taken-none, number
 
 pub ruleset stacking = (top-none, top-some, pop-none, needs)
 
-pub ruleset opening = (after-refused, after-same, add-full, add-fine, made-kept, made-steady, made-added, made-low, made-high, added-after, number-room, high-text, high-top, named-least, named-high, typed-least, typed-high, type-least, type-high, number-ready, number-kept, bad-message, bad-group, bad-field, bad-type, bad-id, bad-version, ref-dropped, member-dropped, group-dropped, field-dropped, ref-on, composite-on, enum-on, value-on, value-lost, member-on, type-on, message-on, group-on, field-message, field-group, field-misplaced, version-room, package-high, package-text, package-fits, package-long, schema-on, owner-shown, owner-none, needs)
+pub ruleset opening = (after-refused, after-same, add-full, add-fine, made-kept, made-steady, made-added, made-low, made-high, number-room, high-text, high-top, ready-high, type-ready, named-ready, field-ready, enum-ready, number-ready, number-kept, bad-message, bad-group, bad-field, bad-type, bad-id, bad-version, ref-dropped, member-dropped, group-dropped, field-dropped, ref-on, composite-on, enum-on, value-on, value-lost, member-on, type-on, message-on, group-on, field-message, field-group, field-misplaced, version-room, package-high, package-text, package-fits, package-long, schema-on, owner-shown, owner-none, needs)
 
 pub ruleset dispatching = (by-schema, by-type, by-ref, by-composite, by-enum, by-value, by-message, by-group, by-field, by-other, after-same, after-refused, open-deep, pushed-ready, open-done, needs)
 

@@ -13,16 +13,18 @@ use Rattle.texts.specs.Text.{ascii, piece, same}
 use Rattle.refusals.specs.declared.Refusal.{Refusal}
 use Rattle.refusals.specs.declared.Refusal.the-variants.{BadNumber, MisplacedField, TooDeep}
 use Rattle.saxlite.specs.declared.tag.Found.{Found}
+use Rattle.saxlite.specs.declared.tag.Noted.{Noted}
 use Rattle.saxlite.specs.Attributes.{attributeAt, rawLength, rawLengths}
 use Rattle.saxlite.specs.Event.{valueIn}
+use Rattle.saxlite.proofs.Ranges.{different}
 use Rattle.xmlschema.specs.Schema.{Item, Schema, itemAt, aType, aMember, aRef, aComposite, anEnum, aValue, aMessage, aGroup, aField}
 use Rattle.xmlschema.specs.Numbers.{numberOf, parsed}
 use Rattle.xmlschema.specs.Elements.{elementOf}
 use Rattle.xmlschema.specs.Builder.{Builder, Outcome, on, refused, added, andThen, plainItem, typeItem, textIn, orEmpty, openSchema, openType, openRef, openComposite, openEnum, openValue, openMessage, openGroup, openField, openBy, opened, top, Attributes, numberIn, nowComposite, nowEnum, nowMessage, nowGroup, withText, nextPosition}
 use Rattle.xmlschema.specs.Whole.{attributesIn}
 use Rattle.xmlschema.specs.Store.{entryAt, itemOf, itemsOf, schemaOf}
-use Rattle.xmlschema.specs.Layout.{current, modelIn, builderOf, stackOf, deeper, pushed, Alike, Kept, Ready, Tagged, After, Added, usedBy}
-use Rattle.xmlschema.specs.Taking.{TakenAt, ReadAt}
+use Rattle.xmlschema.specs.Layout.{current, modelIn, builderOf, stackOf, deeper, pushed, recurrent, Alike, Kept, Ready, Tagged, After, Added, usedBy}
+use Rattle.xmlschema.specs.Taking.{TakenAt, ReadAt, typeItemOf, typeLength}
 use Rattle.xmlschema.specs.declared.elements.Element.{Element}
 use Rattle.xmlschema.specs.declared.elements.Element.the-variants as element
 use Rattle.xmlschema.specs.declared.items.Entry.{Entry}
@@ -39,51 +41,61 @@ use Rattle.xmlschema.specs.declared.take.Taken.{Taken}
 use Rattle.xmlschema.proofs.Records.{getD-items, length-items}
 use Rattle.xmlschema.proofs.Alikes.{alike-self, alike-wider, alike-trans, builder-alike, kept-alike, tag-room, tag-one, scratch-ready, scratch-builder}
 use Rattle.xmlschema.proofs.Stacking.{length-stack, push-ready, push-builder}
-use Rattle.xmlschema.proofs.Adding.{after-refused, after-same, after-as, after-then, current-added}
+use Rattle.xmlschema.proofs.Adding.{after-refused, after-same, after-as, after-then, current-added, added-more}
 
 -- ---- room for the callees
 
-module _ (s : State) (doc rec text : List ℕ) (attributes next : ℕ) (r : Ready s (next - attributes) rec text) (g : Tagged doc attributes next) where
-  pub number-room : (key : List ℕ) → s .place .low + rawLength (attributeAt doc attributes key) ≤ length text
-  number-room key = omega (arith, tag-one doc attributes next g key, r .room, r .kept .top, r .kept .bytes)
-
-  pub named-least : rawLengths doc attributes (ascii "name" ∷ []) ≤ next - attributes
-  named-least = tag-room doc attributes next g (ascii "name" ∷ []) tt
-
+module _ (s : State) (n : ℕ) (rec text : List ℕ) (r : Ready s n rec text) where
   pub high-text : s .place .high ≤ length text
   high-text = omega (arith, r .kept .top, r .kept .bytes)
 
   pub high-top : s .place .high ≤ 65536
   high-top = r .kept .top
 
-  pub named-high : rawLengths doc attributes (ascii "name" ∷ []) ≤ s .place .high
-  named-high = omega (arith, named-least, r .room)
+  pub ready-high : n ≤ s .place .high
+  ready-high = omega (arith, r .room)
 
-  module _ (key : List ℕ) (d : T (not (same (ascii "name") key))) where
-    pub typed-least : rawLengths doc attributes (ascii "name" ∷ key ∷ []) ≤ next - attributes
-    typed-least = tag-room doc attributes next g (ascii "name" ∷ key ∷ []) (two (not (same (ascii "name") key)) d)
-      where
-        two : (b : Bool) → T b → T ((b and true) and true)
-        two true t = tt
-        two false t = t
+  ready-less : (m : ℕ) → m ≤ n → Ready s m rec text
+  ready-less m h = record { kept = r .kept; room = omega (arith, r .room) }
 
-    pub typed-high : rawLengths doc attributes (ascii "name" ∷ key ∷ []) ≤ s .place .high
-    typed-high = omega (arith, typed-least, r .room)
+-- what is found in a tag takes no more than the tag
+module _ (doc : List ℕ) (attributes next : ℕ) (g : Tagged doc attributes next) where
+  pub one-least : (key : List ℕ) {f : Found} → f ≡ attributeAt doc attributes key → rawLength f ≤ next - attributes
+  one-least key e = rw e (tag-one doc attributes next g key)
 
-  pub type-least : rawLengths doc attributes (ascii "name" ∷ ascii "primitiveType" ∷ ascii "characterEncoding" ∷ []) ≤ next - attributes
+  two-least : {name : Found} → name ≡ attributeAt doc attributes (ascii "name") → (key : List ℕ) → T (different (ascii "name" ∷ key ∷ [])) → {f : Found} → f ≡ attributeAt doc attributes key → rawLength name + rawLength f ≤ next - attributes
+  two-least en key d e = rw (en, e) (omega (arith, tag-room doc attributes next g (ascii "name" ∷ key ∷ []) d))
+
+  type-least : (tag : Noted) → tag .second ≡ attributeAt doc attributes (ascii "name") → tag .third ≡ attributeAt doc attributes (ascii "primitiveType") → tag .fourth ≡ attributeAt doc attributes (ascii "characterEncoding") → typeLength tag ≤ next - attributes
   unfolding same
-  type-least = tag-room doc attributes next g (ascii "name" ∷ ascii "primitiveType" ∷ ascii "characterEncoding" ∷ []) tt
+  type-least tag en ep ec = rw (en, ep, ec) (omega (arith, tag-room doc attributes next g (ascii "name" ∷ ascii "primitiveType" ∷ ascii "characterEncoding" ∷ []) tt))
 
-  pub type-high : rawLengths doc attributes (ascii "name" ∷ ascii "primitiveType" ∷ ascii "characterEncoding" ∷ []) ≤ s .place .high
-  type-high = omega (arith, type-least, r .room)
+module _ (s : State) (doc rec text : List ℕ) (attributes next : ℕ) (r : Ready s (next - attributes) rec text) (g : Tagged doc attributes next) where
+  pub number-room : (key : List ℕ) {f : Found} → f ≡ attributeAt doc attributes key → s .place .low + rawLength f ≤ length text
+  number-room key e = omega (arith, one-least doc attributes next g key e, r .room, r .kept .top, r .kept .bytes)
+
+  pub type-ready : (tag : Noted) → tag .second ≡ attributeAt doc attributes (ascii "name") → tag .third ≡ attributeAt doc attributes (ascii "primitiveType") → tag .fourth ≡ attributeAt doc attributes (ascii "characterEncoding") → Ready s (typeLength tag) rec text
+  type-ready tag en ep ec = ready-less s (next - attributes) rec text r (typeLength tag) (type-least doc attributes next g tag en ep ec)
+
+  module _ {name : Found} (en : name ≡ attributeAt doc attributes (ascii "name")) where
+    pub named-ready : Ready s (rawLength name) rec text
+    named-ready = ready-less s (next - attributes) rec text r (rawLength name) (one-least doc attributes next g (ascii "name") en)
+
+    pub field-ready : {f : Found} → f ≡ attributeAt doc attributes (ascii "type") → Ready s (rawLength name + rawLength f) rec text
+    unfolding same
+    field-ready {f} e = ready-less s (next - attributes) rec text r (rawLength name + rawLength f) (two-least doc attributes next g en (ascii "type") tt e)
+
+    pub enum-ready : {f : Found} → f ≡ attributeAt doc attributes (ascii "encodingType") → Ready s (rawLength name + rawLength f) rec text
+    unfolding same
+    enum-ready {f} e = ready-less s (next - attributes) rec text r (rawLength name + rawLength f) (two-least doc attributes next g en (ascii "encodingType") tt e)
 
   -- after a number was read
-  module _ (key : List ℕ) {t : List ℕ} {x : Number} (p : ReadAt (attributeAt doc attributes key) doc (s .place .low) text x t) where
+  module _ (key : List ℕ) {f : Found} (e : f ≡ attributeAt doc attributes key) {t : List ℕ} {x : Number} (p : ReadAt f doc (s .place .low) text x t) where
     pub number-ready : Ready s (next - attributes) rec t
-    number-ready = scratch-ready s (next - attributes) (rawLength (attributeAt doc attributes key)) doc rec text t r (tag-one doc attributes next g key) (p .scratch)
+    number-ready = scratch-ready s (next - attributes) (rawLength f) doc rec text t r (one-least doc attributes next g key e) (p .scratch)
 
     pub number-builder : builderOf s doc rec t ≡ builderOf s doc rec text
-    number-builder = scratch-builder s (next - attributes) (rawLength (attributeAt doc attributes key)) doc rec text t r (tag-one doc attributes next g key) (p .scratch)
+    number-builder = scratch-builder s (next - attributes) (rawLength f) doc rec text t r (one-least doc attributes next g key e) (p .scratch)
 
     pub number-kept : Kept s rec t
     number-kept = number-ready .kept
@@ -102,30 +114,39 @@ parsed-none (some m) e f = absurd (let z : _≡_ {A = ℕ} 0 1 = cc in omega ari
 abbrev pub numberAt : List ℕ → ℕ → List ℕ → Option ℕ
 numberAt doc attributes key = numberOf (valueIn doc (attributeAt doc attributes key))
 
-module _ (l : Limits) (place : ℕ) (doc : List ℕ) (attributes : ℕ) (b : Builder) {low : ℕ} {text t : List ℕ} {x : Number} (f : x ≡ number.Bad) where
-  pub bad-message : ReadAt (attributeAt doc attributes (ascii "id")) doc low text x t → refused (BadNumber place) ≡ openMessage l place (attributesIn doc attributes) b
-  unfolding openMessage
-  bad-message e = rw (parsed-none (numberAt doc attributes (ascii "id")) (e .is) f)
+module _ (doc : List ℕ) (attributes : ℕ) (key : List ℕ) {f : Found} (e : f ≡ attributeAt doc attributes key) {low : ℕ} {text t : List ℕ} {x : Number} (p : ReadAt f doc low text x t) where
+  pub number-is : (n : ℕ) → x ≡ number.Value n → numberAt doc attributes key ≡ some n
+  number-is n v = rw (← e) (parsed-some (numberOf (valueIn doc f)) n (p .is) v)
 
-  pub bad-group : ReadAt (attributeAt doc attributes (ascii "id")) doc low text x t → refused (BadNumber place) ≡ openGroup l place (attributesIn doc attributes) b
-  unfolding openGroup
-  bad-group e = rw (parsed-none (numberAt doc attributes (ascii "id")) (e .is) f)
+  number-bad : x ≡ number.Bad → numberAt doc attributes key ≡ none
+  number-bad v = rw (← e) (parsed-none (numberOf (valueIn doc f)) (p .is) v)
 
-  pub bad-field : ReadAt (attributeAt doc attributes (ascii "id")) doc low text x t → refused (BadNumber place) ≡ openField l place (attributesIn doc attributes) b
-  unfolding openField
-  bad-field e = rw (parsed-none (numberAt doc attributes (ascii "id")) (e .is) f)
+module _ (l : Limits) (place : ℕ) (doc : List ℕ) (attributes : ℕ) (b : Builder) {f : Found} {low : ℕ} {text t : List ℕ} {x : Number} (v : x ≡ number.Bad) where
+  module _ (e : f ≡ attributeAt doc attributes (ascii "id")) (p : ReadAt f doc low text x t) where
+    pub bad-message : refused (BadNumber place) ≡ openMessage l place (attributesIn doc attributes) b
+    unfolding openMessage
+    bad-message = rw (number-bad doc attributes (ascii "id") e p v)
 
-  pub bad-type : (inside : Bool) → ReadAt (attributeAt doc attributes (ascii "length")) doc low text x t → refused (BadNumber place) ≡ openType l place inside (attributesIn doc attributes) b
+    pub bad-group : refused (BadNumber place) ≡ openGroup l place (attributesIn doc attributes) b
+    unfolding openGroup
+    bad-group = rw (number-bad doc attributes (ascii "id") e p v)
+
+    pub bad-field : refused (BadNumber place) ≡ openField l place (attributesIn doc attributes) b
+    unfolding openField
+    bad-field = rw (number-bad doc attributes (ascii "id") e p v)
+
+    pub bad-id : refused (BadNumber place) ≡ openSchema place (attributesIn doc attributes) b
+    unfolding openSchema
+    bad-id = rw (number-bad doc attributes (ascii "id") e p v)
+
+  pub bad-type : (inside : Bool) → f ≡ attributeAt doc attributes (ascii "length") → ReadAt f doc low text x t → refused (BadNumber place) ≡ openType l place inside (attributesIn doc attributes) b
   unfolding openType
-  bad-type inside e = rw (parsed-none (numberAt doc attributes (ascii "length")) (e .is) f)
+  bad-type inside e p = rw (number-bad doc attributes (ascii "length") e p v)
 
-  pub bad-id : ReadAt (attributeAt doc attributes (ascii "id")) doc low text x t → refused (BadNumber place) ≡ openSchema place (attributesIn doc attributes) b
-  unfolding openSchema
-  bad-id e = rw (parsed-none (numberAt doc attributes (ascii "id")) (e .is) f)
-
-  pub bad-version : {y : Number} {id : ℕ} → y ≡ number.Value id → {t₀ : List ℕ} → ReadAt (attributeAt doc attributes (ascii "id")) doc low t₀ y text → ReadAt (attributeAt doc attributes (ascii "version")) doc low text x t → refused (BadNumber place) ≡ openSchema place (attributesIn doc attributes) b
-  unfolding openSchema
-  bad-version {id = id} g d e = rw (parsed-some (numberAt doc attributes (ascii "id")) id (d .is) g, parsed-none (numberAt doc attributes (ascii "version")) (e .is) f)
+pub bad-version : (place : ℕ) (doc : List ℕ) (attributes : ℕ) {h f : Found} → h ≡ attributeAt doc attributes (ascii "id") → f ≡ attributeAt doc attributes (ascii "version") → {low : ℕ} {text t t′ : List ℕ} {y x : Number} → ReadAt h doc low text y t → ReadAt f doc low t x t′
+    → {id : ℕ} → y ≡ number.Value id → x ≡ number.Bad → (b : Builder) → refused (BadNumber place) ≡ openSchema place (attributesIn doc attributes) b
+unfolding openSchema
+bad-version place doc attributes d e q p {id} w v b = rw (number-is doc attributes (ascii "id") d q id w, number-bad doc attributes (ascii "version") e p v)
 
 -- ---- current or none
 
@@ -207,19 +228,19 @@ module _ (l : Limits) (place : ℕ) (s : State) (doc rec text : List ℕ) (attri
   pub ref-dropped : s .current .composite ≡ 0 → on (builderOf s doc rec text) ≡ openRef l place (attributesIn doc attributes) (builderOf s doc rec text)
   ref-dropped z = ref-not l place _ (builderOf s doc rec text) (current-zero z)
 
-  module _ (r : Ready s (next - attributes) rec text) (g : Tagged doc attributes next) {t : List ℕ} {x : Number} (n : ℕ) (f : x ≡ number.Value n) where
-    pub member-dropped : ReadAt (attributeAt doc attributes (ascii "length")) doc (s .place .low) text x t → (inside : Bool) → inside ≡ true → s .current .composite ≡ 0
+  module _ (r : Ready s (next - attributes) rec text) (g : Tagged doc attributes next) {f : Found} {t : List ℕ} {x : Number} (p : ReadAt f doc (s .place .low) text x t) (n : ℕ) (v : x ≡ number.Value n) where
+    pub member-dropped : f ≡ attributeAt doc attributes (ascii "length") → (inside : Bool) → inside ≡ true → s .current .composite ≡ 0
         → on (builderOf s doc rec t) ≡ openType l place inside (attributesIn doc attributes) (builderOf s doc rec text)
-    member-dropped p inside i z =
-        ap on (number-builder s doc rec text attributes next r g (ascii "length") p)
-        ∙ member-not l place _ (builderOf s doc rec text) inside (parsed-some (numberAt doc attributes (ascii "length")) n (p .is) f) i (current-zero z)
+    member-dropped e inside i z =
+        ap on (number-builder s doc rec text attributes next r g (ascii "length") e p)
+        ∙ member-not l place _ (builderOf s doc rec text) inside (number-is doc attributes (ascii "length") e p n v) i (current-zero z)
 
-    module _ (p : ReadAt (attributeAt doc attributes (ascii "id")) doc (s .place .low) text x t) (z : s .current .message ≡ 0) where
+    module _ (e : f ≡ attributeAt doc attributes (ascii "id")) (z : s .current .message ≡ 0) where
       pub group-dropped : on (builderOf s doc rec t) ≡ openGroup l place (attributesIn doc attributes) (builderOf s doc rec text)
-      group-dropped = ap on (number-builder s doc rec text attributes next r g (ascii "id") p) ∙ group-not l place _ (builderOf s doc rec text) (parsed-some (numberAt doc attributes (ascii "id")) n (p .is) f) (current-zero z)
+      group-dropped = ap on (number-builder s doc rec text attributes next r g (ascii "id") e p) ∙ group-not l place _ (builderOf s doc rec text) (number-is doc attributes (ascii "id") e p n v) (current-zero z)
 
       pub field-dropped : on (builderOf s doc rec t) ≡ openField l place (attributesIn doc attributes) (builderOf s doc rec text)
-      field-dropped = ap on (number-builder s doc rec text attributes next r g (ascii "id") p) ∙ field-not l place _ (builderOf s doc rec text) (parsed-some (numberAt doc attributes (ascii "id")) n (p .is) f) (current-zero z)
+      field-dropped = ap on (number-builder s doc rec text attributes next r g (ascii "id") e p) ∙ field-not l place _ (builderOf s doc rec text) (number-is doc attributes (ascii "id") e p n v) (current-zero z)
 
 -- ---- added
 
@@ -227,30 +248,54 @@ module _ (l : Limits) (place : ℕ) (s : State) (doc rec text : List ℕ) (attri
 kept-current : {p : Place} {c d : Current} {h : Head} {rec text : List ℕ} → Kept (record { place = p; current = c; head = h }) rec text → Kept (record { place = p; current = d; head = h }) rec text
 kept-current k = record { deep = k .deep; many = k .many; begun = k .begun; apart = k .apart; top = k .top; records = k .records; bytes = k .bytes; stable = k .stable }
 
-module _ (l : Limits) (place : ℕ) (s : State) (doc rec text : List ℕ) (attributes next : ℕ) {a : Stepped} {rec′ t : List ℕ} where
-  pub ref-on : (s .current .composite ≡ 0 → ⊥) → Added l place (plainItem aRef (s .current .composite - 1) (textIn (attributesIn doc attributes) "name") (orEmpty (attributesIn doc attributes (ascii "type"))) 0) s (next - attributes) doc rec text a rec′ t
+-- an item with what was found in the tag is the item with what the tag says
+module _ (l : Limits) (place : ℕ) (s : State) (doc rec text : List ℕ) (attributes next : ℕ) (g : Tagged doc attributes next) {a : Stepped} {rec′ t : List ℕ} (kind owner id : ℕ) where
+  module _ {name : Found} (en : name ≡ attributeAt doc attributes (ascii "name")) where
+    named-added : Added l place (plainItem kind owner (orEmpty (valueIn doc name)) [] id) s (rawLength name) doc rec text a rec′ t
+        → Added l place (plainItem kind owner (textIn (attributesIn doc attributes) "name") [] id) s (next - attributes) doc rec text a rec′ t
+    named-added q = added-more (next - attributes) (tag-one doc attributes next g (ascii "name")) (rw en at q)
+
+    typed-added : (key : List ℕ) → T (different (ascii "name" ∷ key ∷ [])) → {f : Found} → f ≡ attributeAt doc attributes key
+        → Added l place (plainItem kind owner (orEmpty (valueIn doc name)) (orEmpty (valueIn doc f)) id) s (rawLength name + rawLength f) doc rec text a rec′ t
+        → Added l place (plainItem kind owner (textIn (attributesIn doc attributes) "name") (orEmpty (attributesIn doc attributes key)) id) s (next - attributes) doc rec text a rec′ t
+    typed-added key d e q = rw (en, e) at (added-more (next - attributes) (two-least doc attributes next g en key d e) q)
+
+  type-added : (tag : Noted) → tag .first ≡ attributeAt doc attributes (ascii "length") → tag .second ≡ attributeAt doc attributes (ascii "name") → tag .third ≡ attributeAt doc attributes (ascii "primitiveType") → tag .fourth ≡ attributeAt doc attributes (ascii "characterEncoding")
+      → Added l place (typeItemOf kind owner id tag doc) s (typeLength tag) doc rec text a rec′ t
+      → Added l place (typeItem kind owner (attributesIn doc attributes) id) s (next - attributes) doc rec text a rec′ t
+  type-added tag el en ep ec q = rw (el, en, ep, ec) at (added-more (next - attributes) (type-least doc attributes next g tag en ep ec) q)
+
+module _ (l : Limits) (place : ℕ) (s : State) (doc rec text : List ℕ) (attributes next : ℕ) (g : Tagged doc attributes next) {name : Found} (en : name ≡ attributeAt doc attributes (ascii "name")) {a : Stepped} {rec′ t : List ℕ} where
+  pub ref-on : (s .current .composite ≡ 0 → ⊥) → {f : Found} → f ≡ attributeAt doc attributes (ascii "type")
+      → Added l place (plainItem aRef (s .current .composite - 1) (orEmpty (valueIn doc name)) (orEmpty (valueIn doc f)) 0) s (rawLength name + rawLength f) doc rec text a rec′ t
       → After (openRef l place (attributesIn doc attributes) (builderOf s doc rec text)) s (next - attributes) doc a rec′ t
-  ref-on z p = after-as (ref-by l place _ (builderOf s doc rec text) (current-some (s .current .composite) z)) (p .after)
+  unfolding same
+  ref-on z e q = after-as (ref-by l place _ (builderOf s doc rec text) (current-some (s .current .composite) z)) (typed-added l place s doc rec text attributes next g aRef _ 0 en (ascii "type") tt e q .after)
 
-  pub composite-on : Added l place (plainItem aComposite 0 (textIn (attributesIn doc attributes) "name") [] 0) s (next - attributes) doc rec text a rec′ t
-      → After (openComposite l place (attributesIn doc attributes) (builderOf s doc rec text)) s (next - attributes) doc
-      (record { state = record { place = a .state .place; current = record { flag = a .state .current .flag; composite = a .state .place .count; enumer = a .state .current .enumer; message = a .state .current .message; group = a .state .current .group }; head = a .state .head }; verdict = a .verdict }) rec′ t
+  pub composite-on : Added l place (plainItem aComposite 0 (orEmpty (valueIn doc name)) [] 0) s (rawLength name) doc rec text a rec′ t
+      → {b : Stepped} → b ≡ record { state = recurrent (a .state) (a .state .place .count) (a .state .current .enumer) (a .state .current .message) (a .state .current .group); verdict = a .verdict }
+      → After (openComposite l place (attributesIn doc attributes) (builderOf s doc rec text)) s (next - attributes) doc b rec′ t
   unfolding openComposite
-  composite-on p = after-then (nowComposite (some (nextPosition (builderOf s doc rec text)))) _ (p .after) (λ v. rw (current-added s rec text (p .counted v))) kept-current refl
+  composite-on q eb =
+      let p = named-added l place s doc rec text attributes next g aComposite 0 0 en q in
+      rw eb (after-then (nowComposite (some (nextPosition (builderOf s doc rec text)))) _ (p .after) (λ v. rw (current-added s rec text (p .counted v))) kept-current refl)
 
-  pub enum-on : Added l place (plainItem anEnum 0 (textIn (attributesIn doc attributes) "name") (orEmpty (attributesIn doc attributes (ascii "encodingType"))) 0) s (next - attributes) doc rec text a rec′ t
-      → After (openEnum l place (attributesIn doc attributes) (builderOf s doc rec text)) s (next - attributes) doc
-      (record { state = record { place = a .state .place; current = record { flag = a .state .current .flag; composite = a .state .current .composite; enumer = a .state .place .count; message = a .state .current .message; group = a .state .current .group }; head = a .state .head }; verdict = a .verdict }) rec′ t
-  unfolding openEnum
-  enum-on p = after-then (nowEnum (some (nextPosition (builderOf s doc rec text)))) _ (p .after) (λ v. rw (current-added s rec text (p .counted v))) kept-current refl
+  pub enum-on : {f : Found} → f ≡ attributeAt doc attributes (ascii "encodingType")
+      → Added l place (plainItem anEnum 0 (orEmpty (valueIn doc name)) (orEmpty (valueIn doc f)) 0) s (rawLength name + rawLength f) doc rec text a rec′ t
+      → {b : Stepped} → b ≡ record { state = recurrent (a .state) (a .state .current .composite) (a .state .place .count) (a .state .current .message) (a .state .current .group); verdict = a .verdict }
+      → After (openEnum l place (attributesIn doc attributes) (builderOf s doc rec text)) s (next - attributes) doc b rec′ t
+  unfolding openEnum same
+  enum-on e q eb =
+      let p = typed-added l place s doc rec text attributes next g anEnum 0 0 en (ascii "encodingType") tt e q in
+      rw eb (after-then (nowEnum (some (nextPosition (builderOf s doc rec text)))) _ (p .after) (λ v. rw (current-added s rec text (p .counted v))) kept-current refl)
 
-  pub value-on : (s .current .enumer ≡ 0 → ⊥) → Added l place (plainItem aValue (s .current .enumer - 1) (textIn (attributesIn doc attributes) "name") [] 0) s (next - attributes) doc rec text a rec′ t
+  pub value-on : (s .current .enumer ≡ 0 → ⊥) → Added l place (plainItem aValue (s .current .enumer - 1) (orEmpty (valueIn doc name)) [] 0) s (rawLength name) doc rec text a rec′ t
       → After (openValue l place (attributesIn doc attributes) (builderOf s doc rec text)) s (next - attributes) doc
       (record { state = record { place = record { depth = a .state .place .depth; count = a .state .place .count; low = a .state .place .low; high = a .state .place .high; start = a .state .place .low }; current = record { flag = true; composite = a .state .current .composite; enumer = a .state .current .enumer; message = a .state .current .message; group = a .state .current .group }; head = a .state .head }; verdict = a .verdict }) rec′ t
-  value-on z p =
+  value-on z q =
       let o : a .state .place .low - a .state .place .low ≡ 0 = omega arith in
       after-as (value-by l place _ (builderOf s doc rec text) (current-some (s .current .enumer) z))
-      (after-then (withText true []) _ (p .after) (λ v. rw o) (λ k. record { deep = k .deep; many = k .many; begun = omega arith; apart = k .apart; top = k .top; records = k .records; bytes = k .bytes; stable = k .stable }) refl)
+      (after-then (withText true []) _ (named-added l place s doc rec text attributes next g aValue _ 0 en q .after) (λ v. rw o) (λ k. record { deep = k .deep; many = k .many; begun = omega arith; apart = k .apart; top = k .top; records = k .records; bytes = k .bytes; stable = k .stable }) refl)
 
 pub value-lost : (l : Limits) (place : ℕ) (s : State) (n : ℕ) (doc rec text : List ℕ) (attributes : ℕ) → s .current .enumer ≡ 0 → Kept s rec text
     → After (openValue l place (attributesIn doc attributes) (builderOf s doc rec text)) s n doc
@@ -265,48 +310,62 @@ value-lost l place s n doc rec text attributes z k =
     })
 
 -- after a number: t is the text with the number's bytes in its free part
-module _ (l : Limits) (place : ℕ) (s : State) (doc rec text : List ℕ) (attributes next : ℕ) (r : Ready s (next - attributes) rec text) (g : Tagged doc attributes next) {t : List ℕ} {x : Number} (n : ℕ) (f : x ≡ number.Value n) where
-  module _ (p : ReadAt (attributeAt doc attributes (ascii "length")) doc (s .place .low) text x t) (inside : Bool) {a : Stepped} {rec′ t′ : List ℕ} where
-    pub member-on : inside ≡ true → (s .current .composite ≡ 0 → ⊥) → After (added l place (typeItem aMember (s .current .composite - 1) (attributesIn doc attributes) n) (builderOf s doc rec t)) s (next - attributes) doc a rec′ t′
-        → After (openType l place inside (attributesIn doc attributes) (builderOf s doc rec text)) s (next - attributes) doc a rec′ t′
-    member-on i z q = after-as (member-by l place _ (builderOf s doc rec text) inside (parsed-some (numberAt doc attributes (ascii "length")) n (p .is) f) i (current-some (s .current .composite) z)) (rw (← number-builder s doc rec text attributes next r g (ascii "length") p) q)
+module _ (l : Limits) (place : ℕ) (s : State) (doc rec text : List ℕ) (attributes next : ℕ) (r : Ready s (next - attributes) rec text) (g : Tagged doc attributes next) {t : List ℕ} {x : Number} (n : ℕ) (v : x ≡ number.Value n) where
+  module _ (tag : Noted) (el : tag .first ≡ attributeAt doc attributes (ascii "length")) (en : tag .second ≡ attributeAt doc attributes (ascii "name")) (ep : tag .third ≡ attributeAt doc attributes (ascii "primitiveType")) (ec : tag .fourth ≡ attributeAt doc attributes (ascii "characterEncoding"))
+      (p : ReadAt (tag .first) doc (s .place .low) text x t) (inside : Bool) {a : Stepped} {rec′ t′ : List ℕ}
+    where
+      pub member-on : inside ≡ true → (s .current .composite ≡ 0 → ⊥) → Added l place (typeItemOf aMember (s .current .composite - 1) n tag doc) s (typeLength tag) doc rec t a rec′ t′
+          → After (openType l place inside (attributesIn doc attributes) (builderOf s doc rec text)) s (next - attributes) doc a rec′ t′
+      member-on i z q =
+          after-as (member-by l place _ (builderOf s doc rec text) inside (number-is doc attributes (ascii "length") el p n v) i (current-some (s .current .composite) z))
+          (rw (← number-builder s doc rec text attributes next r g (ascii "length") el p) (type-added l place s doc rec t attributes next g aMember _ n tag el en ep ec q .after))
 
-    pub type-on : inside ≡ false → After (added l place (typeItem aType 0 (attributesIn doc attributes) n) (builderOf s doc rec t)) s (next - attributes) doc a rec′ t′
-        → After (openType l place inside (attributesIn doc attributes) (builderOf s doc rec text)) s (next - attributes) doc a rec′ t′
-    type-on i q = after-as (type-by l place _ (builderOf s doc rec text) inside (parsed-some (numberAt doc attributes (ascii "length")) n (p .is) f) i) (rw (← number-builder s doc rec text attributes next r g (ascii "length") p) q)
+      pub type-on : inside ≡ false → Added l place (typeItemOf aType 0 n tag doc) s (typeLength tag) doc rec t a rec′ t′
+          → After (openType l place inside (attributesIn doc attributes) (builderOf s doc rec text)) s (next - attributes) doc a rec′ t′
+      type-on i q =
+          after-as (type-by l place _ (builderOf s doc rec text) inside (number-is doc attributes (ascii "length") el p n v) i)
+          (rw (← number-builder s doc rec text attributes next r g (ascii "length") el p) (type-added l place s doc rec t attributes next g aType 0 n tag el en ep ec q .after))
 
-  module _ (p : ReadAt (attributeAt doc attributes (ascii "id")) doc (s .place .low) text x t) where
+  module _ {f : Found} (e : f ≡ attributeAt doc attributes (ascii "id")) (p : ReadAt f doc (s .place .low) text x t) where
     was : builderOf s doc rec t ≡ builderOf s doc rec text
-    was = number-builder s doc rec text attributes next r g (ascii "id") p
+    was = number-builder s doc rec text attributes next r g (ascii "id") e p
 
     is-number : numberAt doc attributes (ascii "id") ≡ some n
-    is-number = parsed-some (numberAt doc attributes (ascii "id")) n (p .is) f
+    is-number = number-is doc attributes (ascii "id") e p n v
 
-    module _ {a : Stepped} {rec′ t′ : List ℕ} where
-      pub message-on : Added l place (plainItem aMessage 0 (textIn (attributesIn doc attributes) "name") [] n) s (next - attributes) doc rec t a rec′ t′
-          → After (openMessage l place (attributesIn doc attributes) (builderOf s doc rec text)) s (next - attributes) doc
-          (record { state = record { place = a .state .place; current = record { flag = a .state .current .flag; composite = a .state .current .composite; enumer = a .state .current .enumer; message = a .state .place .count; group = a .state .current .group }; head = a .state .head }; verdict = a .verdict }) rec′ t′
-      message-on q =
+    module _ {name : Found} (en : name ≡ attributeAt doc attributes (ascii "name")) {a : Stepped} {rec′ t′ : List ℕ} where
+      pub message-on : Added l place (plainItem aMessage 0 (orEmpty (valueIn doc name)) [] n) s (rawLength name) doc rec t a rec′ t′
+          → {b : Stepped} → b ≡ record { state = recurrent (a .state) (a .state .current .composite) (a .state .current .enumer) (a .state .place .count) (a .state .current .group); verdict = a .verdict }
+          → After (openMessage l place (attributesIn doc attributes) (builderOf s doc rec text)) s (next - attributes) doc b rec′ t′
+      message-on q eb =
+          let h = named-added l place s doc rec t attributes next g aMessage 0 n en q in
           after-as (message-by l place _ (builderOf s doc rec t) is-number ∙ ap (openMessage l place (attributesIn doc attributes)) was)
-          (after-then (nowMessage (some (nextPosition (builderOf s doc rec t)))) _ (q .after) (λ v. rw (current-added s rec t (q .counted v))) kept-current refl)
+          (rw eb (after-then (nowMessage (some (nextPosition (builderOf s doc rec t)))) _ (h .after) (λ w. rw (current-added s rec t (h .counted w))) kept-current refl))
 
       module _ (z : s .current .message ≡ 0 → ⊥) where
-        pub group-on : Added l place (plainItem aGroup (s .current .message - 1) (textIn (attributesIn doc attributes) "name") [] n) s (next - attributes) doc rec t a rec′ t′
-            → After (openGroup l place (attributesIn doc attributes) (builderOf s doc rec text)) s (next - attributes) doc
-            (record { state = record { place = a .state .place; current = record { flag = a .state .current .flag; composite = a .state .current .composite; enumer = a .state .current .enumer; message = a .state .current .message; group = a .state .place .count }; head = a .state .head }; verdict = a .verdict }) rec′ t′
-        group-on q =
+        pub group-on : Added l place (plainItem aGroup (s .current .message - 1) (orEmpty (valueIn doc name)) [] n) s (rawLength name) doc rec t a rec′ t′
+            → {b : Stepped} → b ≡ record { state = recurrent (a .state) (a .state .current .composite) (a .state .current .enumer) (a .state .current .message) (a .state .place .count); verdict = a .verdict }
+            → After (openGroup l place (attributesIn doc attributes) (builderOf s doc rec text)) s (next - attributes) doc b rec′ t′
+        group-on q eb =
+            let h = named-added l place s doc rec t attributes next g aGroup _ n en q in
             after-as (group-by l place _ (builderOf s doc rec t) is-number (current-some (s .current .message) z) ∙ ap (openGroup l place (attributesIn doc attributes)) was)
-            (after-then (nowGroup (some (nextPosition (builderOf s doc rec t)))) _ (q .after) (λ v. rw (current-added s rec t (q .counted v))) kept-current refl)
+            (rw eb (after-then (nowGroup (some (nextPosition (builderOf s doc rec t)))) _ (h .after) (λ w. rw (current-added s rec t (h .counted w))) kept-current refl))
 
-        pub field-message : s .current .group ≡ 0 → Added l place (plainItem aField (s .current .message - 1) (textIn (attributesIn doc attributes) "name") (orEmpty (attributesIn doc attributes (ascii "type"))) n) s (next - attributes) doc rec t a rec′ t′
-            → After (openField l place (attributesIn doc attributes) (builderOf s doc rec text)) s (next - attributes) doc a rec′ t′
-        field-message y q = after-as (field-of-message l place _ (builderOf s doc rec t) is-number (current-some (s .current .message) z) (current-zero y) ∙ ap (openField l place (attributesIn doc attributes)) was) (q .after)
+        module _ {k : Found} (et : k ≡ attributeAt doc attributes (ascii "type")) where
+          pub field-message : s .current .group ≡ 0 → Added l place (plainItem aField (s .current .message - 1) (orEmpty (valueIn doc name)) (orEmpty (valueIn doc k)) n) s (rawLength name + rawLength k) doc rec t a rec′ t′
+              → After (openField l place (attributesIn doc attributes) (builderOf s doc rec text)) s (next - attributes) doc a rec′ t′
+          unfolding same
+          field-message y q =
+              after-as (field-of-message l place _ (builderOf s doc rec t) is-number (current-some (s .current .message) z) (current-zero y) ∙ ap (openField l place (attributesIn doc attributes)) was)
+              (typed-added l place s doc rec t attributes next g aField _ n en (ascii "type") tt et q .after)
 
-        pub field-group : (s .current .group ≡ 0 → ⊥) → {w : ℕ} → ((u : List ℕ) → w ≡ itemAt (schemaOf (modelIn s) rec u) (s .current .group - 1) .owner) → w ≡ s .current .message - 1
-            → Added l place (plainItem aField (s .current .group - 1) (textIn (attributesIn doc attributes) "name") (orEmpty (attributesIn doc attributes (ascii "type"))) n) s (next - attributes) doc rec t a rec′ t′
-            → After (openField l place (attributesIn doc attributes) (builderOf s doc rec text)) s (next - attributes) doc a rec′ t′
-        field-group y {w} ew h q =
-            after-as (field-of-group l place _ (builderOf s doc rec t) is-number (current-some (s .current .message) z) (current-some (s .current .group) y) (rw (← ew t) (eq-eqb w (s .current .message - 1) h)) ∙ ap (openField l place (attributesIn doc attributes)) was) (q .after)
+          pub field-group : (s .current .group ≡ 0 → ⊥) → {w : ℕ} → ((u : List ℕ) → w ≡ itemAt (schemaOf (modelIn s) rec u) (s .current .group - 1) .owner) → w ≡ s .current .message - 1
+              → Added l place (plainItem aField (s .current .group - 1) (orEmpty (valueIn doc name)) (orEmpty (valueIn doc k)) n) s (rawLength name + rawLength k) doc rec t a rec′ t′
+              → After (openField l place (attributesIn doc attributes) (builderOf s doc rec text)) s (next - attributes) doc a rec′ t′
+          unfolding same
+          field-group y {w} ew h q =
+              after-as (field-of-group l place _ (builderOf s doc rec t) is-number (current-some (s .current .message) z) (current-some (s .current .group) y) (rw (← ew t) (eq-eqb w (s .current .message - 1) h)) ∙ ap (openField l place (attributesIn doc attributes)) was)
+              (typed-added l place s doc rec t attributes next g aField _ n en (ascii "type") tt et q .after)
 
     pub field-misplaced : (s .current .message ≡ 0 → ⊥) → (s .current .group ≡ 0 → ⊥) → {w : ℕ} → ((u : List ℕ) → w ≡ itemAt (schemaOf (modelIn s) rec u) (s .current .group - 1) .owner) → (w ≡ s .current .message - 1 → ⊥)
         → refused (MisplacedField place) ≡ openField l place (attributesIn doc attributes) (builderOf s doc rec text)

@@ -7,22 +7,22 @@ use native.Mathlib.Omega.{arith}
 use lib.Dec.{eqb}
 use lib.ListN.{length, take, drop, length-take}
 use lib.Seq.{sets, length-sets}
-use Rattle.texts.specs.Text.{ascii, piece}
+use Rattle.texts.specs.Text.{piece}
 use Rattle.texts.proofs.Stores.{piece-stored, piece-above}
 use Rattle.saxlite.specs.declared.entities.Decoded.{Decoded}
 use Rattle.saxlite.specs.declared.entities.Decoded.the-variants.{Written, NoRoom}
 use Rattle.saxlite.specs.declared.tag.Found.{Found}
 use Rattle.saxlite.specs.declared.tag.Found.the-variants.{Value, Absent}
+use Rattle.saxlite.specs.declared.tag.Noted.{Noted}
 use Rattle.saxlite.specs.Entities.{decoded, DecodedInto}
-use Rattle.saxlite.specs.Attributes.{attributeAt, rawLength, rawLengths}
+use Rattle.saxlite.specs.Attributes.{rawLength}
 use Rattle.saxlite.specs.Event.{valueIn}
 use Rattle.saxlite.proofs.Decoding.{decoded-fits, decoded-length}
 use Rattle.xmlschema.specs.Numbers.{numberOf, parsed}
-use Rattle.xmlschema.specs.Builder.{orEmpty, isGiven, textIn, plainItem, typeItem}
-use Rattle.xmlschema.specs.Whole.{attributesIn}
+use Rattle.xmlschema.specs.Builder.{orEmpty, isGiven, plainItem}
 use Rattle.xmlschema.specs.Store.{itemOf}
 use Rattle.xmlschema.specs.Layout.{Alike, Steady}
-use Rattle.xmlschema.specs.Taking.{TakenAt, ReadAt, Made}
+use Rattle.xmlschema.specs.Taking.{TakenAt, ReadAt, Made, typeItemOf, typeLength}
 use Rattle.xmlschema.specs.declared.items.Entry.{Entry}
 use Rattle.xmlschema.specs.declared.numbers.Number.{Number}
 use Rattle.xmlschema.specs.declared.numbers.Number.the-variants as number
@@ -52,26 +52,26 @@ never m e f = let z : _≡_ {A = ℕ} 0 1 = cc in omega arith
 
 -- ---- a value
 
-pub value-least : (doc : List ℕ) (attributes : ℕ) (key : List ℕ) (high : ℕ) {f : Found} {from : ℕ} (len : ℕ) → f ≡ attributeAt doc attributes key → f ≡ Value from len → rawLength (attributeAt doc attributes key) ≤ high → len ≤ high
-value-least doc attributes key high len ef e h = rw (← ef, e) at h
+pub value-least : (high : ℕ) {f : Found} {from : ℕ} (len : ℕ) → f ≡ Value from len → rawLength f ≤ high → len ≤ high
+value-least high len e h = rw e at h
 
-module _ (doc text : List ℕ) (attributes : ℕ) (key : List ℕ) (high : ℕ) {f : Found} (ef : f ≡ attributeAt doc attributes key) where
-  pub taken-absent : f ≡ Absent → TakenAt (attributeAt doc attributes key) doc text high (record { from = high; len = 0 }) text
-  taken-absent e = rw (← ef, e) (record { start = omega arith; is = refl; within = omega arith; alike = λ a h. alike-self; long = refl })
+module _ (doc text : List ℕ) (high : ℕ) {f : Found} where
+  pub taken-absent : f ≡ Absent → TakenAt f doc text high (record { from = high; len = 0 }) text
+  taken-absent e = rw e (record { start = omega arith; is = refl; within = omega arith; alike = λ a h. alike-self; long = refl })
 
-  module _ {from len : ℕ} (e : f ≡ Value from len) {d : Decoded} {text′ : List ℕ} (p : DecodedInto (piece doc from len) text (high - len) d text′) (h : rawLength (attributeAt doc attributes key) ≤ high) (k : high ≤ length text) where
+  module _ {from len : ℕ} (e : f ≡ Value from len) {d : Decoded} {text′ : List ℕ} (p : DecodedInto (piece doc from len) text (high - len) d text′) (h : rawLength f ≤ high) (k : high ≤ length text) where
     least : len ≤ high
-    least = rw (← ef, e) at h
+    least = rw e at h
 
     into : Stored doc from len text (high - len) d text′
     into = stored doc from len text (high - len) text′ p (omega (arith, least))
 
-    pub taken-value : {n : ℕ} → d ≡ Written n → TakenAt (attributeAt doc attributes key) doc text high (record { from = high - len; len = n }) text′
+    pub taken-value : {n : ℕ} → d ≡ Written n → TakenAt f doc text high (record { from = high - len; len = n }) text′
     taken-value {n} g =
         let w = decoded (piece doc from len) in
         let q : n ≡ length w = written (length w) (into .told) g in
         let z : length w ≤ len = into .most in
-        rw (← ef, e, into .is)
+        rw (e, into .is)
         (record {
           start = omega (arith, least);
           is = rw q (piece-stored w text (high - len) (length w) refl (omega (arith, least)));
@@ -80,30 +80,30 @@ module _ (doc text : List ℕ) (attributes : ℕ) (key : List ℕ) (high : ℕ) 
           long = length-sets text (high - len) w;
         })
 
-    pub taken-none : d ≡ NoRoom → TakenAt (attributeAt doc attributes key) doc text high (record { from = high - len; len = 0 }) text′
+    pub taken-none : d ≡ NoRoom → TakenAt f doc text high (record { from = high - len; len = 0 }) text′
     taken-none g = absurd (never (length (decoded (piece doc from len))) (into .told) g)
 
 -- ---- a number
 
-module _ (doc text : List ℕ) (attributes : ℕ) (key : List ℕ) (low : ℕ) {f : Found} (ef : f ≡ attributeAt doc attributes key) where
-  pub number-absent : f ≡ Absent → ReadAt (attributeAt doc attributes key) doc low text (number.Value 0) text
+module _ (doc text : List ℕ) (low : ℕ) {f : Found} where
+  pub number-absent : f ≡ Absent → ReadAt f doc low text (number.Value 0) text
   unfolding numberOf
-  number-absent e = rw (← ef, e) (record { is = refl; scratch = record { alike = λ h k. alike-self; long = refl } })
+  number-absent e = rw e (record { is = refl; scratch = record { alike = λ h k. alike-self; long = refl } })
 
-  module _ {from len : ℕ} (e : f ≡ Value from len) {d : Decoded} {text′ : List ℕ} (p : DecodedInto (piece doc from len) text low d text′) (h : low + rawLength (attributeAt doc attributes key) ≤ length text) where
+  module _ {from len : ℕ} (e : f ≡ Value from len) {d : Decoded} {text′ : List ℕ} (p : DecodedInto (piece doc from len) text low d text′) (h : low + rawLength f ≤ length text) where
     fits : low + len ≤ length text
-    fits = rw (← ef, e) at h
+    fits = rw e at h
 
     within : Stored doc from len text low d text′
     within = stored doc from len text low text′ p fits
 
-    pub number-value : {n : ℕ} → d ≡ Written n → {w : List ℕ} → w ≡ piece text′ low n → {r : Number} → r ≡ parsed (numberOf (some w)) → ReadAt (attributeAt doc attributes key) doc low text r text′
+    pub number-value : {n : ℕ} → d ≡ Written n → {w : List ℕ} → w ≡ piece text′ low n → {r : Number} → r ≡ parsed (numberOf (some w)) → ReadAt f doc low text r text′
     number-value {n} g {w} ew er =
         let v = decoded (piece doc from len) in
         let q : n ≡ length v = written (length v) (within .told) g in
         let z : length v ≤ len = within .most in
         let s : piece text′ low n ≡ v = rw (within .is, q) (piece-stored v text low (length v) refl (omega (arith, fits))) in
-        rw (← ef, e)
+        rw e
         (record {
           is = er ∙ ap (λ x. parsed (numberOf (some x))) (ew ∙ s);
           scratch =
@@ -113,16 +113,15 @@ module _ (doc text : List ℕ) (attributes : ℕ) (key : List ℕ) (low : ℕ) {
               };
         })
 
-    pub number-none : d ≡ NoRoom → ReadAt (attributeAt doc attributes key) doc low text number.Bad text′
+    pub number-none : d ≡ NoRoom → ReadAt f doc low text number.Bad text′
     number-none g = absurd (never (length (decoded (piece doc from len))) (within .told) g)
 
 -- whether a value is there
-module _ (doc : List ℕ) (attributes : ℕ) (key : List ℕ) {f : Found} (ef : f ≡ attributeAt doc attributes key) where
-  pub given-not : f ≡ Absent → eqb 0 1 ≡ isGiven (valueIn doc (attributeAt doc attributes key))
-  given-not e = rw (← ef, e)
+pub given-not : {f : Found} → f ≡ Absent → (doc : List ℕ) → eqb 0 1 ≡ isGiven (valueIn doc f)
+given-not e doc = rw e
 
-  pub given-yes : {from len : ℕ} → f ≡ Value from len → eqb 1 1 ≡ isGiven (valueIn doc (attributeAt doc attributes key))
-  given-yes e = rw (← ef, e)
+pub given-yes : {f : Found} {from len : ℕ} → f ≡ Value from len → (doc : List ℕ) → eqb 1 1 ≡ isGiven (valueIn doc f)
+given-yes e doc = rw e
 
 -- ---- entries
 
@@ -139,8 +138,8 @@ steady text e h k a =
           );
     }
 
-module _ (kind owner id : ℕ) (doc text : List ℕ) (attributes high : ℕ) {x : Taken} {t₁ : List ℕ} (p : TakenAt (attributeAt doc attributes (ascii "name")) doc text high x t₁) where
-  pub made-named : Made (plainItem kind owner (textIn (attributesIn doc attributes) "name") [] id) (rawLengths doc attributes (ascii "name" ∷ [])) high text
+module _ (kind owner id : ℕ) (doc text : List ℕ) (high : ℕ) {name : Found} {x : Taken} {t₁ : List ℕ} (p : TakenAt name doc text high x t₁) where
+  pub made-named : Made (plainItem kind owner (orEmpty (valueIn doc name)) [] id) (rawLength name) high text
       (record { kind = kind; owner = owner; name = x .from; nlen = x .len; second = x .from; slen = 0; number = id; given = 0; encoding = x .from; elen = 0 }) t₁
   unfolding itemOf
   made-named =
@@ -152,15 +151,15 @@ module _ (kind owner id : ℕ) (doc text : List ℕ) (attributes high : ℕ) {x 
         long = p .long;
       }
 
-  module _ (key : List ℕ) {y : Taken} {t₂ : List ℕ} (q : TakenAt (attributeAt doc attributes key) doc t₁ (x .from) y t₂) where
+  module _ {second : Found} {y : Taken} {t₂ : List ℕ} (q : TakenAt second doc t₁ (x .from) y t₂) where
     -- the first text is where it was
-    first : piece t₂ (x .from) (x .len) ≡ orEmpty (valueIn doc (attributeAt doc attributes (ascii "name")))
+    first : piece t₂ (x .from) (x .len) ≡ orEmpty (valueIn doc name)
     first = piece-above t₁ t₂ (x .from) (x .from) (x .len) (omega arith) (q .alike 0 (omega arith) .above) ∙ p .is
 
     both : (a : ℕ) → a ≤ y .from → Alike a high text t₂
     both a h = alike-trans (p .alike a (omega (arith, q .start))) (alike-wider t₁ t₂ a (x .from) high (omega (arith, p .start)) (q .alike a h))
 
-    pub made-typed : Made (plainItem kind owner (textIn (attributesIn doc attributes) "name") (orEmpty (attributesIn doc attributes key)) id) (rawLengths doc attributes (ascii "name" ∷ key ∷ [])) high text
+    pub made-typed : Made (plainItem kind owner (orEmpty (valueIn doc name)) (orEmpty (valueIn doc second)) id) (rawLength name + rawLength second) high text
         (record { kind = kind; owner = owner; name = x .from; nlen = x .len; second = y .from; slen = y .len; number = id; given = 0; encoding = y .from; elen = 0 }) t₂
     unfolding itemOf
     made-typed =
@@ -172,26 +171,26 @@ module _ (kind owner id : ℕ) (doc text : List ℕ) (attributes high : ℕ) {x 
           long = q .long ∙ p .long;
         }
 
-module _ (kind owner size : ℕ) (doc text : List ℕ) (attributes high : ℕ) {x : Taken} {t₁ : List ℕ} (p : TakenAt (attributeAt doc attributes (ascii "name")) doc text high x t₁)
-    {y : Taken} {t₂ : List ℕ} (q : TakenAt (attributeAt doc attributes (ascii "primitiveType")) doc t₁ (x .from) y t₂)
-    {z : Taken} {t₃ : List ℕ} (r : TakenAt (attributeAt doc attributes (ascii "characterEncoding")) doc t₂ (y .from) z t₃)
+module _ (kind owner size : ℕ) (tag : Noted) (doc text : List ℕ) (high : ℕ) {x : Taken} {t₁ : List ℕ} (p : TakenAt (tag .second) doc text high x t₁)
+    {y : Taken} {t₂ : List ℕ} (q : TakenAt (tag .third) doc t₁ (x .from) y t₂)
+    {z : Taken} {t₃ : List ℕ} (r : TakenAt (tag .fourth) doc t₂ (y .from) z t₃)
   where
-    one : piece t₃ (x .from) (x .len) ≡ orEmpty (valueIn doc (attributeAt doc attributes (ascii "name")))
-    one = piece-above t₂ t₃ (y .from) (x .from) (x .len) (omega (arith, q .start)) (r .alike 0 (omega arith) .above) ∙ first kind owner size doc text attributes high p (ascii "primitiveType") q
+    one : piece t₃ (x .from) (x .len) ≡ orEmpty (valueIn doc (tag .second))
+    one = piece-above t₂ t₃ (y .from) (x .from) (x .len) (omega (arith, q .start)) (r .alike 0 (omega arith) .above) ∙ first kind owner size doc text high p q
 
-    two : piece t₃ (y .from) (y .len) ≡ orEmpty (valueIn doc (attributeAt doc attributes (ascii "primitiveType")))
+    two : piece t₃ (y .from) (y .len) ≡ orEmpty (valueIn doc (tag .third))
     two = piece-above t₂ t₃ (y .from) (y .from) (y .len) (omega arith) (r .alike 0 (omega arith) .above) ∙ q .is
 
-    pub made-type : (g : ℕ) → eqb g 1 ≡ isGiven (valueIn doc (attributeAt doc attributes (ascii "length"))) → Made (typeItem kind owner (attributesIn doc attributes) size) (rawLengths doc attributes (ascii "name" ∷ ascii "primitiveType" ∷ ascii "characterEncoding" ∷ [])) high text
+    pub made-type : (g : ℕ) → ((d : List ℕ) → eqb g 1 ≡ isGiven (valueIn d (tag .first))) → Made (typeItemOf kind owner size tag doc) (typeLength tag) high text
         (record { kind = kind; owner = owner; name = x .from; nlen = x .len; second = y .from; slen = y .len; number = size; given = g; encoding = z .from; elen = z .len }) t₃
     unfolding itemOf
     made-type g eg =
         record {
-          is = rw (one, two, r .is, eg);
+          is = rw (one, two, r .is, eg doc);
           steady = steady t₃ _ (omega (arith, q .start, r .start)) (omega (arith, r .start));
           start = omega (arith, p .start, q .start, r .start);
           alike = λ a h.
-              alike-trans (both kind owner size doc text attributes high p (ascii "primitiveType") q a (omega (arith, r .start)))
+              alike-trans (both kind owner size doc text high p q a (omega (arith, r .start)))
               (alike-wider t₂ t₃ a (y .from) high (omega (arith, p .start, q .start)) (r .alike a h));
           long = r .long ∙ q .long ∙ p .long;
         }

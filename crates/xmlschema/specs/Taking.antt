@@ -5,12 +5,13 @@ use Prim.Native.Nat.{ℕ, _+_, _≤_}
 use lib.ListN.{length}
 use Rattle.texts.specs.Text.{piece}
 use Rattle.saxlite.specs.declared.tag.Found.{Found}
+use Rattle.saxlite.specs.declared.tag.Noted.{Noted}
 use Rattle.saxlite.specs.Attributes.{rawLength}
 use Rattle.saxlite.specs.Event.{valueIn}
 use Rattle.xmlschema.specs.Schema.{Item}
 use Rattle.xmlschema.specs.Numbers.{numberOf, parsed}
 use Rattle.xmlschema.specs.declared.numbers.Number.{Number}
-use Rattle.xmlschema.specs.Builder.{orEmpty}
+use Rattle.xmlschema.specs.Builder.{orEmpty, isGiven}
 use Rattle.xmlschema.specs.Store.{itemOf}
 use Rattle.xmlschema.specs.Layout.{Alike, Steady}
 use Rattle.xmlschema.specs.declared.items.Entry.{Entry}
@@ -41,3 +42,19 @@ pub record Made (it : Item) (n high : ℕ) (text : List ℕ) (e : Entry) (text�
 pub record ReadAt (found : Found) (doc : List ℕ) (low : ℕ) (text : List ℕ) (r : Number) (text′ : List ℕ) : Type 0 where
   pub is : r ≡ parsed (numberOf (valueIn doc found))
   pub scratch : Scratched low (rawLength found) text text′
+
+-- a type or a member, of its length, name, primitive type and encoding as they were found; and the raw length of its texts
+abbrev pub typeItemOf : ℕ → ℕ → ℕ → Noted → List ℕ → Item
+typeItemOf kind owner n tag doc =
+    record {
+      kind = kind;
+      owner = owner;
+      name = orEmpty (valueIn doc (tag .second));
+      second = orEmpty (valueIn doc (tag .third));
+      number = n;
+      given = isGiven (valueIn doc (tag .first));
+      encoding = orEmpty (valueIn doc (tag .fourth));
+    }
+
+abbrev pub typeLength : Noted → ℕ
+typeLength tag = rawLength (tag .second) + rawLength (tag .third) + rawLength (tag .fourth)

@@ -18,26 +18,33 @@ use crate::state::Place;
 use crate::state::State;
 use crate::state::Stepped;
 use crate::state::Verdict;
+use crate::take::enum_attributes;
+use crate::take::field_attributes;
 use crate::take::named_entry;
 use crate::take::read_number;
+use crate::take::schema_attributes;
 use crate::take::take_value;
+use crate::take::type_attributes;
 use crate::take::type_entry;
 use crate::take::typed_entry;
 use refusals::Refusal;
+use saxlite::tag::Found;
+use saxlite::tag::Noted;
 use texts::equal;
 use texts::part;
 ghost use mathlib.Core.Path.{_≡_};
 ghost use mathlib.Core.List.{List, [], _∷_};
 ghost use Prim.Native.Nat.{ℕ, _+_, _-_, _≤_, _<_};
 ghost use lib.ListN.{length, getD};
-ghost use mathlib.Core.Bool.{not};
-ghost use lib.Dec.{T};
-ghost use Rattle.texts.specs.Text.{ascii, piece, same};
-ghost use Rattle.xmlschema.specs.Schema.{itemAt, aField};
+ghost use Rattle.texts.specs.Text.{piece};
+ghost use Rattle.saxlite.specs.Attributes.{rawLength};
+ghost use Rattle.saxlite.specs.Event.{valueIn};
+ghost use Rattle.xmlschema.specs.Schema.{itemAt};
 ghost use Rattle.xmlschema.specs.Store.{itemOf, schemaOf};
-ghost use Rattle.xmlschema.specs.Builder.{added, openSchema, openType, openRef, openComposite, openEnum, openValue, openMessage, openGroup, openField, openBy, opened, typeItem, plainItem, textIn, orEmpty};
+ghost use Rattle.xmlschema.specs.Builder.{added, openSchema, openType, openRef, openComposite, openEnum, openValue, openMessage, openGroup, openField, openBy, opened, plainItem, orEmpty};
 ghost use Rattle.xmlschema.specs.Whole.{attributesIn};
-ghost use Rattle.xmlschema.specs.Layout.{builderOf, modelIn, Kept, Ready, Tagged, Steady, After, Added};
+ghost use Rattle.xmlschema.specs.Layout.{builderOf, modelIn, recurrent, Kept, Ready, Tagged, Steady, After, Added};
+ghost use Rattle.xmlschema.specs.Taking.{typeItemOf, typeLength};
 
 fn refuse(s: State, r: Refusal) -> Stepped
     ensures { λ a. ⌜ a ≡ record { state = s; verdict = Verdict.Refused r } ⌝ }
@@ -54,6 +61,29 @@ fn unchanged(s: State) -> Stepped
     Stepped {
         state: s,
         verdict: Verdict::Fine,
+    }
+}
+
+// The state that a step gave, with other things current.
+fn with_current(r: Stepped, composite: u32, enumer: u32, message: u32, group: u32) -> Stepped
+    ensures { λ a. ⌜ a ≡ record { state = recurrent (r .state) composite enumer message group; verdict = r .verdict } ⌝ }
+{
+    let place = r.state.place;
+    let head = r.state.head;
+    let verdict = r.verdict;
+    Stepped {
+        state: State {
+            place,
+            current: Current {
+                flag: r.state.current.flag,
+                composite,
+                enumer,
+                message,
+                group,
+            },
+            head,
+        },
+        verdict,
     }
 }
 
@@ -112,14 +142,18 @@ fn open_schema(
     requires { ⌜ Ready s (next - attributes) (now rec) (now text) × Tagged (now doc) attributes next ⌝ }
     ensures { λ r. ⌜ After (openSchema place (attributesIn (now (doc .entry)) attributes) (builderOf s (now (doc .entry)) (now (rec .entry)) (now (text .entry)))) s (next - attributes) (now (doc .entry)) r (now (rec .entry)) (now (text .exit)) ⌝ }
 {
+    let tag = schema_attributes(doc, attributes);
+    let id_found = tag.first;
+    let version_found = tag.second;
+    let package_found = tag.third;
     let low = s.place.low;
-    let Number::Value(id) = read_number(doc, attributes, b"id", text, low) else {
+    let Number::Value(id) = read_number(doc, id_found, text, low) else {
         return refuse(s, Refusal::BadNumber { place });
     };
-    let Number::Value(version) = read_number(doc, attributes, b"version", text, low) else {
+    let Number::Value(version) = read_number(doc, version_found, text, low) else {
         return refuse(s, Refusal::BadNumber { place });
     };
-    let package = take_value(doc, attributes, b"package", text, s.place.high);
+    let package = take_value(doc, package_found, text, s.place.high);
     let name = package.from as u32;
     let len = package.len as u32;
     let current = s.current;
@@ -144,7 +178,7 @@ fn open_schema(
     }
 }
 
-// A type or a member of the owner.
+// A type or a member of the owner, of what `type_attributes` found.
 fn add_type(
     s: State,
     l: Limits,
@@ -152,16 +186,15 @@ fn add_type(
     kind: u32,
     owner: u32,
     size: u32,
-    attributes: usize,
-    next: usize,
+    tag: Noted,
     doc: &[u8],
     rec: &mut [u32],
     text: &mut [u8],
 ) -> Stepped
-    requires { ⌜ Ready s (next - attributes) (now rec) (now text) × Tagged (now doc) attributes next × (l .items ≤ 1024) ⌝ }
-    ensures { λ r. ⌜ After (added l place (typeItem kind owner (attributesIn (now (doc .entry)) attributes) size) (builderOf s (now (doc .entry)) (now (rec .entry)) (now (text .entry)))) s (next - attributes) (now (doc .entry)) r (now (rec .exit)) (now (text .exit)) ⌝ }
+    requires { ⌜ Ready s (typeLength tag) (now rec) (now text) × (l .items ≤ 1024) ⌝ }
+    ensures { λ r. ⌜ Added l place (typeItemOf kind owner size tag (now (doc .entry))) s (typeLength tag) (now (doc .entry)) (now (rec .entry)) (now (text .entry)) r (now (rec .exit)) (now (text .exit)) ⌝ }
 {
-    let e = type_entry(kind, owner, size, doc, attributes, text, s.place.high);
+    let e = type_entry(kind, owner, size, tag, doc, text, s.place.high);
     add(s, l, place, e, doc, rec, text)
 }
 
@@ -180,7 +213,9 @@ fn open_type(
     requires { ⌜ Ready s (next - attributes) (now rec) (now text) × Tagged (now doc) attributes next × (l .items ≤ 1024) ⌝ }
     ensures { λ r. ⌜ After (openType l place inside (attributesIn (now (doc .entry)) attributes) (builderOf s (now (doc .entry)) (now (rec .entry)) (now (text .entry)))) s (next - attributes) (now (doc .entry)) r (now (rec .exit)) (now (text .exit)) ⌝ }
 {
-    let Number::Value(size) = read_number(doc, attributes, b"length", text, s.place.low) else {
+    let tag = type_attributes(doc, attributes);
+    let length = tag.first;
+    let Number::Value(size) = read_number(doc, length, text, s.place.low) else {
         return refuse(s, Refusal::BadNumber { place });
     };
     if inside {
@@ -195,29 +230,16 @@ fn open_type(
             items::MEMBER,
             composite - 1,
             size,
-            attributes,
-            next,
+            tag,
             doc,
             rec,
             text,
         );
     }
-    add_type(
-        s,
-        l,
-        place,
-        items::TYPE,
-        0,
-        size,
-        attributes,
-        next,
-        doc,
-        rec,
-        text,
-    )
+    add_type(s, l, place, items::TYPE, 0, size, tag, doc, rec, text)
 }
 
-// An item with a name and the text under `key`.
+// An item with a name and a second text.
 fn add_typed(
     s: State,
     l: Limits,
@@ -225,17 +247,16 @@ fn add_typed(
     kind: u32,
     owner: u32,
     id: u32,
-    key: &[u8],
-    attributes: usize,
-    next: usize,
+    name: Found,
+    second: Found,
     doc: &[u8],
     rec: &mut [u32],
     text: &mut [u8],
 ) -> Stepped
-    requires { ⌜ Ready s (next - attributes) (now rec) (now text) × Tagged (now doc) attributes next × (l .items ≤ 1024) × T (not (same (ascii "name") (now key))) ⌝ }
-    ensures { λ r. ⌜ Added l place (plainItem kind owner (textIn (attributesIn (now (doc .entry)) attributes) "name") (orEmpty (attributesIn (now (doc .entry)) attributes (now (key .entry)))) id) s (next - attributes) (now (doc .entry)) (now (rec .entry)) (now (text .entry)) r (now (rec .exit)) (now (text .exit)) ⌝ }
+    requires { ⌜ Ready s (rawLength name + rawLength second) (now rec) (now text) × (l .items ≤ 1024) ⌝ }
+    ensures { λ r. ⌜ Added l place (plainItem kind owner (orEmpty (valueIn (now (doc .entry)) name)) (orEmpty (valueIn (now (doc .entry)) second)) id) s (rawLength name + rawLength second) (now (doc .entry)) (now (rec .entry)) (now (text .entry)) r (now (rec .exit)) (now (text .exit)) ⌝ }
 {
-    let e = typed_entry(kind, owner, id, key, doc, attributes, text, s.place.high);
+    let e = typed_entry(kind, owner, id, name, second, doc, text, s.place.high);
     add(s, l, place, e, doc, rec, text)
 }
 
@@ -247,49 +268,16 @@ fn add_named(
     kind: u32,
     owner: u32,
     id: u32,
-    attributes: usize,
-    next: usize,
+    name: Found,
     doc: &[u8],
     rec: &mut [u32],
     text: &mut [u8],
 ) -> Stepped
-    requires { ⌜ Ready s (next - attributes) (now rec) (now text) × Tagged (now doc) attributes next × (l .items ≤ 1024) ⌝ }
-    ensures { λ r. ⌜ Added l place (plainItem kind owner (textIn (attributesIn (now (doc .entry)) attributes) "name") [] id) s (next - attributes) (now (doc .entry)) (now (rec .entry)) (now (text .entry)) r (now (rec .exit)) (now (text .exit)) ⌝ }
+    requires { ⌜ Ready s (rawLength name) (now rec) (now text) × (l .items ≤ 1024) ⌝ }
+    ensures { λ r. ⌜ Added l place (plainItem kind owner (orEmpty (valueIn (now (doc .entry)) name)) [] id) s (rawLength name) (now (doc .entry)) (now (rec .entry)) (now (text .entry)) r (now (rec .exit)) (now (text .exit)) ⌝ }
 {
-    let e = named_entry(kind, owner, id, doc, attributes, text, s.place.high);
+    let e = named_entry(kind, owner, id, name, doc, text, s.place.high);
     add(s, l, place, e, doc, rec, text)
-}
-
-// A field of an owner.
-fn add_field(
-    s: State,
-    l: Limits,
-    place: usize,
-    owner: u32,
-    id: u32,
-    attributes: usize,
-    next: usize,
-    doc: &[u8],
-    rec: &mut [u32],
-    text: &mut [u8],
-) -> Stepped
-    requires { ⌜ Ready s (next - attributes) (now rec) (now text) × Tagged (now doc) attributes next × (l .items ≤ 1024) ⌝ }
-    ensures { λ r. ⌜ Added l place (plainItem aField owner (textIn (attributesIn (now (doc .entry)) attributes) "name") (orEmpty (attributesIn (now (doc .entry)) attributes (ascii "type"))) id) s (next - attributes) (now (doc .entry)) (now (rec .entry)) (now (text .entry)) r (now (rec .exit)) (now (text .exit)) ⌝ }
-{
-    add_typed(
-        s,
-        l,
-        place,
-        items::FIELD,
-        owner,
-        id,
-        b"type",
-        attributes,
-        next,
-        doc,
-        rec,
-        text,
-    )
 }
 
 fn open_ref(
@@ -309,6 +297,9 @@ fn open_ref(
     if composite == 0 {
         return unchanged(s);
     }
+    let tag = field_attributes(doc, attributes);
+    let name = tag.second;
+    let type_found = tag.third;
     add_typed(
         s,
         l,
@@ -316,9 +307,8 @@ fn open_ref(
         items::REF,
         composite - 1,
         0,
-        b"type",
-        attributes,
-        next,
+        name,
+        type_found,
         doc,
         rec,
         text,
@@ -338,37 +328,12 @@ fn open_composite(
     requires { ⌜ Ready s (next - attributes) (now rec) (now text) × Tagged (now doc) attributes next × (l .items ≤ 1024) ⌝ }
     ensures { λ r. ⌜ After (openComposite l place (attributesIn (now (doc .entry)) attributes) (builderOf s (now (doc .entry)) (now (rec .entry)) (now (text .entry)))) s (next - attributes) (now (doc .entry)) r (now (rec .exit)) (now (text .exit)) ⌝ }
 {
-    let r = add_named(
-        s,
-        l,
-        place,
-        items::COMPOSITE,
-        0,
-        0,
-        attributes,
-        next,
-        doc,
-        rec,
-        text,
-    );
-    let t = r.state;
-    let place_t = t.place;
-    let head = t.head;
-    let verdict = r.verdict;
-    Stepped {
-        state: State {
-            place: place_t,
-            current: Current {
-                flag: t.current.flag,
-                composite: t.place.count,
-                enumer: t.current.enumer,
-                message: t.current.message,
-                group: t.current.group,
-            },
-            head,
-        },
-        verdict,
-    }
+    let tag = field_attributes(doc, attributes);
+    let name = tag.second;
+    let r = add_named(s, l, place, items::COMPOSITE, 0, 0, name, doc, rec, text);
+    let count = r.state.place.count;
+    let c = r.state.current;
+    with_current(r, count, c.enumer, c.message, c.group)
 }
 
 fn open_enum(
@@ -384,6 +349,9 @@ fn open_enum(
     requires { ⌜ Ready s (next - attributes) (now rec) (now text) × Tagged (now doc) attributes next × (l .items ≤ 1024) ⌝ }
     ensures { λ r. ⌜ After (openEnum l place (attributesIn (now (doc .entry)) attributes) (builderOf s (now (doc .entry)) (now (rec .entry)) (now (text .entry)))) s (next - attributes) (now (doc .entry)) r (now (rec .exit)) (now (text .exit)) ⌝ }
 {
+    let tag = enum_attributes(doc, attributes);
+    let name = tag.first;
+    let encoding = tag.second;
     let r = add_typed(
         s,
         l,
@@ -391,31 +359,15 @@ fn open_enum(
         items::ENUM,
         0,
         0,
-        b"encodingType",
-        attributes,
-        next,
+        name,
+        encoding,
         doc,
         rec,
         text,
     );
-    let t = r.state;
-    let place_t = t.place;
-    let head = t.head;
-    let verdict = r.verdict;
-    Stepped {
-        state: State {
-            place: place_t,
-            current: Current {
-                flag: t.current.flag,
-                composite: t.current.composite,
-                enumer: t.place.count,
-                message: t.current.message,
-                group: t.current.group,
-            },
-            head,
-        },
-        verdict,
-    }
+    let count = r.state.place.count;
+    let c = r.state.current;
+    with_current(r, c.composite, count, c.message, c.group)
 }
 
 // The collected text is emptied; with a current enum the value is added and text is collected.
@@ -451,6 +403,8 @@ fn open_value(
             verdict: Verdict::Fine,
         };
     }
+    let tag = field_attributes(doc, attributes);
+    let name = tag.second;
     let r = add_named(
         s,
         l,
@@ -458,8 +412,7 @@ fn open_value(
         items::VALUE,
         enumer - 1,
         0,
-        attributes,
-        next,
+        name,
         doc,
         rec,
         text,
@@ -502,40 +455,16 @@ fn open_message(
     requires { ⌜ Ready s (next - attributes) (now rec) (now text) × Tagged (now doc) attributes next × (l .items ≤ 1024) ⌝ }
     ensures { λ r. ⌜ After (openMessage l place (attributesIn (now (doc .entry)) attributes) (builderOf s (now (doc .entry)) (now (rec .entry)) (now (text .entry)))) s (next - attributes) (now (doc .entry)) r (now (rec .exit)) (now (text .exit)) ⌝ }
 {
-    let Number::Value(id) = read_number(doc, attributes, b"id", text, s.place.low) else {
+    let tag = field_attributes(doc, attributes);
+    let id_found = tag.first;
+    let name = tag.second;
+    let Number::Value(id) = read_number(doc, id_found, text, s.place.low) else {
         return refuse(s, Refusal::BadNumber { place });
     };
-    let r = add_named(
-        s,
-        l,
-        place,
-        items::MESSAGE,
-        0,
-        id,
-        attributes,
-        next,
-        doc,
-        rec,
-        text,
-    );
-    let t = r.state;
-    let place_t = t.place;
-    let head = t.head;
-    let verdict = r.verdict;
-    Stepped {
-        state: State {
-            place: place_t,
-            current: Current {
-                flag: t.current.flag,
-                composite: t.current.composite,
-                enumer: t.current.enumer,
-                message: t.place.count,
-                group: t.current.group,
-            },
-            head,
-        },
-        verdict,
-    }
+    let r = add_named(s, l, place, items::MESSAGE, 0, id, name, doc, rec, text);
+    let count = r.state.place.count;
+    let c = r.state.current;
+    with_current(r, c.composite, c.enumer, count, c.group)
 }
 
 // Without a message only the id is read.
@@ -552,7 +481,10 @@ fn open_group(
     requires { ⌜ Ready s (next - attributes) (now rec) (now text) × Tagged (now doc) attributes next × (l .items ≤ 1024) ⌝ }
     ensures { λ r. ⌜ After (openGroup l place (attributesIn (now (doc .entry)) attributes) (builderOf s (now (doc .entry)) (now (rec .entry)) (now (text .entry)))) s (next - attributes) (now (doc .entry)) r (now (rec .exit)) (now (text .exit)) ⌝ }
 {
-    let Number::Value(id) = read_number(doc, attributes, b"id", text, s.place.low) else {
+    let tag = field_attributes(doc, attributes);
+    let id_found = tag.first;
+    let name = tag.second;
+    let Number::Value(id) = read_number(doc, id_found, text, s.place.low) else {
         return refuse(s, Refusal::BadNumber { place });
     };
     let message = s.current.message;
@@ -566,30 +498,14 @@ fn open_group(
         items::GROUP,
         message - 1,
         id,
-        attributes,
-        next,
+        name,
         doc,
         rec,
         text,
     );
-    let t = r.state;
-    let place_t = t.place;
-    let head = t.head;
-    let verdict = r.verdict;
-    Stepped {
-        state: State {
-            place: place_t,
-            current: Current {
-                flag: t.current.flag,
-                composite: t.current.composite,
-                enumer: t.current.enumer,
-                message: t.current.message,
-                group: t.place.count,
-            },
-            head,
-        },
-        verdict,
-    }
+    let count = r.state.place.count;
+    let c = r.state.current;
+    with_current(r, c.composite, c.enumer, c.message, count)
 }
 
 // 33 where the current group was opened under another message.
@@ -606,7 +522,11 @@ fn open_field(
     requires { ⌜ Ready s (next - attributes) (now rec) (now text) × Tagged (now doc) attributes next × (l .items ≤ 1024) ⌝ }
     ensures { λ r. ⌜ After (openField l place (attributesIn (now (doc .entry)) attributes) (builderOf s (now (doc .entry)) (now (rec .entry)) (now (text .entry)))) s (next - attributes) (now (doc .entry)) r (now (rec .exit)) (now (text .exit)) ⌝ }
 {
-    let Number::Value(id) = read_number(doc, attributes, b"id", text, s.place.low) else {
+    let tag = field_attributes(doc, attributes);
+    let id_found = tag.first;
+    let name = tag.second;
+    let type_found = tag.third;
+    let Number::Value(id) = read_number(doc, id_found, text, s.place.low) else {
         return refuse(s, Refusal::BadNumber { place });
     };
     let message = s.current.message;
@@ -615,21 +535,34 @@ fn open_field(
     }
     let group = s.current.group;
     if group == 0 {
-        return add_field(
+        return add_typed(
             s,
             l,
             place,
+            items::FIELD,
             message - 1,
             id,
-            attributes,
-            next,
+            name,
+            type_found,
             doc,
             rec,
             text,
         );
     }
     if owner_of(s, group - 1, rec) == message - 1 {
-        return add_field(s, l, place, group - 1, id, attributes, next, doc, rec, text);
+        return add_typed(
+            s,
+            l,
+            place,
+            items::FIELD,
+            group - 1,
+            id,
+            name,
+            type_found,
+            doc,
+            rec,
+            text,
+        );
     }
     refuse(s, Refusal::MisplacedField { place })
 }

@@ -5,19 +5,58 @@ use crate::numbers::number_of;
 use saxlite::entities::Decoded;
 use saxlite::entities::decode;
 use saxlite::tag::Found;
-use saxlite::tag::attribute;
+use saxlite::tag::Noted;
+use saxlite::tag::attributes;
 use texts::part;
 ghost use mathlib.Core.Path.{_≡_};
-ghost use mathlib.Core.List.{[], _∷_};
-ghost use Prim.Native.Nat.{_+_, _≤_};
+ghost use mathlib.Core.List.{List, []};
+ghost use Prim.Native.Nat.{ℕ, _+_, _≤_};
 ghost use lib.Dec.{eqb};
 ghost use lib.ListN.{length};
 ghost use Rattle.texts.specs.Text.{ascii};
-ghost use Rattle.saxlite.specs.Attributes.{attributeAt, rawLength, rawLengths};
+ghost use Rattle.saxlite.specs.Attributes.{attributeAt, rawLength};
 ghost use Rattle.saxlite.specs.Event.{valueIn};
-ghost use Rattle.xmlschema.specs.Builder.{plainItem, typeItem, textIn, isGiven, orEmpty};
-ghost use Rattle.xmlschema.specs.Whole.{attributesIn};
-ghost use Rattle.xmlschema.specs.Taking.{TakenAt, ReadAt, Made};
+ghost use Rattle.xmlschema.specs.Builder.{plainItem, isGiven, orEmpty};
+ghost use Rattle.xmlschema.specs.Taking.{TakenAt, ReadAt, Made, typeItemOf, typeLength};
+
+// ---- the attributes of a tag, looked up in one walk
+
+// Of messageSchema: id, version and package.
+pub fn schema_attributes(doc: &[u8], at: usize) -> Noted
+    ensures { λ r. ⌜ (r .first ≡ attributeAt (now (doc .entry)) at (ascii "id")) × (r .second ≡ attributeAt (now (doc .entry)) at (ascii "version")) × (r .third ≡ attributeAt (now (doc .entry)) at (ascii "package")) ⌝ }
+{
+    attributes(doc, at, b"id", b"version", b"package", b"")
+}
+
+// Of a type or a member: length, name, primitive type and encoding.
+pub fn type_attributes(doc: &[u8], at: usize) -> Noted
+    ensures { λ r. ⌜ (r .first ≡ attributeAt (now (doc .entry)) at (ascii "length")) × (r .second ≡ attributeAt (now (doc .entry)) at (ascii "name")) × (r .third ≡ attributeAt (now (doc .entry)) at (ascii "primitiveType")) × (r .fourth ≡ attributeAt (now (doc .entry)) at (ascii "characterEncoding")) ⌝ }
+{
+    attributes(
+        doc,
+        at,
+        b"length",
+        b"name",
+        b"primitiveType",
+        b"characterEncoding",
+    )
+}
+
+// Of an enum: name and encoding type.
+pub fn enum_attributes(doc: &[u8], at: usize) -> Noted
+    ensures { λ r. ⌜ (r .first ≡ attributeAt (now (doc .entry)) at (ascii "name")) × (r .second ≡ attributeAt (now (doc .entry)) at (ascii "encodingType")) ⌝ }
+{
+    attributes(doc, at, b"name", b"encodingType", b"", b"")
+}
+
+// Of every other element: id, name and type.
+pub fn field_attributes(doc: &[u8], at: usize) -> Noted
+    ensures { λ r. ⌜ (r .first ≡ attributeAt (now (doc .entry)) at (ascii "id")) × (r .second ≡ attributeAt (now (doc .entry)) at (ascii "name")) × (r .third ≡ attributeAt (now (doc .entry)) at (ascii "type")) ⌝ }
+{
+    attributes(doc, at, b"id", b"name", b"type", b"")
+}
+
+// ---- their values
 
 // A text in the text buffer.
 pub struct Taken {
@@ -25,12 +64,12 @@ pub struct Taken {
     pub len: usize,
 }
 
-// The decoded value of an attribute, empty where it is absent, below `high`.
-pub fn take_value(doc: &[u8], attributes: usize, key: &[u8], text: &mut [u8], high: usize) -> Taken
-    requires { ⌜ (rawLength (attributeAt (now doc) attributes (now key)) ≤ high) × (high ≤ length (now text)) ⌝ }
-    ensures { λ r. ⌜ TakenAt (attributeAt (now (doc .entry)) attributes (now (key .entry))) (now (doc .entry)) (now (text .entry)) high r (now (text .exit)) ⌝ }
+// The decoded value that was found, empty where it is absent, below `high`.
+pub fn take_value(doc: &[u8], found: Found, text: &mut [u8], high: usize) -> Taken
+    requires { ⌜ (rawLength found ≤ high) × (high ≤ length (now text)) ⌝ }
+    ensures { λ r. ⌜ TakenAt found (now (doc .entry)) (now (text .entry)) high r (now (text .exit)) ⌝ }
 {
-    match attribute(doc, attributes, key) {
+    match found {
         Found::Absent => Taken { from: high, len: 0 },
         Found::Value { from, len } => {
             let at = high - len;
@@ -42,12 +81,12 @@ pub fn take_value(doc: &[u8], attributes: usize, key: &[u8], text: &mut [u8], hi
     }
 }
 
-// An attribute as a number, decoded into the free text from `low` on.
-pub fn read_number(doc: &[u8], attributes: usize, key: &[u8], text: &mut [u8], low: usize) -> Number
-    requires { ⌜ low + rawLength (attributeAt (now doc) attributes (now key)) ≤ length (now text) ⌝ }
-    ensures { λ r. ⌜ ReadAt (attributeAt (now (doc .entry)) attributes (now (key .entry))) (now (doc .entry)) low (now (text .entry)) r (now (text .exit)) ⌝ }
+// The value that was found as a number, decoded into the free text from `low` on.
+pub fn read_number(doc: &[u8], found: Found, text: &mut [u8], low: usize) -> Number
+    requires { ⌜ low + rawLength found ≤ length (now text) ⌝ }
+    ensures { λ r. ⌜ ReadAt found (now (doc .entry)) low (now (text .entry)) r (now (text .exit)) ⌝ }
 {
-    match attribute(doc, attributes, key) {
+    match found {
         Found::Absent => Number::Value(0),
         Found::Value { from, len } => match decode(doc, from, len, text, low) {
             Decoded::Written(n) => number_of(part(text, low, n)),
@@ -56,11 +95,11 @@ pub fn read_number(doc: &[u8], attributes: usize, key: &[u8], text: &mut [u8], l
     }
 }
 
-// Whether an attribute is there.
-pub fn is_given(doc: &[u8], attributes: usize, key: &[u8]) -> u32
-    ensures { λ r. ⌜ eqb r 1 ≡ isGiven (valueIn (now (doc .entry)) (attributeAt (now (doc .entry)) attributes (now (key .entry)))) ⌝ }
+// Whether a value was found.
+fn is_given(found: Found) -> u32
+    ensures { λ r. ⌜ ((doc : List ℕ) → eqb r 1 ≡ isGiven (valueIn doc found)) ⌝ }
 {
-    match attribute(doc, attributes, key) {
+    match found {
         Found::Absent => 0,
         Found::Value { from: _, len: _ } => 1,
     }
@@ -73,17 +112,17 @@ pub fn named_entry(
     kind: u32,
     owner: u32,
     id: u32,
+    name: Found,
     doc: &[u8],
-    attributes: usize,
     text: &mut [u8],
     high: usize,
 ) -> Entry
-    requires { ⌜ (rawLengths (now doc) attributes (ascii "name" ∷ []) ≤ high) × (high ≤ length (now text)) × (high ≤ 65536) ⌝ }
-    ensures { λ r. ⌜ Made (plainItem kind owner (textIn (attributesIn (now (doc .entry)) attributes) "name") [] id) (rawLengths (now (doc .entry)) attributes (ascii "name" ∷ [])) high (now (text .entry)) r (now (text .exit)) ⌝ }
+    requires { ⌜ (rawLength name ≤ high) × (high ≤ length (now text)) × (high ≤ 65536) ⌝ }
+    ensures { λ r. ⌜ Made (plainItem kind owner (orEmpty (valueIn (now (doc .entry)) name)) [] id) (rawLength name) high (now (text .entry)) r (now (text .exit)) ⌝ }
 {
-    let name = take_value(doc, attributes, b"name", text, high);
-    let from = name.from as u32;
-    let nlen = name.len as u32;
+    let taken = take_value(doc, name, text, high);
+    let from = taken.from as u32;
+    let nlen = taken.len as u32;
     Entry {
         kind,
         owner,
@@ -103,21 +142,21 @@ pub fn typed_entry(
     kind: u32,
     owner: u32,
     id: u32,
-    key: &[u8],
+    name: Found,
+    second: Found,
     doc: &[u8],
-    attributes: usize,
     text: &mut [u8],
     high: usize,
 ) -> Entry
-    requires { ⌜ (rawLengths (now doc) attributes (ascii "name" ∷ now key ∷ []) ≤ high) × (high ≤ length (now text)) × (high ≤ 65536) ⌝ }
-    ensures { λ r. ⌜ Made (plainItem kind owner (textIn (attributesIn (now (doc .entry)) attributes) "name") (orEmpty (attributesIn (now (doc .entry)) attributes (now (key .entry)))) id) (rawLengths (now (doc .entry)) attributes (ascii "name" ∷ now (key .entry) ∷ [])) high (now (text .entry)) r (now (text .exit)) ⌝ }
+    requires { ⌜ (rawLength name + rawLength second ≤ high) × (high ≤ length (now text)) × (high ≤ 65536) ⌝ }
+    ensures { λ r. ⌜ Made (plainItem kind owner (orEmpty (valueIn (now (doc .entry)) name)) (orEmpty (valueIn (now (doc .entry)) second)) id) (rawLength name + rawLength second) high (now (text .entry)) r (now (text .exit)) ⌝ }
 {
-    let name = take_value(doc, attributes, b"name", text, high);
-    let second = take_value(doc, attributes, key, text, name.from);
-    let from = name.from as u32;
-    let nlen = name.len as u32;
-    let sfrom = second.from as u32;
-    let slen = second.len as u32;
+    let one = take_value(doc, name, text, high);
+    let two = take_value(doc, second, text, one.from);
+    let from = one.from as u32;
+    let nlen = one.len as u32;
+    let sfrom = two.from as u32;
+    let slen = two.len as u32;
     Entry {
         kind,
         owner,
@@ -132,29 +171,33 @@ pub fn typed_entry(
     }
 }
 
-// A type or a member: its name, its primitive type and its encoding.
+// A type or a member, of what `type_attributes` found.
 pub fn type_entry(
     kind: u32,
     owner: u32,
     size: u32,
+    tag: Noted,
     doc: &[u8],
-    attributes: usize,
     text: &mut [u8],
     high: usize,
 ) -> Entry
-    requires { ⌜ (rawLengths (now doc) attributes (ascii "name" ∷ ascii "primitiveType" ∷ ascii "characterEncoding" ∷ []) ≤ high) × (high ≤ length (now text)) × (high ≤ 65536) ⌝ }
-    ensures { λ r. ⌜ Made (typeItem kind owner (attributesIn (now (doc .entry)) attributes) size) (rawLengths (now (doc .entry)) attributes (ascii "name" ∷ ascii "primitiveType" ∷ ascii "characterEncoding" ∷ [])) high (now (text .entry)) r (now (text .exit)) ⌝ }
+    requires { ⌜ (typeLength tag ≤ high) × (high ≤ length (now text)) × (high ≤ 65536) ⌝ }
+    ensures { λ r. ⌜ Made (typeItemOf kind owner size tag (now (doc .entry))) (typeLength tag) high (now (text .entry)) r (now (text .exit)) ⌝ }
 {
-    let name = take_value(doc, attributes, b"name", text, high);
-    let second = take_value(doc, attributes, b"primitiveType", text, name.from);
-    let encoding = take_value(doc, attributes, b"characterEncoding", text, second.from);
-    let given = is_given(doc, attributes, b"length");
-    let from = name.from as u32;
-    let nlen = name.len as u32;
-    let sfrom = second.from as u32;
-    let slen = second.len as u32;
-    let efrom = encoding.from as u32;
-    let elen = encoding.len as u32;
+    let length = tag.first;
+    let name = tag.second;
+    let primitive = tag.third;
+    let encoding = tag.fourth;
+    let given = is_given(length);
+    let one = take_value(doc, name, text, high);
+    let two = take_value(doc, primitive, text, one.from);
+    let three = take_value(doc, encoding, text, two.from);
+    let from = one.from as u32;
+    let nlen = one.len as u32;
+    let sfrom = two.from as u32;
+    let slen = two.len as u32;
+    let efrom = three.from as u32;
+    let elen = three.len as u32;
     Entry {
         kind,
         owner,

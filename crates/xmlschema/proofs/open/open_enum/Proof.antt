@@ -1,33 +1,37 @@
-use Rattle.texts.specs.Text.{same}
 use Rattle.xmlschema.proofs.Laws.{opening}
 use Rattle.xmlschema.proofs.open.open_enum.Statement.{statement}
 use Rattle.xmlschema.proofs.open.open_enum.Tie as tie
-use Rattle.xmlschema.proofs.open.open_enum.Reads as reads
-use Rattle.xmlschema.proofs.open.open_enum.Lts as lts
-use Rattle.xmlschema.proofs.open.add_typed.Reads as add-typed-reads
 
--- src/open.rt:265:55
-slice-aggregate-add-typed : tie.Need-slice-aggregate-add-typed
-slice-aggregate-add-typed c = search opening
+enum-attributes-requires : tie.Need-enum-attributes-requires
+enum-attributes-requires c κs = search opening
 
--- src/open.rt:265:9
 add-typed-requires : tie.Need-add-typed-requires
-unfolding same
 add-typed-requires c κs = search opening
 
--- src/open.rt:261:1
+with-current-requires : tie.Need-with-current-requires
+with-current-requires c κs = search opening
+
 same-length : tie.Need-same-length
 same-length c = search opening
 
--- src/open.rt:261:1
 same-length-2 : tie.Need-same-length-2
 same-length-2 c = search opening
 
--- src/open.rt:261:1
 returns : tie.Need-returns
-returns c = search opening
+returns c =
+    let pre = c .before .before .before .before .before .before .before .before .before .before .before .before .before .pre in
+    let e-enum-attributes = c .before .before .before .before .before .before .before .before .before .enum-attributes .ensures in
+    let e-add-typed = c .before .before .before .before .before .before .add-typed .ensures in
+    let e-with-current = c .with-current .ensures in
+    search opening
 
 pub open-enum-spec : {M : Type 1} → statement M
 open-enum-spec =
     tie.close
-    (tie.spec slice-aggregate-add-typed add-typed-requires same-length same-length-2 returns)
+    (tie.spec
+    enum-attributes-requires
+    add-typed-requires
+    with-current-requires
+    same-length
+    same-length-2
+    returns)

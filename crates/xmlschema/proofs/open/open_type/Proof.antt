@@ -1,73 +1,53 @@
 use Rattle.xmlschema.proofs.Laws.{opening}
 use Rattle.xmlschema.proofs.open.open_type.Statement.{statement}
 use Rattle.xmlschema.proofs.open.open_type.Tie as tie
-use Rattle.xmlschema.proofs.open.open_type.Reads as reads
-use Rattle.xmlschema.proofs.open.open_type.Lts as lts
-use Rattle.xmlschema.proofs.open.add_type.Reads as add-type-reads
-use Rattle.xmlschema.proofs.open.refuse.Reads as refuse-reads
-use Rattle.xmlschema.proofs.open.unchanged.Reads as unchanged-reads
-use Rattle.xmlschema.proofs.take.read_number.Reads as read-number-reads
 
--- src/open.rt:169:60
-slice-aggregate-read-number : tie.Need-slice-aggregate-read-number
-slice-aggregate-read-number c = search opening
+type-attributes-requires : tie.Need-type-attributes-requires
+type-attributes-requires c κs = search opening
 
--- src/open.rt:169:31
 read-number-requires : tie.Need-read-number-requires
 read-number-requires c κs = search opening
 
--- src/open.rt:169:23
 enum-known-size : tie.Need-enum-known-size
 enum-known-size c = search opening
 
--- src/open.rt:170:26
 enum-told : tie.Need-enum-told
 enum-told c = search opening
 
--- src/open.rt:170:9
 refuse-requires : tie.Need-refuse-requires
 refuse-requires c κs = search opening
 
--- src/open.rt:170:9
 same-length : tie.Need-same-length
 same-length c = search opening
 
--- src/open.rt:170:9
 returns : tie.Need-returns
 returns c = search opening
 
--- src/open.rt:175:13
 unchanged-requires : tie.Need-unchanged-requires
 unchanged-requires c κs = search opening
 
--- src/open.rt:175:13
 same-length-2 : tie.Need-same-length-2
 same-length-2 c = search opening
 
--- src/open.rt:175:13
 returns-2 : tie.Need-returns-2
 returns-2 c = search opening
 
--- src/open.rt:177:53
 sub-add-type : tie.Need-sub-add-type
 sub-add-type c = search opening
 
--- src/open.rt:177:9
 add-type-requires : tie.Need-add-type-requires
 add-type-requires c κs = search opening
 
--- src/open.rt:177:9
 same-length-3 : tie.Need-same-length-3
 same-length-3 c = search opening
 
--- src/open.rt:177:9
 same-length-4 : tie.Need-same-length-4
 same-length-4 c = search opening
 
--- src/open.rt:177:9
 returns-3 : tie.Need-returns-3
 returns-3 c =
     let pre = c .before .before .before .before .before .before .before .before .before .before .before .before .before .before .before .before .before .before .before .before .pre in
+    let e-type-attributes = c .before .before .before .before .before .before .before .before .before .before .before .before .before .before .before .before .type-attributes .ensures in
     let e-read-number = c .before .before .before .before .before .before .before .before .before .before .before .before .before .before .read-number .ensures in
     let g-size = c .before .before .before .before .before .before .before .before .before .before .size .given .1 in
     let t-if1 = c .before .before .before .before .before .before .before .before .if1 .taken in
@@ -75,22 +55,19 @@ returns-3 c =
     let e-add-type = c .before .before .before .before .add-type .ensures in
     search opening
 
--- src/open.rt:179:5
 add-type-requires-2 : tie.Need-add-type-requires-2
 add-type-requires-2 c κs = search opening
 
--- src/open.rt:155:1
 same-length-5 : tie.Need-same-length-5
 same-length-5 c = search opening
 
--- src/open.rt:155:1
 same-length-6 : tie.Need-same-length-6
 same-length-6 c = search opening
 
--- src/open.rt:155:1
 returns-4 : tie.Need-returns-4
 returns-4 c =
     let pre = c .before .before .before .before .before .before .before .before .before .before .before .before .before .before .before .before .before .before .before .pre in
+    let e-type-attributes = c .before .before .before .before .before .before .before .before .before .before .before .before .before .before .before .type-attributes .ensures in
     let e-read-number = c .before .before .before .before .before .before .before .before .before .before .before .before .before .read-number .ensures in
     let g-size = c .before .before .before .before .before .before .before .before .before .size .given .1 in
     let l-if1 = c .before .before .before .before .before .before .before .if1 .left in
@@ -101,7 +78,7 @@ pub open-type-spec : {M : Type 1} → statement M
 open-type-spec =
     tie.close
     (tie.spec
-    slice-aggregate-read-number
+    type-attributes-requires
     read-number-requires
     enum-known-size
     enum-told
