@@ -41,7 +41,7 @@ ghost use Rattle.saxlite.specs.Attributes.{rawLength};
 ghost use Rattle.saxlite.specs.Event.{valueIn};
 ghost use Rattle.xmlschema.specs.Schema.{itemAt};
 ghost use Rattle.xmlschema.specs.Store.{itemOf, schemaOf};
-ghost use Rattle.xmlschema.specs.Builder.{added, openSchema, openType, openRef, openComposite, openEnum, openValue, openMessage, openGroup, openField, openBy, opened, plainItem, orEmpty};
+ghost use Rattle.xmlschema.specs.Builder.{openSchema, openType, openRef, openComposite, openEnum, openValue, openMessage, openGroup, openField, openBy, opened, plainItem, orEmpty};
 ghost use Rattle.xmlschema.specs.Whole.{attributesIn};
 ghost use Rattle.xmlschema.specs.Layout.{builderOf, modelIn, recurrent, Kept, Ready, Tagged, Steady, After, Added};
 ghost use Rattle.xmlschema.specs.Taking.{typeItemOf, typeLength};

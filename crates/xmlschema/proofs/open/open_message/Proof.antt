@@ -34,12 +34,8 @@ same-length-2 c = search opening
 
 same-length-3 : tie.Need-same-length-3
 same-length-3 c =
-    let pre = c .before .before .before .before .before .before .before .before .before .before .before .before .before .before .before .before .before .before .before .before .pre in
-    let e-field-attributes = c .before .before .before .before .before .before .before .before .before .before .before .before .before .before .before .before .field-attributes .ensures in
     let e-read-number = c .before .before .before .before .before .before .before .before .before .before .before .before .before .before .read-number .ensures in
-    let g-id = c .before .before .before .before .before .before .before .before .before .before .id .given .1 in
     let e-add-named = c .before .before .before .before .before .before .add-named .ensures in
-    let e-with-current = c .with-current .ensures in
     search opening
 
 returns-2 : tie.Need-returns-2
