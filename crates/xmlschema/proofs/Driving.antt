@@ -2,6 +2,7 @@
 use mathlib.Core.Path.{_≡_, refl, sym, ap, subst, _∙_}
 use mathlib.Core.Bool.{Bool, true, false, not}
 use mathlib.Core.List.{List, [], _∷_}
+use mathlib.Core.Logic.{⊎-elim}
 use Prim.Native.Nat.{ℕ, zero, suc, _+_, _*_, _-_, _≤_, _<_}
 use native.Mathlib.Omega.{arith}
 use lib.Dec.{leb, ltb}
@@ -27,7 +28,8 @@ use Rattle.xmlschema.specs.Builder.{Builder, Outcome, on, refused}
 use Rattle.xmlschema.specs.Whole.{step, Whole, accepted, refusedBy, ending, run, empty, reading, theLimits, answerOf}
 use Rattle.xmlschema.specs.Store.{itemsOf, schemaOf}
 use Rattle.xmlschema.specs.Layout.{modelIn, builderOf, stackOf, current, Kept, Ready, Tagged, After, outcome, usedBy}
-use Rattle.xmlschema.specs.Driving.{takes, Inside, first}
+use Rattle.xmlschema.specs.Driving.{takes, Inside, first, shown, ReadInto}
+use Rattle.xmlschema.specs.declared.build.Schema.{Schema as Read-schema}
 use Rattle.xmlschema.specs.declared.build.Schema.the-variants as read
 use Rattle.xmlschema.specs.declared.state.Limits.{Limits}
 use Rattle.xmlschema.specs.declared.state.State.{State}
@@ -246,25 +248,31 @@ module _ (l : Limits) (doc : List ℕ) (c : Cursor) (s : State) (rec text : List
 
 -- ---- the whole answer
 
-pub answer-long : (doc : List ℕ) (R B : ℕ) → 32768 < length doc → refusedBy TooLong ≡ answerOf doc R B
-unfolding answerOf
-answer-long doc R B h = rw (lt-ltb 32768 (length doc) h)
-
-module _ (doc : List ℕ) (R B : ℕ) (h : length doc ≤ 32768) where
-  pub answer-records : R < 16384 → refusedBy NoWorkSpace ≡ answerOf doc R B
+module _ (doc rec text : List ℕ) where
+  -- a refusal before anything is written
+  pub answer-long : 32768 < length doc → ReadInto doc rec text (read.Refused TooLong) rec text
   unfolding answerOf
-  answer-records k = rw (le-ltb 32768 (length doc) h, lt-ltb R 16384 k)
+  answer-long h = record { is = rw (lt-ltb 32768 (length doc) h); untouched = λ z. (refl, refl) }
 
-  module _ (k : 16384 ≤ R) where
-    pub answer-text : B < 65536 → refusedBy NoWorkSpace ≡ answerOf doc R B
+  module _ (h : length doc ≤ 32768) where
+    pub answer-records : length rec < 16384 → ReadInto doc rec text (read.Refused NoWorkSpace) rec text
     unfolding answerOf
-    answer-text t = rw (le-ltb 32768 (length doc) h, le-ltb R 16384 k, lt-ltb B 65536 t)
+    answer-records k = record { is = rw (le-ltb 32768 (length doc) h, lt-ltb (length rec) 16384 k); untouched = λ z. (refl, refl) }
 
-    module _ (t : 65536 ≤ B) {at : ℕ} (e : at ≡ scan isAscii doc 0) where
-      pub answer-high : at < length doc → refusedBy (NotAscii at) ≡ answerOf doc R B
+    module _ (k : 16384 ≤ length rec) where
+      pub answer-text : length text < 65536 → ReadInto doc rec text (read.Refused NoWorkSpace) rec text
       unfolding answerOf
-      answer-high l = rw (le-ltb 32768 (length doc) h, le-ltb R 16384 k, le-ltb B 65536 t, ← e, lt-ltb at (length doc) l)
+      answer-text t = record { is = rw (le-ltb 32768 (length doc) h, le-ltb (length rec) 16384 k, lt-ltb (length text) 65536 t); untouched = λ z. (refl, refl) }
 
-      pub answer-read : length doc ≤ at → {w : Whole} → w ≡ reading theLimits doc → w ≡ answerOf doc R B
-      unfolding answerOf
-      answer-read l q = rw (le-ltb 32768 (length doc) h, le-ltb R 16384 k, le-ltb B 65536 t, ← e, le-ltb at (length doc) l) q
+      module _ (t : 65536 ≤ length text) {at : ℕ} (e : at ≡ scan isAscii doc 0) where
+        pub answer-high : at < length doc → ReadInto doc rec text (read.Refused (NotAscii at)) rec text
+        unfolding answerOf
+        answer-high l = record { is = rw (le-ltb 32768 (length doc) h, le-ltb (length rec) 16384 k, le-ltb (length text) 65536 t, ← e, lt-ltb at (length doc) l); untouched = λ z. (refl, refl) }
+
+        pub answer-read : length doc ≤ at → {r : Read-schema} {rec′ text′ : List ℕ} → shown r rec′ text′ ≡ reading theLimits doc → ReadInto doc rec text r rec′ text′
+        unfolding answerOf
+        answer-read l q =
+            record {
+              is = rw (le-ltb 32768 (length doc) h, le-ltb (length rec) 16384 k, le-ltb (length text) 65536 t, ← e, le-ltb at (length doc) l) q;
+              untouched = λ z. absurd (⊎-elim (λ a. omega (arith, k, a)) (λ a. omega (arith, t, a)) z);
+            }

@@ -1,12 +1,14 @@
 -- What one event takes and where it lies, and what reading a document shows. Internal.
+use mathlib.Core.Path.{_≡_}
 use mathlib.Core.Bool.{Bool, true, false}
 use mathlib.Core.List.{List}
-use Prim.Native.Nat.{ℕ, _+_, _-_, _≤_}
+use mathlib.Core.Logic.{_⊎_}
+use Prim.Native.Nat.{ℕ, _+_, _-_, _≤_, _<_}
 use lib.ListN.{length}
 use Rattle.saxlite.specs.declared.reader.Event.{Event}
 use Rattle.saxlite.specs.declared.reader.Event.the-variants.{Text, Open, Close, Skipped, End, Refused}
 use Rattle.xmlschema.specs.Store.{schemaOf}
-use Rattle.xmlschema.specs.Whole.{Whole, accepted, refusedBy}
+use Rattle.xmlschema.specs.Whole.{Whole, accepted, refusedBy, answerOf}
 use Rattle.xmlschema.specs.Layout.{Tagged}
 use Rattle.xmlschema.specs.declared.state.State.{State}
 use Rattle.xmlschema.specs.declared.build.Schema.{Schema}
@@ -43,3 +45,8 @@ first =
 abbrev pub shown : Schema → List ℕ → List ℕ → Whole
 shown (read.Accepted m) rec text = accepted (schemaOf m rec text)
 shown (read.Refused r) rec text = refusedBy r
+
+-- what reading a document promises: the answer, and where a buffer is too short, both hold what they held
+pub record ReadInto (doc rec text : List ℕ) (r : Schema) (rec′ text′ : List ℕ) : Type 0 where
+  pub is : shown r rec′ text′ ≡ answerOf doc (length rec) (length text)
+  pub untouched : (length rec < 16384) ⊎ (length text < 65536) → (rec′ ≡ rec) × (text′ ≡ text)

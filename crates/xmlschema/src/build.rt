@@ -19,9 +19,9 @@ use texts::ascii_end;
 ghost use mathlib.Core.Path.{_≡_};
 ghost use Prim.Native.Nat.{_≤_};
 ghost use lib.ListN.{length};
-ghost use Rattle.xmlschema.specs.Whole.{step, reading, answerOf};
+ghost use Rattle.xmlschema.specs.Whole.{step, reading};
 ghost use Rattle.xmlschema.specs.Layout.{builderOf, Ready, After};
-ghost use Rattle.xmlschema.specs.Driving.{takes, Inside, first, shown};
+ghost use Rattle.xmlschema.specs.Driving.{takes, Inside, first, shown, ReadInto};
 
 // 01's limits.
 const MAX_ITEMS: u32 = 1024;
@@ -153,9 +153,10 @@ fn first_state() -> State
 }
 
 // The whole document: 1, 2, 10, then 11 to 35 as it is read, then 31. Where it is accepted, the two
-// buffers hold the model that the accessors of `items` show.
+// buffers hold the model that the accessors of `items` show; where one is too short, nothing is
+// written to either.
 pub fn read_schema(doc: &[u8], rec: &mut [u32], text: &mut [u8]) -> Schema
-    ensures { λ r. ⌜ shown r (now (rec .exit)) (now (text .exit)) ≡ answerOf (now (doc .entry)) (length (now (rec .entry))) (length (now (text .entry))) ⌝ }
+    ensures { λ r. ⌜ ReadInto (now (doc .entry)) (now (rec .entry)) (now (text .entry)) r (now (rec .exit)) (now (text .exit)) ⌝ }
 {
     if MAX_DOCUMENT < doc.len() {
         return Schema::Refused(Refusal::TooLong);

@@ -2,9 +2,9 @@
 //
 // `build::read_schema` reads: 1, 2, 10, then 11 to 35 as the document is read, then 31; what it
 // answers, and the model it leaves, equal `answerOf` of specs/Whole.antt on all inputs, whatever the
-// buffers held before. `items` has the accessors, through which alone anyone sees a model: each
-// promises an equation with the schema that the model stands for (specs/Schema.antt, `schemaOf` of
-// specs/Store.antt).
+// buffers held before; where one is too short, both hold that still. `items` has the accessors,
+// through which alone anyone sees a model: each promises an equation with the schema that the model
+// stands for (specs/Schema.antt, `schemaOf` of specs/Store.antt).
 pub mod build;
 pub mod close;
 pub mod elements;

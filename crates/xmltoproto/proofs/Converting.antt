@@ -21,7 +21,7 @@ use Rattle.printing.specs.Output.{finished, outputAfter}
 use Rattle.xmlschema.specs.Schema.{Schema}
 use Rattle.xmlschema.specs.Store.{schemaOf}
 use Rattle.xmlschema.specs.Whole.{Whole, accepted, refusedBy, answerOf}
-use Rattle.xmlschema.specs.Driving.{shown}
+use Rattle.xmlschema.specs.Driving.{shown, ReadInto}
 use Rattle.xmlschema.specs.declared.build.Schema.{Schema as Read}
 use Rattle.xmlschema.specs.declared.build.Schema.the-variants as read
 use Rattle.xmlschema.specs.declared.items.Model.{Model}
@@ -35,16 +35,16 @@ use Rattle.xmltoproto.proofs.Unique.{source-decides, sheet-decides}
 
 -- ---- one call: d is what reading answered, w what the definition says
 
-module _ (doc : List ℕ) (R B : ℕ) (out rec text : List ℕ) (d : Read) (e : shown d rec text ≡ answerOf doc R B) where
-  pub convert-refused : {q : Refusal} → d ≡ read.Refused q → Converts doc R B out out (Refused q)
+module _ (doc rec₀ text₀ out rec text : List ℕ) (d : Read) (e : ReadInto doc rec₀ text₀ d rec text) where
+  pub convert-refused : {q : Refusal} → d ≡ read.Refused q → Converts doc (length rec₀) (length text₀) out out (Refused q)
   unfolding outputAfter
   convert-refused {q} f =
-      let w : refusedBy q ≡ answerOf doc R B = rw f at e in
+      let w : refusedBy q ≡ answerOf doc (length rec₀) (length text₀) = ap (λ x. shown x rec text) (sym f) ∙ e .is in
       record { is = ap (λ x. converted x (length out)) w; output = refl }
 
-  pub convert-accepted : {m : Model} → d ≡ read.Accepted m → {out′ : List ℕ} {r : Answer} → Generated (schemaOf m rec text) out out′ r → Converts doc R B out out′ r
+  pub convert-accepted : {m : Model} → d ≡ read.Accepted m → {out′ : List ℕ} {r : Answer} → Generated (schemaOf m rec text) out out′ r → Converts doc (length rec₀) (length text₀) out out′ r
   convert-accepted {m} f {out′} {r} g =
-      let w : accepted (schemaOf m rec text) ≡ answerOf doc R B = rw f at e in
+      let w : accepted (schemaOf m rec text) ≡ answerOf doc (length rec₀) (length text₀) = ap (λ x. shown x rec text) (sym f) ∙ e .is in
       record { is = g .is ∙ ap (λ x. converted x (length out)) w; output = g .output ∙ ap (λ x. outputAfter r (sourceIn x) out) w }
 
 -- ---- what an accepted call left
