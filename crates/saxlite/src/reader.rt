@@ -1,5 +1,5 @@
-// The reader by value: what it yields, and where it goes on. An event at a time, so that a
-// self-closed tag is an open, then a close.
+// What the reader yields, and where it goes on: by value, and as a struct that holds the document.
+// An event at a time, so that a self-closed tag is an open, then a close.
 use crate::step::Step;
 use crate::step::step_at;
 use refusals::Refusal;
@@ -140,4 +140,35 @@ pub fn at_end(doc: &[u8], c: Cursor) -> bool
         return false;
     }
     doc.len() <= c.at
+}
+
+// A reader over the document that yields one event at a time.
+pub struct Reader<'a> {
+    pub doc: &'a [u8],
+    pub cursor: Cursor,
+}
+
+// What the reader yields, and where it goes on.
+pub fn ahead<'a>(r: Reader<'a>) -> Read
+    ensures { λ e. ⌜ e ≡ readAt (now (r .entry .doc)) (r .entry .cursor) ⌝ }
+{
+    read_next(r.doc, r.cursor)
+}
+
+// An event, and the place of its '<' or of its first byte.
+pub struct Placed {
+    pub event: Event,
+    pub place: usize,
+}
+
+// The next event; the reader has moved on.
+pub fn next<'s, 'a>(r: &'s mut Reader<'a>) -> Placed
+    ensures { λ e. ⌜ (now (r .exit) .doc ≡ now (r .entry) .doc) × (record { event = e .event; place = e .place; cursor = now (r .exit) .cursor } ≡ readAt (now (now (r .entry) .doc)) (now (r .entry) .cursor)) ⌝ }
+{
+    let read = read_next(r.doc, r.cursor);
+    r.cursor = read.cursor;
+    Placed {
+        event: read.event,
+        place: read.place,
+    }
 }
