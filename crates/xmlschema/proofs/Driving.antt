@@ -7,7 +7,7 @@ use Prim.Native.Nat.{ℕ, zero, suc, _+_, _*_, _-_, _≤_, _<_}
 use native.Mathlib.Omega.{arith}
 use lib.Dec.{leb, ltb}
 use lib.ListN.{length}
-use borrow.Author.Tests.{lt-ltb, le-ltb, leb-true, leb-false, le-leb}
+use borrow.Author.Tests.{lt-ltb, le-ltb, leb-true, leb-false, le-leb, not-true, not-false}
 use Rattle.texts.specs.Choice.{pick}
 use Rattle.texts.specs.Text.{piece}
 use Rattle.texts.specs.Scan.{scan, isAscii}
@@ -31,9 +31,9 @@ use Rattle.xmlschema.specs.Layout.{modelIn, builderOf, stackOf, current,
 use Rattle.xmlschema.specs.Driving.{takes, Inside, first, shown, ReadInto}
 use Rattle.xmlschema.specs.declared.build.Schema.{Schema as Read-schema}
 use Rattle.xmlschema.specs.declared.build.Schema.the-variants as read
+use Rattle.xmlschema.specs.declared.build.Turned.{Turned}
 use Rattle.xmlschema.specs.declared.state.Limits.{Limits}
 use Rattle.xmlschema.specs.declared.state.State.{State}
-use Rattle.xmlschema.specs.declared.state.Stepped.{Stepped}
 use Rattle.xmlschema.specs.declared.state.Verdict.{Verdict}
 use Rattle.xmlschema.specs.declared.state.Verdict.the-variants as verdict
 use Rattle.xmlschema.proofs.Stacking.{length-stack}
@@ -186,57 +186,58 @@ reading-start l doc rec text es ec h k t i d =
     })
 
 module _ (l : Limits) (doc : List ℕ) (c : Cursor) (s : State) (rec text : List ℕ) (inv : Reading l doc c s rec text) where
-  module _ {b : Bool} (eb : b ≡ atEnd doc c) (f : b ≡ false) {r : Read} (er : r ≡ readAt doc c) where
-    next : Next doc c r
-    next = rw er (moves doc c (inv .within) (sym eb ∙ f))
+  module _ {b : Bool} (eb : b ≡ atEnd doc c) (more : not b ≡ true) where
+    going : atEnd doc c ≡ false
+    going = sym eb ∙ not-true b more
 
-    pub reading-ready : Ready s (takes (r .event)) rec text
+    next : Next doc c (readAt doc c)
+    next = moves doc c (inv .within) going
+
+    pub reading-ready : Ready s (takes (readAt doc c .event)) rec text
     reading-ready = record { kept = inv .kept; room = omega (arith, next .space, inv .used, inv .small, inv .kept .top, inv .kept .apart) }
 
-    pub reading-inside : Inside doc (r .event)
+    pub reading-inside : Inside doc (readAt doc c .event)
     reading-inside = next .inside
 
-    module _ {a : Stepped} {rec′ text′ : List ℕ} (p : After (step l doc (r .place) (r .event) (builderOf s doc rec text)) s (takes (r .event)) doc a rec′ text′) where
-      stepped : step l doc (readAt doc c .place) (readAt doc c .event) (builderOf s doc rec text) ≡ outcome (a .verdict) (builderOf (a .state) doc rec′ text′)
-      stepped = ap (λ (x : Read). step l doc (x .place) (x .event) (builderOf s doc rec text)) (sym er) ∙ sym (p .is)
-
+    module _ {a : Turned} {rec′ text′ : List ℕ} (to : a .cursor ≡ readAt doc c .cursor) (p : After (step l doc (readAt doc c .place) (readAt doc c .event) (builderOf s doc rec text)) s (takes (readAt doc c .event)) doc (record { state = a .state; verdict = a .verdict }) rec′ text′) where
       pub reading-refused : {q : Refusal} → a .verdict ≡ verdict.Refused q → refusedBy q ≡ reading l doc
       reading-refused {q} v =
-          let e : step l doc (readAt doc c .place) (readAt doc c .event) (builderOf s doc rec text) ≡ refused q = stepped ∙ ap (λ x. outcome x (builderOf (a .state) doc rec′ text′)) v in
+          let e : step l doc (readAt doc c .place) (readAt doc c .event) (builderOf s doc rec text) ≡ refused q = sym (p .is) ∙ ap (λ x. outcome x (builderOf (a .state) doc rec′ text′)) v in
           let z : left doc c + 1 ≡ suc (left doc c) = omega arith in
-          sym (run-refused (left doc c) l doc c (builderOf s doc rec text) (sym eb ∙ f) e) ∙ ap (λ k. run k l doc c (builderOf s doc rec text)) (sym z) ∙ inv .same
+          sym (run-refused (left doc c) l doc c (builderOf s doc rec text) going e) ∙ ap (λ k. run k l doc c (builderOf s doc rec text)) (sym z) ∙ inv .same
 
       module _ (v : a .verdict ≡ verdict.Fine) where
         on-step : step l doc (readAt doc c .place) (readAt doc c .event) (builderOf s doc rec text) ≡ on (builderOf (a .state) doc rec′ text′)
-        on-step = stepped ∙ ap (λ x. outcome x (builderOf (a .state) doc rec′ text′)) v
+        on-step = sym (p .is) ∙ ap (λ x. outcome x (builderOf (a .state) doc rec′ text′)) v
 
-        not-bad : bad (r .event) ≡ false
-        not-bad = rw er (good l doc (readAt doc c .place) (readAt doc c .event) (builderOf s doc rec text) (builderOf (a .state) doc rec′ text′) on-step)
+        not-bad : bad (readAt doc c .event) ≡ false
+        not-bad = good l doc (readAt doc c .place) (readAt doc c .event) (builderOf s doc rec text) (builderOf (a .state) doc rec′ text′) on-step
 
-        pub reading-less : left doc (r .cursor) < left doc c
-        reading-less = next .less not-bad
+        pub reading-less : left doc (a .cursor) < left doc c
+        reading-less = rw to (next .less not-bad)
 
-        pub reading-on : Reading l doc (r .cursor) (a .state) rec′ text′
+        pub reading-on : Reading l doc (a .cursor) (a .state) rec′ text′
         reading-on =
-            let g = goes l doc c (builderOf s doc rec text) (builderOf (a .state) doc rec′ text′) (inv .within) (sym eb ∙ f) on-step in
+            let g = goes l doc c (builderOf s doc rec text) (builderOf (a .state) doc rec′ text′) (inv .within) going on-step in
             let z : left doc c + 1 ≡ suc (left doc c) = omega arith in
             let m : run (left doc c) l doc (readAt doc c .cursor) (builderOf (a .state) doc rec′ text′) ≡ reading l doc =
-            sym (run-on (left doc c) l doc c (builderOf s doc rec text) (sym eb ∙ f) on-step) ∙ ap (λ k. run k l doc c (builderOf s doc rec text)) (sym z) ∙ inv .same in
+            sym (run-on (left doc c) l doc c (builderOf s doc rec text) going on-step) ∙ ap (λ k. run k l doc c (builderOf s doc rec text)) (sym z) ∙ inv .same in
             let n : run (left doc (readAt doc c .cursor) + 1) l doc (readAt doc c .cursor) (builderOf (a .state) doc rec′ text′) ≡ run (left doc c) l doc (readAt doc c .cursor) (builderOf (a .state) doc rec′ text′) =
             enough (left doc c) _ _ l doc (readAt doc c .cursor) _ (g .within) (omega (arith, g .less)) (omega arith) (g .less) in
-            record {
+            subst (λ (k : Cursor). Reading l doc k (a .state) rec′ text′) (sym to)
+            (record {
               kept = p .kept v;
               used = omega (arith, p .used v, inv .used, next .grows not-bad);
               within = next .within not-bad;
               small = inv .small;
               items = inv .items;
               depth = inv .depth;
-              same = rw er (n ∙ m);
-            }
+              same = n ∙ m;
+            })
 
-  module _ {b : Bool} (eb : b ≡ atEnd doc c) (t : b ≡ true) where
+  module _ {b : Bool} (eb : b ≡ atEnd doc c) (t : not b ≡ false) where
     ended : ending doc (builderOf s doc rec text) ≡ reading l doc
-    ended = sym (run-end (left doc c + 1) l doc c (builderOf s doc rec text) (sym eb ∙ t)) ∙ inv .same
+    ended = sym (run-end (left doc c + 1) l doc c (builderOf s doc rec text) (sym eb ∙ not-false b t)) ∙ inv .same
 
     pub reading-open : 0 < s .place .depth → refusedBy (OpenElements (length doc)) ≡ reading l doc
     unfolding ending

@@ -11,15 +11,18 @@ use crate::state::State;
 use crate::state::Stepped;
 use crate::state::Verdict;
 use refusals::Refusal;
+use saxlite::reader::Cursor;
 use saxlite::reader::Event;
+use saxlite::reader::Reader;
+use saxlite::reader::ahead;
 use saxlite::reader::at_end;
 use saxlite::reader::cursor_at;
-use saxlite::reader::read_next;
 use texts::ascii_end;
 ghost use mathlib.Core.Path.{_≡_};
 ghost use Prim.Native.Nat.{_≤_};
 ghost use lib.ListN.{length};
-ghost use Rattle.xmlschema.specs.Whole.{step, reading};
+ghost use Rattle.saxlite.specs.Reader.{readAt};
+ghost use Rattle.xmlschema.specs.Whole.{step as stepOf, reading};
 ghost use Rattle.xmlschema.specs.Layout.{builderOf, Ready, After};
 ghost use Rattle.xmlschema.specs.Driving.{takes, Inside, first, shown, ReadInto};
 
@@ -59,7 +62,7 @@ pub fn step_value(
     text: &mut [u8],
 ) -> Stepped
     requires { ⌜ Ready s (takes event) (now rec) (now text) × Inside (now doc) event × (l .items ≤ 1024) × (l .depth ≤ 64) × (length (now doc) ≤ 32768) ⌝ }
-    ensures { λ r. ⌜ After (step l (now (doc .entry)) place event (builderOf s (now (doc .entry)) (now (rec .entry)) (now (text .entry)))) s (takes event) (now (doc .entry)) r (now (rec .exit)) (now (text .exit)) ⌝ }
+    ensures { λ r. ⌜ After (stepOf l (now (doc .entry)) place event (builderOf s (now (doc .entry)) (now (rec .entry)) (now (text .entry)))) s (takes event) (now (doc .entry)) r (now (rec .exit)) (now (text .exit)) ⌝ }
 {
     match event {
         Event::Text { from, len } => on_text(s, from, len, doc, rec, text),
@@ -90,6 +93,46 @@ pub fn step_value(
     }
 }
 
+// The builder takes one event and updates its state.
+fn step(
+    s: &mut State,
+    l: Limits,
+    place: usize,
+    event: Event,
+    doc: &[u8],
+    rec: &mut [u32],
+    text: &mut [u8],
+) -> Verdict
+    requires { ⌜ Ready (now s) (takes event) (now rec) (now text) × Inside (now doc) event × (l .items ≤ 1024) × (l .depth ≤ 64) × (length (now doc) ≤ 32768) ⌝ }
+    ensures { λ v. ⌜ After (stepOf l (now (doc .entry)) place event (builderOf (now (s .entry)) (now (doc .entry)) (now (rec .entry)) (now (text .entry)))) (now (s .entry)) (takes event) (now (doc .entry)) (record { state = now (s .exit); verdict = v }) (now (rec .exit)) (now (text .exit)) ⌝ }
+{
+    let r = step_value(*s, l, place, event, doc, rec, text);
+    *s = r.state;
+    r.verdict
+}
+
+// What one turn leaves: the state, where the reader goes on, and whether to go on.
+pub struct Turned {
+    pub state: State,
+    pub cursor: Cursor,
+    pub verdict: Verdict,
+}
+
+// One turn: a reader at the cursor yields an event, and the builder takes it.
+fn turn(l: Limits, doc: &[u8], cursor: Cursor, s: State, rec: &mut [u32], text: &mut [u8]) -> Turned
+    requires { ⌜ Ready s (takes (readAt (now doc) cursor .event)) (now rec) (now text) × Inside (now doc) (readAt (now doc) cursor .event) × (l .items ≤ 1024) × (l .depth ≤ 64) × (length (now doc) ≤ 32768) ⌝ }
+    ensures { λ r. ⌜ (r .cursor ≡ readAt (now (doc .entry)) cursor .cursor) × After (stepOf l (now (doc .entry)) (readAt (now (doc .entry)) cursor .place) (readAt (now (doc .entry)) cursor .event) (builderOf s (now (doc .entry)) (now (rec .entry)) (now (text .entry)))) s (takes (readAt (now (doc .entry)) cursor .event)) (now (doc .entry)) (record { state = r .state; verdict = r .verdict }) (now (rec .exit)) (now (text .exit)) ⌝ }
+{
+    let read = ahead(Reader { doc, cursor });
+    let mut state = s;
+    let verdict = step(&mut state, l, read.place, read.event, doc, rec, text);
+    Turned {
+        state,
+        cursor: read.cursor,
+        verdict,
+    }
+}
+
 // Reads a document whose length and bytes, and the buffers, are tested.
 fn read_tested(l: Limits, doc: &[u8], rec: &mut [u32], text: &mut [u8]) -> Schema
     requires { ⌜ (length (now doc) ≤ 32768) × (16384 ≤ length (now rec)) × (65536 ≤ length (now text)) × (l .items ≤ 1024) × (l .depth ≤ 64) ⌝ }
@@ -98,15 +141,13 @@ fn read_tested(l: Limits, doc: &[u8], rec: &mut [u32], text: &mut [u8]) -> Schem
     let mut state = first_state();
     let mut cursor = cursor_at(0);
     while !at_end(doc, cursor) {
-        let read = read_next(doc, cursor);
-        let event = read.event;
-        let r = step_value(state, l, read.place, event, doc, rec, text);
-        let verdict = r.verdict;
+        let t = turn(l, doc, cursor, state, rec, text);
+        let verdict = t.verdict;
         match verdict {
             Verdict::Fine => {
-                let next = r.state;
+                let next = t.state;
                 state = next;
-                let on = read.cursor;
+                let on = t.cursor;
                 cursor = on;
             }
             Verdict::Refused(why) => {
