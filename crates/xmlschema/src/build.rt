@@ -14,9 +14,9 @@ use refusals::Refusal;
 use saxlite::reader::Cursor;
 use saxlite::reader::Event;
 use saxlite::reader::Reader;
-use saxlite::reader::ahead;
 use saxlite::reader::at_end;
 use saxlite::reader::cursor_at;
+use saxlite::reader::next;
 use texts::ascii_end;
 ghost use mathlib.Core.Path.{_≡_};
 ghost use Prim.Native.Nat.{_≤_};
@@ -123,12 +123,13 @@ fn turn(l: Limits, doc: &[u8], cursor: Cursor, s: State, rec: &mut [u32], text: 
     requires { ⌜ Ready s (takes (readAt (now doc) cursor .event)) (now rec) (now text) × Inside (now doc) (readAt (now doc) cursor .event) × (l .items ≤ 1024) × (l .depth ≤ 64) × (length (now doc) ≤ 32768) ⌝ }
     ensures { λ r. ⌜ (r .cursor ≡ readAt (now (doc .entry)) cursor .cursor) × After (stepOf l (now (doc .entry)) (readAt (now (doc .entry)) cursor .place) (readAt (now (doc .entry)) cursor .event) (builderOf s (now (doc .entry)) (now (rec .entry)) (now (text .entry)))) s (takes (readAt (now (doc .entry)) cursor .event)) (now (doc .entry)) (record { state = r .state; verdict = r .verdict }) (now (rec .exit)) (now (text .exit)) ⌝ }
 {
-    let read = ahead(Reader { doc, cursor });
+    let mut reader = Reader { doc, cursor };
+    let told = next(&mut reader);
     let mut state = s;
-    let verdict = step(&mut state, l, read.place, read.event, doc, rec, text);
+    let verdict = step(&mut state, l, told.place, told.event, doc, rec, text);
     Turned {
         state,
-        cursor: read.cursor,
+        cursor: reader.cursor,
         verdict,
     }
 }
@@ -145,8 +146,8 @@ fn read_tested(l: Limits, doc: &[u8], rec: &mut [u32], text: &mut [u8]) -> Schem
         let verdict = t.verdict;
         match verdict {
             Verdict::Fine => {
-                let next = t.state;
-                state = next;
+                let changed = t.state;
+                state = changed;
                 let on = t.cursor;
                 cursor = on;
             }
