@@ -4,10 +4,11 @@
 // markup that is passed over, the end, or a refusal (11 to 20). An open tag has been read whole
 // before it is told of, so that `tag::attributes` can look names up in it and never fails.
 // `entities::decode` writes a text or a value, its entities decoded, into a lent slice.
+// `reader::Reader` holds the document and yields one event at a time.
 //
 // Nothing is required of a caller. Each promise is one equation with a definition of specs/, on all
-// inputs: specs/Step.antt, specs/Attributes.antt and specs/Entities.antt, after 01, "Reading
-// markup". What a step means is specs/Event.antt.
+// inputs: specs/Step.antt, specs/Reader.antt, specs/Attributes.antt and specs/Entities.antt, after 01,
+// "Reading markup". What a step means is specs/Event.antt.
 pub mod entities;
 pub mod reader;
 pub mod scan;
