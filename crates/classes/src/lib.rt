@@ -334,3 +334,24 @@ pub fn is_lower_in(t: &[u8; 256], b: u8) -> bool
 {
     class_in(t, b) == 4
 }
+
+pub fn is_space_in(t: &[u8; 256], b: u8) -> bool
+    requires { ⌜ IsTable (now t) ⌝ }
+    ensures { λ r. ⌜ r ≡ isSpace b ⌝ }
+{
+    class_in(t, b) == 0
+}
+
+pub fn is_tag_name_end_in(t: &[u8; 256], b: u8) -> bool
+    requires { ⌜ IsTable (now t) ⌝ }
+    ensures { λ r. ⌜ r ≡ isTagNameEnd b ⌝ }
+{
+    class_in(t, b) < 2
+}
+
+pub fn is_attribute_name_end_in(t: &[u8; 256], b: u8) -> bool
+    requires { ⌜ IsTable (now t) ⌝ }
+    ensures { λ r. ⌜ r ≡ isAttributeNameEnd b ⌝ }
+{
+    class_in(t, b) < 3
+}

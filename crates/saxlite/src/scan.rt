@@ -1,17 +1,22 @@
 // Scans and searches over the document.
+use classes::is_attribute_name_end_in;
+use classes::is_space_in;
+use classes::is_tag_name_end_in;
 ghost use mathlib.Core.Path.{_≡_};
 ghost use Rattle.texts.specs.Scan.{scan, until, is};
+ghost use Rattle.classes.specs.Table.{IsTable};
 ghost use Rattle.classes.specs.Class.{isSpace, isTagNameEnd, isAttributeNameEnd};
 ghost use Rattle.saxlite.specs.Find.{findFrom};
 ghost use Rattle.saxlite.specs.Names.{prefixLength, isXmlns};
 
 // Past the spaces at `at`.
-pub fn skip_space(doc: &[u8], at: usize) -> usize
+pub fn skip_space(doc: &[u8], at: usize, t: &[u8; 256]) -> usize
+    requires { ⌜ IsTable (now t) ⌝ }
     ensures { λ r. ⌜ r ≡ scan isSpace (now (doc .entry)) at ⌝ }
 {
     let mut i = at;
     while i < doc.len() {
-        if classes::is_space(doc[i]) {
+        if is_space_in(t, doc[i]) {
             i += 1;
         } else {
             return i;
@@ -21,12 +26,13 @@ pub fn skip_space(doc: &[u8], at: usize) -> usize
 }
 
 // Where the tag name at `at` ends.
-pub fn tag_name_end(doc: &[u8], at: usize) -> usize
+pub fn tag_name_end(doc: &[u8], at: usize, t: &[u8; 256]) -> usize
+    requires { ⌜ IsTable (now t) ⌝ }
     ensures { λ r. ⌜ r ≡ scan (until isTagNameEnd) (now (doc .entry)) at ⌝ }
 {
     let mut i = at;
     while i < doc.len() {
-        if classes::is_tag_name_end(doc[i]) {
+        if is_tag_name_end_in(t, doc[i]) {
             return i;
         }
         i += 1;
@@ -35,12 +41,13 @@ pub fn tag_name_end(doc: &[u8], at: usize) -> usize
 }
 
 // Where the attribute name at `at` ends.
-pub fn attribute_name_end(doc: &[u8], at: usize) -> usize
+pub fn attribute_name_end(doc: &[u8], at: usize, t: &[u8; 256]) -> usize
+    requires { ⌜ IsTable (now t) ⌝ }
     ensures { λ r. ⌜ r ≡ scan (until isAttributeNameEnd) (now (doc .entry)) at ⌝ }
 {
     let mut i = at;
     while i < doc.len() {
-        if classes::is_attribute_name_end(doc[i]) {
+        if is_attribute_name_end_in(t, doc[i]) {
             return i;
         }
         i += 1;

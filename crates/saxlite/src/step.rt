@@ -7,10 +7,12 @@ use crate::scan::skip_space;
 use crate::scan::tag_name_end;
 use crate::tag::Ending;
 use crate::tag::tag_ending;
+use classes::table;
 use refusals::Refusal;
 ghost use mathlib.Core.Path.{_≡_};
 ghost use Prim.Native.Nat.{_+_, _≤_, _<_};
 ghost use lib.ListN.{length};
+ghost use Rattle.classes.specs.Table.{IsTable};
 ghost use Rattle.saxlite.specs.Find.{findFrom};
 ghost use Rattle.saxlite.specs.Step.{stepAt, markupAt, closeAt, openAt, pastEnd};
 
@@ -59,13 +61,13 @@ fn skip_to(doc: &[u8], from: usize, end: &[u8], refusal: Refusal) -> Step
 }
 
 // The close tag at `at`.
-fn close_at(doc: &[u8], at: usize) -> Step
-    requires { ⌜ at + 2 ≤ length (now doc) ⌝ }
+fn close_at(doc: &[u8], at: usize, t: &[u8; 256]) -> Step
+    requires { ⌜ (at + 2 ≤ length (now doc)) × IsTable (now t) ⌝ }
     ensures { λ r. ⌜ r ≡ closeAt (now (doc .entry)) at ⌝ }
 {
     let name = at + 2;
-    let end = tag_name_end(doc, name);
-    let due = skip_space(doc, end);
+    let end = tag_name_end(doc, name, t);
+    let due = skip_space(doc, end, t);
     if texts::starts_with(doc, due, b">") {
         let next = due + 1;
         let n = end - name;
@@ -85,19 +87,19 @@ fn close_at(doc: &[u8], at: usize) -> Step
 }
 
 // The open tag at `at`.
-fn open_at(doc: &[u8], at: usize) -> Step
-    requires { ⌜ at + 1 ≤ length (now doc) ⌝ }
+fn open_at(doc: &[u8], at: usize, t: &[u8; 256]) -> Step
+    requires { ⌜ (at + 1 ≤ length (now doc)) × IsTable (now t) ⌝ }
     ensures { λ r. ⌜ r ≡ openAt (now (doc .entry)) at ⌝ }
 {
     let name = at + 1;
-    let end = tag_name_end(doc, name);
+    let end = tag_name_end(doc, name, t);
     if end == name {
         return Step::Refused(Refusal::NoTagName {
             offset: name,
             place: at,
         });
     }
-    let ending = tag_ending(doc, end, at);
+    let ending = tag_ending(doc, end, at, t);
     match ending {
         Ending::Ends { next, self_closed } => {
             let n = end - name;
@@ -117,8 +119,8 @@ fn open_at(doc: &[u8], at: usize) -> Step
 }
 
 // What the '<' at `at` begins.
-fn markup_at(doc: &[u8], at: usize) -> Step
-    requires { ⌜ at < length (now doc) ⌝ }
+fn markup_at(doc: &[u8], at: usize, t: &[u8; 256]) -> Step
+    requires { ⌜ (at < length (now doc)) × IsTable (now t) ⌝ }
     ensures { λ r. ⌜ r ≡ markupAt (now (doc .entry)) at ⌝ }
 {
     if texts::starts_with(doc, at, b"<!--") {
@@ -134,9 +136,9 @@ fn markup_at(doc: &[u8], at: usize) -> Step
         return skip_to(doc, from, b">", Refusal::OpenDeclaration { at });
     }
     if texts::starts_with(doc, at, b"</") {
-        return close_at(doc, at);
+        return close_at(doc, at, t);
     }
-    open_at(doc, at)
+    open_at(doc, at, t)
 }
 
 // The step of the reader at `at`.
@@ -147,7 +149,8 @@ pub fn step_at(doc: &[u8], at: usize) -> Step
         return Step::End;
     }
     if texts::starts_with(doc, at, b"<") {
-        return markup_at(doc, at);
+        let t = table();
+        return markup_at(doc, at, &t);
     }
     let end = byte_from(doc, at, b'<');
     let len = end - at;

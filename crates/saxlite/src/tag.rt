@@ -4,8 +4,10 @@ use crate::scan::byte_from;
 use crate::scan::is_xmlns;
 use crate::scan::prefix_len;
 use crate::scan::skip_space;
+use classes::table;
 use refusals::Refusal;
 ghost use mathlib.Core.Path.{_≡_};
+ghost use Rattle.classes.specs.Table.{IsTable};
 ghost use Rattle.texts.specs.Choice.{pick};
 ghost use Rattle.texts.specs.Text.{piece, same};
 ghost use Rattle.saxlite.specs.Attributes.{quotedAt, valueAt, attributePartAt, tagPartAt, tagAt, later, attributeAt};
@@ -85,18 +87,19 @@ fn value_part(doc: &[u8], name: usize, n: usize, at: usize, place: usize) -> Tag
 }
 
 // The attribute that is due at `at`.
-fn attribute_part(doc: &[u8], at: usize, place: usize) -> TagPart
+fn attribute_part(doc: &[u8], at: usize, place: usize, t: &[u8; 256]) -> TagPart
+    requires { ⌜ IsTable (now t) ⌝ }
     ensures { λ r. ⌜ r ≡ attributePartAt (now (doc .entry)) at place ⌝ }
 {
-    let end = attribute_name_end(doc, at);
+    let end = attribute_name_end(doc, at, t);
     if end == at {
         return TagPart::Bad(Refusal::NoAttributeName { offset: at, place });
     }
-    let equals = skip_space(doc, end);
+    let equals = skip_space(doc, end, t);
     if texts::starts_with(doc, equals, b"=") {
         let name_len = end - at;
         let due = equals + 1;
-        let value = skip_space(doc, due);
+        let value = skip_space(doc, due, t);
         return value_part(doc, at, name_len, value, place);
     }
     TagPart::Bad(Refusal::NoEquals {
@@ -105,11 +108,12 @@ fn attribute_part(doc: &[u8], at: usize, place: usize) -> TagPart
     })
 }
 
-// The part of a tag at `at`; `place` is the tag's '<'.
-pub fn tag_part(doc: &[u8], at: usize, place: usize) -> TagPart
+// The part of a tag at `at`; `place` is the tag's '<'. The table of classes is lent, so that a loop makes it once.
+pub fn tag_part_in(doc: &[u8], at: usize, place: usize, t: &[u8; 256]) -> TagPart
+    requires { ⌜ IsTable (now t) ⌝ }
     ensures { λ r. ⌜ r ≡ tagPartAt (now (doc .entry)) at place ⌝ }
 {
-    let i = skip_space(doc, at);
+    let i = skip_space(doc, at, t);
     if doc.len() <= i {
         return TagPart::Bad(Refusal::OpenTag { offset: i, place });
     }
@@ -127,16 +131,25 @@ pub fn tag_part(doc: &[u8], at: usize, place: usize) -> TagPart
             self_closed: true,
         };
     }
-    attribute_part(doc, i, place)
+    attribute_part(doc, i, place, t)
+}
+
+// The same with a table of its own.
+pub fn tag_part(doc: &[u8], at: usize, place: usize) -> TagPart
+    ensures { λ r. ⌜ r ≡ tagPartAt (now (doc .entry)) at place ⌝ }
+{
+    let t = table();
+    tag_part_in(doc, at, place, &t)
 }
 
 // How the tag whose attributes begin at `at` ends.
-pub fn tag_ending(doc: &[u8], at: usize, place: usize) -> Ending
+pub fn tag_ending(doc: &[u8], at: usize, place: usize, t: &[u8; 256]) -> Ending
+    requires { ⌜ IsTable (now t) ⌝ }
     ensures { λ r. ⌜ r ≡ tagAt (now (doc .entry)) at place .ending ⌝ }
 {
     let mut i = at;
     loop {
-        let part = tag_part(doc, i, place);
+        let part = tag_part_in(doc, i, place, t);
         match part {
             TagPart::Attribute {
                 name: _,
@@ -233,6 +246,7 @@ pub fn attributes(
 ) -> Noted
     ensures { λ r. ⌜ (r .first ≡ attributeAt (now (doc .entry)) at (now (first .entry))) × (r .second ≡ attributeAt (now (doc .entry)) at (now (second .entry))) × (r .third ≡ attributeAt (now (doc .entry)) at (now (third .entry))) × (r .fourth ≡ attributeAt (now (doc .entry)) at (now (fourth .entry))) ⌝ }
 {
+    let t = table();
     let mut i = at;
     let mut noted = Noted {
         first: Found::Absent,
@@ -242,7 +256,7 @@ pub fn attributes(
     };
     loop {
         // The place matters to refusals alone, and none is told here.
-        let part = tag_part(doc, i, 0);
+        let part = tag_part_in(doc, i, 0, &t);
         match part {
             TagPart::Attribute {
                 name,

@@ -8,20 +8,20 @@ use Rattle.saxlite.proofs.scan.attribute_name_end.Statement.{statement}
 use Rattle.saxlite.proofs.scan.attribute_name_end.Tie as tie
 
 abbrev Inv-loop : tie.InvT-loop
-Inv-loop doc at i₀ i = Scanning (until isAttributeNameEnd) doc at i
+Inv-loop doc at t i₀ i = Scanning (until isAttributeNameEnd) doc at i
 
 abbrev μ-loop : tie.MeasureT-loop
-μ-loop doc at i₀ i = length doc - i
+μ-loop doc at t i₀ i = length doc - i
 
 loop-holds : tie.Need-loop-holds Inv-loop μ-loop
 loop-holds c = search laws
 
-shared-slice-read-is-attribute-name-end :
-    tie.Need-shared-slice-read-is-attribute-name-end Inv-loop μ-loop
-shared-slice-read-is-attribute-name-end c = search laws
+shared-slice-read-is-attribute-name-end-in :
+    tie.Need-shared-slice-read-is-attribute-name-end-in Inv-loop μ-loop
+shared-slice-read-is-attribute-name-end-in c = search laws
 
-is-attribute-name-end-requires : tie.Need-is-attribute-name-end-requires Inv-loop μ-loop
-is-attribute-name-end-requires c κs = search laws
+is-attribute-name-end-in-requires : tie.Need-is-attribute-name-end-in-requires Inv-loop μ-loop
+is-attribute-name-end-in-requires c κs = search laws
 
 returns : tie.Need-returns Inv-loop μ-loop
 returns c = search laws
@@ -45,8 +45,8 @@ attribute-name-end-spec =
     Inv-loop
     μ-loop
     loop-holds
-    shared-slice-read-is-attribute-name-end
-    is-attribute-name-end-requires
+    shared-slice-read-is-attribute-name-end-in
+    is-attribute-name-end-in-requires
     returns
     add-i
     loop-less

@@ -7,19 +7,19 @@ use Rattle.saxlite.proofs.scan.skip_space.Statement.{statement}
 use Rattle.saxlite.proofs.scan.skip_space.Tie as tie
 
 abbrev Inv-loop : tie.InvT-loop
-Inv-loop doc at i₀ i = Scanning isSpace doc at i
+Inv-loop doc at t i₀ i = Scanning isSpace doc at i
 
 abbrev μ-loop : tie.MeasureT-loop
-μ-loop doc at i₀ i = length doc - i
+μ-loop doc at t i₀ i = length doc - i
 
 loop-holds : tie.Need-loop-holds Inv-loop μ-loop
 loop-holds c = search laws
 
-shared-slice-read-is-space : tie.Need-shared-slice-read-is-space Inv-loop μ-loop
-shared-slice-read-is-space c = search laws
+shared-slice-read-is-space-in : tie.Need-shared-slice-read-is-space-in Inv-loop μ-loop
+shared-slice-read-is-space-in c = search laws
 
-is-space-requires : tie.Need-is-space-requires Inv-loop μ-loop
-is-space-requires c κs = search laws
+is-space-in-requires : tie.Need-is-space-in-requires Inv-loop μ-loop
+is-space-in-requires c κs = search laws
 
 add-i : tie.Need-add-i Inv-loop μ-loop
 add-i c = search laws
@@ -43,8 +43,8 @@ skip-space-spec =
     Inv-loop
     μ-loop
     loop-holds
-    shared-slice-read-is-space
-    is-space-requires
+    shared-slice-read-is-space-in
+    is-space-in-requires
     add-i
     loop-less
     loop-again

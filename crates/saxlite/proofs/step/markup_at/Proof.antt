@@ -65,13 +65,13 @@ starts-with-requires-4 : tie.Need-starts-with-requires-4
 starts-with-requires-4 c κs = search laws
 
 close-at-requires : tie.Need-close-at-requires
-close-at-requires c κs = stands-on (ascii "</") _ _ 2 (c .before .starts-with4 .ensures) (c .if4 .taken) tt tt
+close-at-requires c κs = (stands-on (ascii "</") _ _ 2 (c .before .starts-with4 .ensures) (c .if4 .taken) tt tt, search laws)
 
 returns-4 : tie.Need-returns-4
 returns-4 c = search laws
 
 open-at-requires : tie.Need-open-at-requires
-open-at-requires c κs = search laws
+open-at-requires c κs = (search laws, search laws)
 
 returns-5 : tie.Need-returns-5
 returns-5 c = search laws

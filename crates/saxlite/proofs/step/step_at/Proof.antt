@@ -11,6 +11,9 @@ slice-aggregate-starts-with c = search laws
 starts-with-requires : tie.Need-starts-with-requires
 starts-with-requires c κs = search laws
 
+table-requires : tie.Need-table-requires
+table-requires c κs = search laws
+
 markup-at-requires : tie.Need-markup-at-requires
 markup-at-requires c κs = search laws
 
@@ -33,6 +36,7 @@ step-at-spec =
     returns
     slice-aggregate-starts-with
     starts-with-requires
+    table-requires
     markup-at-requires
     returns-2
     byte-from-requires

@@ -6,16 +6,19 @@ use Rattle.saxlite.proofs.tag.attributes.Statement.{statement}
 use Rattle.saxlite.proofs.tag.attributes.Tie as tie
 
 abbrev Inv-loop : tie.InvT-loop
-Inv-loop doc at first second third fourth i₀ noted₀ i noted = Looking doc at first i (noted .first) × Looking doc at second i (noted .second) × Looking doc at third i (noted .third) × Looking doc at fourth i (noted .fourth)
+Inv-loop doc at first second third fourth t i₀ noted₀ i noted = Looking doc at first i (noted .first) × Looking doc at second i (noted .second) × Looking doc at third i (noted .third) × Looking doc at fourth i (noted .fourth)
 
 abbrev μ-loop : tie.MeasureT-loop
-μ-loop doc at first second third fourth i₀ noted₀ i noted = length doc - i
+μ-loop doc at first second third fourth t i₀ noted₀ i noted = length doc - i
+
+table-requires : tie.Need-table-requires Inv-loop μ-loop
+table-requires c κs = search laws
 
 loop-holds : tie.Need-loop-holds Inv-loop μ-loop
 loop-holds c = search laws
 
-tag-part-requires : tie.Need-tag-part-requires Inv-loop μ-loop
-tag-part-requires c κs = search laws
+tag-part-in-requires : tie.Need-tag-part-in-requires Inv-loop μ-loop
+tag-part-in-requires c κs = search laws
 
 enum-known-part : tie.Need-enum-known-part Inv-loop μ-loop
 enum-known-part c = search laws
@@ -47,8 +50,9 @@ attributes-spec =
     (tie.spec
     Inv-loop
     μ-loop
+    table-requires
     loop-holds
-    tag-part-requires
+    tag-part-in-requires
     enum-known-part
     noted-with-requires
     loop-less

@@ -6,16 +6,16 @@ use Rattle.saxlite.proofs.tag.tag_ending.Statement.{statement}
 use Rattle.saxlite.proofs.tag.tag_ending.Tie as tie
 
 abbrev Inv-loop : tie.InvT-loop
-Inv-loop doc at place i₀ i = Going doc at place i
+Inv-loop doc at place t i₀ i = Going doc at place i
 
 abbrev μ-loop : tie.MeasureT-loop
-μ-loop doc at place i₀ i = length doc - i
+μ-loop doc at place t i₀ i = length doc - i
 
 loop-holds : tie.Need-loop-holds Inv-loop μ-loop
 loop-holds c = search laws
 
-tag-part-requires : tie.Need-tag-part-requires Inv-loop μ-loop
-tag-part-requires c κs = search laws
+tag-part-in-requires : tie.Need-tag-part-in-requires Inv-loop μ-loop
+tag-part-in-requires c κs = search laws
 
 enum-known-part : tie.Need-enum-known-part Inv-loop μ-loop
 enum-known-part c = search laws
@@ -45,7 +45,7 @@ tag-ending-spec =
     Inv-loop
     μ-loop
     loop-holds
-    tag-part-requires
+    tag-part-in-requires
     enum-known-part
     loop-less
     loop-again

@@ -1,6 +1,6 @@
 use Rattle.saxlite.proofs.Laws.{laws}
-use Rattle.saxlite.proofs.tag.tag_part.Statement.{statement}
-use Rattle.saxlite.proofs.tag.tag_part.Tie as tie
+use Rattle.saxlite.proofs.tag.tag_part_in.Statement.{statement}
+use Rattle.saxlite.proofs.tag.tag_part_in.Tie as tie
 
 skip-space-requires : tie.Need-skip-space-requires
 skip-space-requires c κs = search laws
@@ -38,8 +38,8 @@ attribute-part-requires c κs = search laws
 returns-4 : tie.Need-returns-4
 returns-4 c = search laws
 
-pub tag-part-spec : {M : Type 1} → statement M
-tag-part-spec =
+pub tag-part-in-spec : {M : Type 1} → statement M
+tag-part-in-spec =
     tie.close
     (tie.spec
     skip-space-requires
