@@ -36,11 +36,11 @@ kind-named kind k w n x e f g = rw (eq-eqb kind k e, ← f) g
 
 -- ---- the first from a place on
 
-first-yes : (p : Item → Bool) (k : ℕ) (x : Item) (xs : List Item) → p x ≡ true → first (positionsFrom k p (x ∷ xs)) ≡ some k
+pub first-yes : (p : Item → Bool) (k : ℕ) (x : Item) (xs : List Item) → p x ≡ true → first (positionsFrom k p (x ∷ xs)) ≡ some k
 unfolding positionsFrom first
 first-yes p k x xs t = rw t
 
-first-no : (p : Item → Bool) (k : ℕ) (x : Item) (xs : List Item) → p x ≡ false → positionsFrom k p (x ∷ xs) ≡ positionsFrom (k + 1) p xs
+pub first-no : (p : Item → Bool) (k : ℕ) (x : Item) (xs : List Item) → p x ≡ false → positionsFrom k p (x ∷ xs) ≡ positionsFrom (k + 1) p xs
 unfolding positionsFrom
 first-no p k x xs t = rw t
 
@@ -120,13 +120,13 @@ module _ (m : Model) (rec : List ℕ) (kind from : ℕ) where
 
 -- ---- the last
 
-last-snoc : (is : List ℕ) (k : ℕ) → last (is ++ (k ∷ [])) ≡ some k
+pub last-snoc : (is : List ℕ) (k : ℕ) → last (is ++ (k ∷ [])) ≡ some k
 unfolding last
 last-snoc [] k = refl
 last-snoc (i ∷ []) k = refl
 last-snoc (i ∷ j ∷ is) k = last-snoc (j ∷ is) k
 
-positions-snoc : (p : Item → Bool) (k : ℕ) (xs : List Item) (x : Item) → positionsFrom k p (xs ++ (x ∷ [])) ≡ positionsFrom k p xs ++ pick (p x) ((k + length xs) ∷ []) []
+pub positions-snoc : (p : Item → Bool) (k : ℕ) (xs : List Item) (x : Item) → positionsFrom k p (xs ++ (x ∷ [])) ≡ positionsFrom k p xs ++ pick (p x) ((k + length xs) ∷ []) []
 unfolding positionsFrom
 positions-snoc p k [] x = rw add-zero
 positions-snoc p k (y ∷ ys) x =
@@ -138,7 +138,7 @@ positions-snoc p k (y ∷ ys) x =
     go true e = ap (λ l. k ∷ l) e
     go false e = e
 
-append-none : (l : List ℕ) → l ++ [] ≡ l
+pub append-none : (l : List ℕ) → l ++ [] ≡ l
 append-none [] = refl
 append-none (x ∷ l) = ap (λ t. x ∷ t) (append-none l)
 

@@ -1,0 +1,106 @@
+-- Laws of building the index: each takes what the code knows there.
+use mathlib.Core.Path.{_≡_, refl, sym, ap, _∙_}
+use mathlib.Core.Bool.{Bool, true, false}
+use mathlib.Core.List.{List, []}
+use Prim.Native.Nat.{ℕ, _+_, _*_, _-_, _≤_, _<_}
+use native.Mathlib.Omega.{arith}
+use lib.ListN.{length, getD, replicate, length-replicate, getD-replicate, List·getD-eq-default}
+use Rattle.xmlschema.proofs.Records.{by-less}
+use Rattle.xmlschema.specs.Schema.{Item, Schema, itemAt}
+use Rattle.xmlschema.specs.Store.{itemOf, schemaOf}
+use Rattle.xmlschema.specs.declared.items.Entry.{Entry}
+use Rattle.xmlschema.specs.declared.items.Model.{Model}
+use Rattle.index.specs.Index.{code, fronted, hashFrom, declares, Linked, Chained, Blank, Linking, Naming, Indexed}
+use Rattle.index.proofs.Fronting.{fronted-length, fronted-other}
+use Rattle.index.proofs.Linking.{linked-start, linked-on, linked-off, linked-frame}
+use Rattle.index.proofs.Chaining.{chained-start, chained-on, chained-off}
+
+-- ---- the item that the code reads
+
+module _ (m : Model) (rec : List ℕ) (i : ℕ) (e : Entry) (f : (t : List ℕ) → itemOf t e ≡ itemAt (schemaOf m rec t) i) (text : List ℕ) where
+  pub kind-is : e .kind ≡ itemAt (schemaOf m rec text) i .kind
+  unfolding itemOf
+  kind-is = ap (λ (x : Item). x .kind) (f text)
+
+  pub owner-is : e .owner ≡ itemAt (schemaOf m rec text) i .owner
+  unfolding itemOf
+  owner-is = ap (λ (x : Item). x .owner) (f text)
+
+  pub name-is : {w : List ℕ} → w ≡ itemOf text e .name → w ≡ itemAt (schemaOf m rec text) i .name
+  name-is q = q ∙ ap (λ (x : Item). x .name) (f text)
+
+-- ---- an array of zeros
+
+pub blank-zeros : Blank (replicate 13312 0)
+blank-zeros =
+    record {
+      long = let e = length-replicate {A = ℕ} 13312 0 in omega arith;
+      zero = λ k. by-less k 13312 (λ l. getD-replicate 13312 k 0 0 l) (λ l. let e = length-replicate {A = ℕ} 13312 0 in let h : length {A = ℕ} (replicate 13312 0) ≤ k = omega arith in List·getD-eq-default (replicate 13312 0) 0 h);
+    }
+
+-- ---- links
+
+pub linking-start : (s : Schema) (ix : List ℕ) → Blank ix → {n : ℕ} → n ≡ length (s .items) → Linking s n ix
+linking-start s ix b {n} e = record { long = b .long; linked = linked-start s ix (b .zero) n (omega arith); zero = λ k _. b .zero k }
+
+pub linking-here : (s : Schema) (ix : List ℕ) {n : ℕ} → Linking s n ix → 0 < n → Linking s (n - 1 + 1) ix
+linking-here s ix {n} l h = let e : n - 1 + 1 ≡ n = omega arith in rw e l
+
+pub linking-end : (s : Schema) (ix : List ℕ) {n : ℕ} → Linking s n ix → n ≤ 0 → Linking s 0 ix
+linking-end s ix {n} l h = let e : n ≡ 0 = omega arith in rw e at l
+
+module _ (m : Model) (rec text : List ℕ) (i : ℕ) (e : Entry) (f : (t : List ℕ) → itemOf t e ≡ itemAt (schemaOf m rec t) i) (ix : List ℕ) (l : Linking (schemaOf m rec text) (i + 1) ix) (h : i < length (schemaOf m rec text .items)) where
+  off : (itemAt (schemaOf m rec text) i .kind < 10 → itemAt (schemaOf m rec text) i .owner < 1024 → ⊥) → Linking (schemaOf m rec text) i ix
+  off n = record { long = l .long; linked = linked-off (schemaOf m rec text) ix i (l .linked) h n; zero = l .zero }
+
+  pub link-kind : 9 < e .kind → Linking (schemaOf m rec text) i ix
+  link-kind g = off (λ a b. let k = kind-is m rec i e f text in omega arith)
+
+  pub link-owner : 1023 < e .owner → Linking (schemaOf m rec text) i ix
+  link-owner g = off (λ a b. let k = owner-is m rec i e f text in omega arith)
+
+  pub link-on : length (schemaOf m rec text .items) ≤ 1024 → e .kind ≤ 9 → e .owner ≤ 1023 → {ix′ : List ℕ} → ix′ ≡ fronted ix (10 * e .owner + e .kind) (10240 + i) i → Linking (schemaOf m rec text) i ix′
+  link-on most hk ho {ix′} q =
+      let k = kind-is m rec i e f text in
+      let o = owner-is m rec i e f text in
+      let on = linked-on (schemaOf m rec text) ix i (l .linked) h (l .long) most (omega arith) (omega arith) in
+      let r : ix′ ≡ fronted ix (10 * itemAt (schemaOf m rec text) i .owner + itemAt (schemaOf m rec text) i .kind) (10240 + i) i = rw (← k, ← o) q in
+      record {
+        long = rw (q, fronted-length ix (10 * e .owner + e .kind) (10240 + i) i) (l .long);
+        linked = rw r on;
+        zero = λ j b. rw q (fronted-other ix (10 * e .owner + e .kind) (10240 + i) i j (λ x. omega arith) (λ x. omega arith) ∙ l .zero j b);
+      }
+
+-- ---- names
+
+pub naming-start : (s : Schema) (ix : List ℕ) → Linking s 0 ix → Naming s 0 ix
+naming-start s ix l = record { long = l .long; linked = l .linked; chained = chained-start s ix (l .zero) }
+
+pub naming-end : (s : Schema) (ix : List ℕ) {i n : ℕ} → Naming s i ix → i ≤ n → n ≡ length (s .items) → n ≤ i → Naming s (length (s .items)) ix
+naming-end s ix {i} {n} c a e b = let q : i ≡ length (s .items) = omega arith in rw q at c
+
+module _ (m : Model) (rec text : List ℕ) (i : ℕ) (e : Entry) (f : (t : List ℕ) → itemOf t e ≡ itemAt (schemaOf m rec t) i) (ix : List ℕ) (c : Naming (schemaOf m rec text) i ix) (h : i < length (schemaOf m rec text .items)) {b : Bool} (eb : b ≡ declares (e .kind)) where
+  told : declares (itemAt (schemaOf m rec text) i .kind) ≡ b
+  told = sym (eb ∙ ap declares (kind-is m rec i e f text))
+
+  pub name-off : b ≡ false → Naming (schemaOf m rec text) (i + 1) ix
+  name-off g = record { long = c .long; linked = c .linked; chained = chained-off (schemaOf m rec text) ix i (c .chained) h (told ∙ g) }
+
+  pub name-on : b ≡ true → length (schemaOf m rec text .items) ≤ 1024 → {w : List ℕ} → w ≡ itemOf text e .name → {k : ℕ} → (k ≡ hashFrom 0 w) × (k < 1024) → {ix′ : List ℕ} → ix′ ≡ fronted ix (11264 + k) (12288 + i) i → Naming (schemaOf m rec text) (i + 1) ix′
+  name-on t most {w} ew {k} ek {ix′} q =
+      let z : k ≡ hashFrom 0 (itemAt (schemaOf m rec text) i .name) = ek .0 ∙ ap (hashFrom 0) (name-is m rec i e f text ew) in
+      let low : k < 1024 = ek .1 in
+      let on = chained-on (schemaOf m rec text) ix i (c .chained) h (c .long) most (told ∙ t) (rw (← z) low) in
+      record {
+        long = rw (q, fronted-length ix (11264 + k) (12288 + i) i) (c .long);
+        linked = linked-frame (schemaOf m rec text) 0 ix ix′ most (λ j l. rw q (fronted-other ix (11264 + k) (12288 + i) i j (λ x. omega arith) (λ x. omega arith))) (c .linked);
+        chained = rw (q, z) on;
+      }
+
+-- ---- both
+
+pub indexed-built : (s : Schema) (ix : List ℕ) → Naming s (length (s .items)) ix → Indexed s ix
+indexed-built s ix c = record { long = c .long; links = λ _. c .linked; names = λ _. c .chained }
+
+pub indexed-not : (s : Schema) (ix : List ℕ) → Blank ix → {n : ℕ} → n ≡ length (s .items) → 1024 < n → Indexed s ix
+indexed-not s ix b e h = record { long = b .long; links = λ most. absurd (omega arith); names = λ most. absurd (omega arith) }

@@ -1,0 +1,139 @@
+-- The chains of the first items' names, and one more item behind them.
+use mathlib.Core.Path.{_≡_, refl, sym, ap, _∙_}
+use mathlib.Core.Bool.{Bool, true, false}
+use mathlib.Core.Option.{Option, none, some}
+use mathlib.Core.List.{List, [], _∷_, _++_}
+use Prim.Native.Nat.{ℕ, zero, suc, _+_, _*_, _-_, _≤_, _<_}
+use native.Mathlib.Numerals.{add-one}
+use native.Mathlib.Omega.{arith}
+use lib.Dec.{T, eqb}
+use lib.ListN.{length, getD, take, length-take}
+use lib.Seq.{take-suc, length-take-le, take-length}
+use borrow.Author.Tests.{eqb-true, eq-eqb}
+use Rattle.texts.specs.Choice.{pick, _and_}
+use Rattle.texts.specs.Text.{same}
+use Rattle.texts.proofs.Choosing.{by-test, both-true, and-left, and-right}
+use Rattle.xmlschema.specs.Schema.{Item, Schema, itemAt, noItem, positionsFrom, last, lastNamed}
+use Rattle.xmlschema.proofs.Records.{by-less}
+use Rattle.xmlschema.proofs.Searching.{last-snoc, positions-snoc, append-none}
+use Rattle.index.specs.Index.{code, fronted, hashFrom, declares, hashed, lastHashed, Chained}
+use Rattle.index.proofs.Fronting.{by-equal, fronted-head, fronted-at, fronted-other}
+
+-- ---- the last of the first n items that pass a test
+
+abbrev pub lastBy : (Item → Bool) → ℕ → Schema → Option ℕ
+lastBy p n s = last (positionsFrom 0 p (take n (s .items)))
+
+module _ (p : Item → Bool) (s : Schema) (n : ℕ) (h : n < length (s .items)) where
+  front : take (n + 1) (s .items) ≡ take n (s .items) ++ (itemAt s n ∷ [])
+  front = rw add-one (take-suc (s .items) n noItem h)
+
+  many : 0 + length (take n (s .items)) ≡ n
+  many = let e = length-take-le n (s .items) (omega arith) in omega arith
+
+  pub last-yes : p (itemAt s n) ≡ true → lastBy p (n + 1) s ≡ some n
+  last-yes t = rw (front, positions-snoc p 0 (take n (s .items)) (itemAt s n), t, many) (last-snoc (positionsFrom 0 p (take n (s .items))) n)
+
+  pub last-no : p (itemAt s n) ≡ false → lastBy p (n + 1) s ≡ lastBy p n s
+  last-no t = rw (front, positions-snoc p 0 (take n (s .items)) (itemAt s n), t, append-none)
+
+-- p is a narrower test than q: the last that passes q tells where to look for the last that passes p
+module _ (p q : Item → Bool) (s : Schema) (narrow : (it : Item) → p it ≡ true → q it ≡ true) where
+  missed : (it : Item) → q it ≡ false → p it ≡ false
+  missed it f = by-test (p it) (λ t. absurd (let e = sym (narrow it t) ∙ f in let z : _≡_ {A = ℕ} 0 1 = cc in omega arith)) (λ g. g)
+
+  pub none-passes : (n : ℕ) → n ≤ length (s .items) → lastBy q n s ≡ none → lastBy p n s ≡ none
+  unfolding positionsFrom last
+  none-passes zero h e = refl
+  none-passes (suc n) h e =
+      by-test (q (itemAt s n))
+      (λ t. absurd (let w : some n ≡ none = sym (last-yes q s n h t) ∙ (rw add-one e) in let z : _≡_ {A = ℕ} 0 1 = cc (w) in omega arith))
+      (λ f. let u : lastBy q n s ≡ none = sym (last-no q s n h f) ∙ (rw add-one e) in
+      let v : lastBy p (n + 1) s ≡ none = last-no p s n h (missed (itemAt s n) f) ∙ none-passes n (omega arith) u in rw add-one at v)
+
+  pub some-passes : (n : ℕ) → n ≤ length (s .items) → (j : ℕ) → lastBy q n s ≡ some j → (j < n) × (q (itemAt s j) ≡ true) × (lastBy p n s ≡ lastBy p (j + 1) s)
+  unfolding positionsFrom last
+  some-passes zero h j e = absurd (let z : _≡_ {A = ℕ} 0 1 = cc in omega arith)
+  some-passes (suc n) h j e =
+      by-test (q (itemAt s n))
+      (λ t. let w : some n ≡ some j = sym (last-yes q s n h t) ∙ (rw add-one e) in
+      let z : n ≡ j = cc (w) in
+      (omega arith, rw (sym z) t, rw (sym z, add-one)))
+      (λ f. let u : lastBy q n s ≡ some j = sym (last-no q s n h f) ∙ (rw add-one e) in
+      let ih = some-passes n (omega arith) j u in
+      let l : j < n = ih .0 in
+      let v : lastBy p (n + 1) s ≡ lastBy p (j + 1) s = last-no p s n h (missed (itemAt s n) f) ∙ ih .2 in
+      (omega arith, ih .1, rw add-one at v))
+
+-- ---- the chains
+
+pub code-none : (o : Option ℕ) → code o ≡ 0 → o ≡ none
+code-none none e = refl
+code-none (some i) e = absurd (omega arith)
+
+pub code-some : (o : Option ℕ) (p : ℕ) → 0 < p → p ≡ code o → o ≡ some (p - 1)
+code-some none p h e = absurd (omega arith)
+code-some (some i) p h e = let z : i ≡ p - 1 = omega arith in rw z
+
+-- none so far
+pub chained-start : (s : Schema) (ix : List ℕ) → ((k : ℕ) → 11264 ≤ k → getD ix k 0 ≡ 0) → Chained s 0 ix
+unfolding lastHashed positionsFrom last
+chained-start s ix z =
+    record {
+      head = λ b h. z (11264 + b) (omega arith);
+      chain = λ j h b t. absurd (omega arith);
+    }
+
+is-hashed : (it : Item) → declares (it .kind) ≡ true → hashed (hashFrom 0 (it .name)) it ≡ true
+unfolding hashed
+is-hashed it d = rw (d, eq-eqb (hashFrom 0 (it .name)) (hashFrom 0 (it .name)) refl)
+
+hashed-as : (it : Item) (b : ℕ) → hashed b it ≡ true → (declares (it .kind) ≡ true) × (hashFrom 0 (it .name) ≡ b)
+unfolding hashed
+hashed-as it b t = let e = both-true (declares (it .kind)) (eqb (hashFrom 0 (it .name)) b) t in (e .0, eqb-true (hashFrom 0 (it .name)) b (e .1))
+
+truth : (b : Bool) → T b → b ≡ true
+truth true t = refl
+truth false t = absurd t
+
+module _ (s : Schema) (ix : List ℕ) (n : ℕ) (c : Chained s n ix) (h : n < length (s .items)) where
+  unhashed : (b : ℕ) → (declares (itemAt s n .kind) ≡ true → hashFrom 0 (itemAt s n .name) ≡ b → ⊥) → hashed b (itemAt s n) ≡ false
+  unhashed b f = by-test (hashed b (itemAt s n)) (λ t. let e = hashed-as (itemAt s n) b t in absurd (f (e .0) (e .1))) (λ g. g)
+
+  head-kept : (b : ℕ) → b < 1024 → hashed b (itemAt s n) ≡ false → getD ix (11264 + b) 0 ≡ code (lastHashed b (n + 1) s)
+  unfolding lastHashed
+  head-kept b l f = c .head b l ∙ ap code (sym (last-no (hashed b) s n h f))
+
+  head-new : declares (itemAt s n .kind) ≡ true → lastHashed (hashFrom 0 (itemAt s n .name)) (n + 1) s ≡ some n
+  unfolding lastHashed
+  head-new d = last-yes (hashed (hashFrom 0 (itemAt s n .name))) s n h (is-hashed (itemAt s n) d)
+
+  module _ (big : 13312 ≤ length ix) (most : length (s .items) ≤ 1024) (d : declares (itemAt s n .kind) ≡ true) (low : hashFrom 0 (itemAt s n .name) < 1024) where
+    chained-head : (b : ℕ) → b < 1024 → getD (fronted ix (11264 + hashFrom 0 (itemAt s n .name)) (12288 + n) n) (11264 + b) 0 ≡ code (lastHashed b (n + 1) s)
+    chained-head b l =
+        by-equal b (hashFrom 0 (itemAt s n .name))
+        (λ e. rw e (fronted-head ix (11264 + hashFrom 0 (itemAt s n .name)) (12288 + n) n (omega arith) ∙ ap code (sym (head-new d))))
+        (λ f. fronted-other ix (11264 + hashFrom 0 (itemAt s n .name)) (12288 + n) n (11264 + b) (λ e. f (omega arith)) (λ e. omega arith) ∙ head-kept b l (unhashed b (λ _ e. f (sym e))))
+
+    chained-this : (b : ℕ) → T (hashed b (itemAt s n)) → getD (fronted ix (11264 + hashFrom 0 (itemAt s n .name)) (12288 + n) n) (12288 + n) 0 ≡ code (lastHashed b n s)
+    chained-this b t =
+        let e = hashed-as (itemAt s n) b (truth (hashed b (itemAt s n)) t) .1 in
+        fronted-at ix (11264 + hashFrom 0 (itemAt s n .name)) (12288 + n) n (omega arith) (λ q. omega arith) ∙ c .head (hashFrom 0 (itemAt s n .name)) low ∙ ap (λ x. code (lastHashed x n s)) e
+
+    pub chained-on : Chained s (n + 1) (fronted ix (11264 + hashFrom 0 (itemAt s n .name)) (12288 + n) n)
+    chained-on =
+        record {
+          head = chained-head;
+          chain = λ j l b t. by-less j n
+              (λ m. fronted-other ix (11264 + hashFrom 0 (itemAt s n .name)) (12288 + n) n (12288 + j) (λ e. omega arith) (λ e. omega arith) ∙ c .chain j m b t)
+              (λ m. let e : j ≡ n = omega arith in rw e (chained-this b (rw e at t)));
+        }
+
+  pub chained-off : declares (itemAt s n .kind) ≡ false → Chained s (n + 1) ix
+  chained-off f =
+      record {
+        head = λ b l. head-kept b l (unhashed b (λ d _. let z : _≡_ {A = ℕ} 0 1 = cc in omega arith));
+        chain = λ j l b t. by-less j n
+            (λ m. c .chain j m b t)
+            (λ m. let e : j ≡ n = omega arith in let d = hashed-as (itemAt s n) b (truth (hashed b (itemAt s n)) (rw e at t)) .0 in absurd (let z : _≡_ {A = ℕ} 0 1 = cc in omega arith));
+      }

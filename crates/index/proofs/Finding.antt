@@ -1,0 +1,102 @@
+-- Laws of the searches by the index: each takes what the code knows there.
+use mathlib.Core.Path.{_≡_, refl, sym, ap, _∙_}
+use mathlib.Core.Bool.{Bool, true, false}
+use mathlib.Core.Option.{Option, none, some}
+use mathlib.Core.List.{List, [], _∷_}
+use Prim.Native.Nat.{ℕ, suc, _+_, _*_, _-_, _%_, _≤_, _<_}
+use native.Mathlib.Nat.{suc-add}
+use native.Mathlib.Numerals.{add-one}
+use native.Mathlib.Omega.{arith}
+use lib.Dec.{eqb}
+use lib.ListN.{length, getD, drop, drop-of-length-le}
+use lib.Seq.{drop-cons}
+use borrow.Author.Tests.{eq-eqb, ne-eqb}
+use Rattle.texts.specs.Choice.{_and_, _or_}
+use Rattle.texts.specs.Text.{same}
+use Rattle.xmlschema.specs.Schema.{Item, Schema, itemAt, nextUnder, lastNamed}
+use Rattle.xmlschema.specs.Store.{itemOf, schemaOf, found}
+use Rattle.xmlschema.specs.declared.items.Entry.{Entry}
+use Rattle.xmlschema.specs.declared.items.Model.{Model}
+use Rattle.xmlschema.specs.declared.items.Position.{Position}
+use Rattle.xmlschema.specs.declared.items.Position.the-variants.{At, Nothing}
+use Rattle.index.specs.Index.{code, hashFrom, declares, Indexed}
+use Rattle.index.proofs.Building.{kind-is, owner-is, name-is}
+
+-- ---- the hash: what is still to come is unchanged
+
+pub record Hashing (s : List ℕ) (i h : ℕ) : Type 0 where
+  pub rest : hashFrom h (drop i s) ≡ hashFrom 0 s
+  pub low : h < 1024
+
+pub hashing-start : {s : List ℕ} → Hashing s 0 0
+hashing-start = record { rest = refl; low = omega arith }
+
+pub hashing-on : {s : List ℕ} {i h : ℕ} → Hashing s i h → i < length s → {w : ℕ} → (w ≡ getD s i 0) × (w < 256) → Hashing s (i + 1) ((h * 31 + w) % 1024)
+unfolding hashFrom
+hashing-on {s} {i} {h} k l e = record { rest = rw (add-one, e .0) (rw (drop-cons s i 0) at (k .rest)); low = omega arith }
+
+pub hashing-end : {s : List ℕ} {i h : ℕ} → Hashing s i h → length s ≤ i → h ≡ hashFrom 0 s
+unfolding hashFrom
+hashing-end {s} {i} {h} k l = rw (drop-of-length-le s l) at (k .rest)
+
+pub hashing-low : {s : List ℕ} {i h : ℕ} → Hashing s i h → h < 1024
+hashing-low k = k .low
+
+-- ---- kinds that declare
+
+module _ (kind : ℕ) where
+  pub declares-type : kind ≡ 1 → true ≡ declares kind
+  unfolding declares
+  declares-type e = rw e
+
+  pub declares-composite : kind ≡ 4 → true ≡ declares kind
+  unfolding declares
+  declares-composite e = rw e
+
+  pub declares-enum : (kind ≡ 1 → ⊥) → (kind ≡ 4 → ⊥) → eqb kind 5 ≡ declares kind
+  unfolding declares
+  declares-enum a b = rw (ne-eqb kind 1 a, ne-eqb kind 4 b)
+
+-- ---- positions
+
+pub position-some : {n : ℕ} → 0 < n → (o : Option ℕ) → n ≡ code o → At (n - 1) ≡ found o
+position-some h none e = absurd (omega arith)
+position-some {n} h (some i) e = let z : n - 1 ≡ i = omega arith in rw z
+
+pub position-none : {n : ℕ} → n ≤ 0 → (o : Option ℕ) → n ≡ code o → Nothing ≡ found o
+position-none h none e = refl
+position-none h (some i) e = absurd (omega arith)
+
+-- ---- children
+
+pub under-any : {r : Position} (m : Model) (rec : List ℕ) (kind owner from : ℕ) → ((t : List ℕ) → r ≡ found (nextUnder kind owner from (schemaOf m rec t))) → (text : List ℕ) → r ≡ found (nextUnder kind owner from (schemaOf m rec text))
+under-any m rec kind owner from f text = f text
+
+module _ (s : Schema) (ix : List ℕ) (x : Indexed s ix) (kind owner from : ℕ) where
+  pub child-first : {r : Position} {n : ℕ} → n ≡ length (s .items) → n ≤ 1024 → kind ≤ 9 → owner ≤ 1023 → from ≡ 0 → ((o : Option ℕ) → getD ix (10 * owner + kind) 0 ≡ code o → r ≡ found o) → r ≡ found (nextUnder kind owner from s)
+  child-first en most hk ho z f = f (nextUnder kind owner from s) (rw z (x .links (omega arith) .first kind owner (omega arith) (omega arith)))
+
+  child-on : length (s .items) ≤ 1024 → 0 < from → from - 1 < length (s .items) → itemAt s (from - 1) .kind ≡ kind → itemAt s (from - 1) .owner ≡ owner → kind < 10 → owner < 1024 → getD ix (10240 + (from - 1)) 0 ≡ code (nextUnder kind owner from s)
+  child-on most h l ek eo hk ho =
+      let z : from - 1 + 1 ≡ from = omega arith in
+      let e = x .links most .next (from - 1) (omega arith) l (omega arith) (omega arith) in
+      rw (ek, eo, z) at e
+
+pub child-next : (m : Model) (rec text ix : List ℕ) → Indexed (schemaOf m rec text) ix → (kind owner from : ℕ) {r : Position} → length (schemaOf m rec text .items) ≤ 1024 → kind < 10 → owner < 1024 → 0 < from
+    → {n : ℕ} → n ≡ length (schemaOf m rec text .items) → from - 1 < n → (e : Entry) → ((t : List ℕ) → itemOf t e ≡ itemAt (schemaOf m rec t) (from - 1)) → e .kind ≡ kind → e .owner ≡ owner
+    → ((o : Option ℕ) → getD ix (10240 + (from - 1)) 0 ≡ code o → r ≡ found o) → r ≡ found (nextUnder kind owner from (schemaOf m rec text))
+child-next m rec text ix x kind owner from most hk ho h en l e f ek eo g =
+    g (nextUnder kind owner from (schemaOf m rec text))
+    (child-on (schemaOf m rec text) ix x kind owner from most h (omega arith) (sym (kind-is m rec (from - 1) e f text) ∙ ek) (sym (owner-is m rec (from - 1) e f text) ∙ eo) hk ho)
+
+-- ---- names
+
+module _ (m : Model) (rec : List ℕ) (i : ℕ) (e : Entry) (f : (t : List ℕ) → itemOf t e ≡ itemAt (schemaOf m rec t) i) (text : List ℕ) (kind : ℕ) (name : List ℕ) where
+  pub named-yes : e .kind ≡ kind → {w : List ℕ} → w ≡ itemOf text e .name → {b : Bool} → b ≡ same w name → b ≡ (eqb (itemAt (schemaOf m rec text) i .kind) kind and same (itemAt (schemaOf m rec text) i .name) name)
+  named-yes ek {w} ew eb =
+      let k : itemAt (schemaOf m rec text) i .kind ≡ kind = sym (kind-is m rec i e f text) ∙ ek in
+      let n = name-is m rec i e f text ew in
+      rw (eq-eqb (itemAt (schemaOf m rec text) i .kind) kind k, ← n) eb
+
+  pub named-no : (e .kind ≡ kind → ⊥) → false ≡ (eqb (itemAt (schemaOf m rec text) i .kind) kind and same (itemAt (schemaOf m rec text) i .name) name)
+  named-no n = rw (ne-eqb (itemAt (schemaOf m rec text) i .kind) kind (λ q. n (kind-is m rec i e f text ∙ q)))

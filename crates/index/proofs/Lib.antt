@@ -1,0 +1,8 @@
+-- Laws of the index.
+pub mod Fronting
+pub mod Linking
+pub mod Chaining
+pub mod Seeking
+pub mod Building
+pub mod Finding
+pub mod Laws

@@ -1,0 +1,75 @@
+-- An index over a schema's items: for each owner and kind the first item, for each item the next of its kind and
+-- owner, and for each short hash of a name the declarations that have it, the last first. Internal: what is promised
+-- to the crates above is the model's own searches (`nextUnder`, `lastNamed`).
+use mathlib.Core.Path.{_≡_}
+use mathlib.Core.Bool.{Bool}
+use mathlib.Core.List.{List, [], _∷_}
+use mathlib.Core.Option.{Option, none, some}
+use Prim.Native.Nat.{ℕ, zero, suc, _+_, _*_, _%_, _≤_, _<_}
+use lib.Dec.{T, eqb}
+use lib.ListN.{length, getD, take, set}
+use Rattle.texts.specs.Choice.{_and_, _or_}
+use Rattle.xmlschema.specs.Schema.{Item, Schema, itemAt, positionsFrom, last, nextUnder, aType, aComposite, anEnum}
+
+-- a position as the index holds it
+abbrev pub code : Option ℕ → ℕ
+code none = 0
+code (some i) = i + 1
+
+-- item i put in front of the list whose head stands at `head`; what came first so far stands at `at`
+abbrev pub fronted : List ℕ → ℕ → ℕ → ℕ → List ℕ
+fronted ix head at i = set (set ix at (getD ix head 0)) head (i + 1)
+
+-- ---- links: the heads of 1,024 owners and 10 kinds, then the next of each item
+
+pub record Linked (s : Schema) (i : ℕ) (ix : List ℕ) : Type 0 where
+  pub first : (k o : ℕ) → k < 10 → o < 1024 → getD ix (10 * o + k) 0 ≡ code (nextUnder k o i s)
+  pub next : (j : ℕ) → i ≤ j → j < length (s .items) → itemAt s j .kind < 10 → itemAt s j .owner < 1024 → getD ix (10240 + j) 0 ≡ code (nextUnder (itemAt s j .kind) (itemAt s j .owner) (j + 1) s)
+
+-- ---- names: 1,024 heads, then the next of each item
+
+-- a short hash of a text
+unfoldable pub hashFrom : ℕ → List ℕ → ℕ
+hashFrom h [] = h
+hashFrom h (x ∷ xs) = hashFrom ((h * 31 + x) % 1024) xs
+
+-- the kinds that a type name is looked up among
+unfoldable pub declares : ℕ → Bool
+declares kind = eqb kind aType or eqb kind aComposite or eqb kind anEnum
+
+unfoldable pub hashed : ℕ → Item → Bool
+hashed b it = declares (it .kind) and eqb (hashFrom 0 (it .name)) b
+
+-- the last of the first n items that declares a name with the hash b
+unfoldable pub lastHashed : ℕ → ℕ → Schema → Option ℕ
+lastHashed b n s = last (positionsFrom 0 (hashed b) (take n (s .items)))
+
+pub record Chained (s : Schema) (n : ℕ) (ix : List ℕ) : Type 0 where
+  pub head : (b : ℕ) → b < 1024 → getD ix (11264 + b) 0 ≡ code (lastHashed b n s)
+  pub chain : (j : ℕ) → j < n → (b : ℕ) → T (hashed b (itemAt s j)) → getD ix (12288 + j) 0 ≡ code (lastHashed b j s)
+
+-- ---- both, where there are as many items as a schema may have
+
+pub record Indexed (s : Schema) (ix : List ℕ) : Type 0 where
+  pub long : 13312 ≤ length ix
+  pub links : length (s .items) ≤ 1024 → Linked s 0 ix
+  pub names : length (s .items) ≤ 1024 → Chained s (length (s .items)) ix
+
+-- ---- while it is built
+
+-- an array of zeros
+pub record Blank (ix : List ℕ) : Type 0 where
+  pub long : 13312 ≤ length ix
+  pub zero : (k : ℕ) → getD ix k 0 ≡ 0
+
+-- the items from i on are linked, and there are no names yet
+pub record Linking (s : Schema) (i : ℕ) (ix : List ℕ) : Type 0 where
+  pub long : 13312 ≤ length ix
+  pub linked : Linked s i ix
+  pub zero : (k : ℕ) → 11264 ≤ k → getD ix k 0 ≡ 0
+
+-- all items are linked, and the first n have their names in the chains
+pub record Naming (s : Schema) (n : ℕ) (ix : List ℕ) : Type 0 where
+  pub long : 13312 ≤ length ix
+  pub linked : Linked s 0 ix
+  pub chained : Chained s n ix

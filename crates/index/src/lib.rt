@@ -1,0 +1,262 @@
+// An index over a model, for its searches: children by links, declarations by chains of a short hash.
+//
+// `build` fills a lent array from any model in one pass each; `child` and `named` then promise what the model's
+// own `next_under` and `last_named` promise, without walking all items. Nothing is asked of the model: where it has
+// more than 1,024 items, which no document gives, the model's searches answer.
+use texts::equal;
+use xmlschema::items::Model;
+use xmlschema::items::Position;
+use xmlschema::items::count;
+use xmlschema::items::item;
+use xmlschema::items::last_named;
+use xmlschema::items::name_of;
+use xmlschema::items::next_under;
+ghost use mathlib.Core.Path.{_≡_};
+ghost use mathlib.Core.Bool.{true};
+ghost use mathlib.Core.Option.{Option};
+ghost use Prim.Native.Nat.{ℕ, _+_, _≤_, _<_};
+ghost use lib.Dec.{eqb};
+ghost use lib.ListN.{length, getD};
+ghost use Rattle.texts.specs.Choice.{_and_};
+ghost use Rattle.texts.specs.Text.{same};
+ghost use Rattle.xmlschema.specs.Schema.{itemAt, nextUnder, lastNamed};
+ghost use Rattle.xmlschema.specs.Store.{schemaOf, found};
+ghost use Rattle.index.specs.Index.{code, fronted, hashFrom, declares, Blank, Linking, Naming, Indexed};
+
+// How many numbers the index takes.
+pub const SIZE: usize = 13312;
+
+const MOST: u32 = 1024;
+
+const NEXT: usize = 10240;
+
+const HEADS: usize = 11264;
+
+const CHAIN: usize = 12288;
+
+fn wide(b: u8) -> usize
+    ensures { λ r. ⌜ (r ≡ b) × (r < 256) ⌝ }
+{
+    b as usize
+}
+
+fn hash_of(name: &[u8]) -> usize
+    ensures { λ r. ⌜ (r ≡ hashFrom 0 (now (name .entry))) × (r < 1024) ⌝ }
+{
+    let mut h: usize = 0;
+    let mut i = 0;
+    while i < name.len() {
+        h = (h * 31 + wide(name[i])) % 1024;
+        i += 1;
+    }
+    h
+}
+
+// Item `i` in front of the list whose head stands at `head`.
+fn put_front(ix: &mut [u16], head: usize, at: usize, i: u32)
+    requires { ⌜ (head < length (now ix)) × (at < length (now ix)) × (i < 1024) ⌝ }
+    ensures { λ r. ⌜ now (ix .exit) ≡ fronted (now (ix .entry)) head at i ⌝ }
+{
+    ix[at] = ix[head];
+    let n = i + 1;
+    ix[head] = n as u16;
+}
+
+// ---- building
+
+fn link_item(m: Model, rec: &[u32], text: &[u8], i: u32, ix: &mut [u16])
+    requires { ⌜ Linking (schemaOf m (now rec) (now text)) (i + 1) (now ix) × (i < length (schemaOf m (now rec) (now text) .items)) × (length (schemaOf m (now rec) (now text) .items) ≤ 1024) ⌝ }
+    ensures { λ r. ⌜ Linking (schemaOf m (now (rec .entry)) (now (text .entry))) i (now (ix .exit)) ⌝ }
+{
+    let e = item(m, rec, i);
+    if 9 < e.kind {
+        return;
+    }
+    if 1023 < e.owner {
+        return;
+    }
+    let head = 10 * (e.owner as usize) + e.kind as usize;
+    let at = NEXT + i as usize;
+    put_front(ix, head, at, i);
+}
+
+fn put_links(m: Model, rec: &[u32], text: &[u8], ix: &mut [u16])
+    requires { ⌜ Blank (now ix) × (length (schemaOf m (now rec) (now text) .items) ≤ 1024) ⌝ }
+    ensures { λ r. ⌜ Linking (schemaOf m (now (rec .entry)) (now (text .entry))) 0 (now (ix .exit)) ⌝ }
+{
+    let mut n = count(m, rec, text);
+    while 0 < n {
+        let i = n - 1;
+        link_item(m, rec, text, i, ix);
+        n = i;
+    }
+}
+
+fn is_declaring(kind: u32) -> bool
+    ensures { λ r. ⌜ r ≡ declares kind ⌝ }
+{
+    if kind == 1 {
+        return true;
+    }
+    if kind == 4 {
+        return true;
+    }
+    kind == 5
+}
+
+fn name_item(m: Model, rec: &[u32], text: &[u8], i: u32, ix: &mut [u16])
+    requires { ⌜ Naming (schemaOf m (now rec) (now text)) i (now ix) × (i < length (schemaOf m (now rec) (now text) .items)) × (length (schemaOf m (now rec) (now text) .items) ≤ 1024) ⌝ }
+    ensures { λ r. ⌜ Naming (schemaOf m (now (rec .entry)) (now (text .entry))) (i + 1) (now (ix .exit)) ⌝ }
+{
+    let e = item(m, rec, i);
+    if is_declaring(e.kind) {
+        let b = hash_of(name_of(e, text));
+        let head = HEADS + b;
+        let at = CHAIN + i as usize;
+        put_front(ix, head, at, i);
+    }
+}
+
+fn put_names(m: Model, rec: &[u32], text: &[u8], ix: &mut [u16])
+    requires { ⌜ Linking (schemaOf m (now rec) (now text)) 0 (now ix) × (length (schemaOf m (now rec) (now text) .items) ≤ 1024) ⌝ }
+    ensures { λ r. ⌜ Naming (schemaOf m (now (rec .entry)) (now (text .entry))) (length (schemaOf m (now (rec .entry)) (now (text .entry)) .items)) (now (ix .exit)) ⌝ }
+{
+    let n = count(m, rec, text);
+    let mut i = 0;
+    while i < n {
+        name_item(m, rec, text, i, ix);
+        i += 1;
+    }
+}
+
+// The index of a model, into an array of zeros.
+pub fn build(m: Model, rec: &[u32], text: &[u8], ix: &mut [u16])
+    requires { ⌜ Blank (now ix) ⌝ }
+    ensures { λ r. ⌜ Indexed (schemaOf m (now (rec .entry)) (now (text .entry))) (now (ix .exit)) ⌝ }
+{
+    if count(m, rec, text) <= MOST {
+        put_links(m, rec, text, ix);
+        put_names(m, rec, text, ix);
+    }
+}
+
+// ---- searching
+
+// A position as the index holds it.
+fn position(n: u16) -> Position
+    ensures { λ r. ⌜ ((o : Option ℕ) → n ≡ code o → r ≡ found o) ⌝ }
+{
+    if 0 < n {
+        return Position::At((n as u32) - 1);
+    }
+    Position::Nothing
+}
+
+// The item before `from`, if it is of this kind and owner, leads to the next one.
+fn next_child(
+    m: Model,
+    rec: &[u32],
+    text: &[u8],
+    ix: &[u16],
+    kind: u32,
+    owner: u32,
+    from: u32,
+) -> Position
+    requires { ⌜ Indexed (schemaOf m (now rec) (now text)) (now ix) × (length (schemaOf m (now rec) (now text) .items) ≤ 1024) × (kind < 10) × (owner < 1024) × (0 < from) ⌝ }
+    ensures { λ r. ⌜ r ≡ found (nextUnder kind owner from (schemaOf m (now (rec .entry)) (now (text .entry)))) ⌝ }
+{
+    let i = from - 1;
+    if i < count(m, rec, text) {
+        let e = item(m, rec, i);
+        if e.kind == kind {
+            if e.owner == owner {
+                let at = NEXT + i as usize;
+                return position(ix[at]);
+            }
+        }
+    }
+    next_under(m, rec, kind, owner, from)
+}
+
+// The first item of a kind under an owner from a place on.
+pub fn child(
+    m: Model,
+    rec: &[u32],
+    text: &[u8],
+    ix: &[u16],
+    kind: u32,
+    owner: u32,
+    from: u32,
+) -> Position
+    requires { ⌜ Indexed (schemaOf m (now rec) (now text)) (now ix) ⌝ }
+    ensures { λ r. ⌜ r ≡ found (nextUnder kind owner from (schemaOf m (now (rec .entry)) (now (text .entry)))) ⌝ }
+{
+    if MOST < count(m, rec, text) {
+        return next_under(m, rec, kind, owner, from);
+    }
+    if 9 < kind {
+        return next_under(m, rec, kind, owner, from);
+    }
+    if 1023 < owner {
+        return next_under(m, rec, kind, owner, from);
+    }
+    if from == 0 {
+        let head = 10 * (owner as usize) + kind as usize;
+        return position(ix[head]);
+    }
+    next_child(m, rec, text, ix, kind, owner, from)
+}
+
+fn is_named(m: Model, rec: &[u32], text: &[u8], i: u32, kind: u32, name: &[u8]) -> bool
+    ensures { λ r. ⌜ r ≡ (eqb (itemAt (schemaOf m (now (rec .entry)) (now (text .entry))) i .kind) kind and same (itemAt (schemaOf m (now (rec .entry)) (now (text .entry))) i .name) (now (name .entry))) ⌝ }
+{
+    let e = item(m, rec, i);
+    if e.kind == kind {
+        return equal(name_of(e, text), name);
+    }
+    false
+}
+
+fn number(n: u16) -> u32
+    ensures { λ r. ⌜ r ≡ n ⌝ }
+{
+    n as u32
+}
+
+// A number of the index, and 0 past its end.
+fn word(ix: &[u16], k: usize) -> u32
+    ensures { λ r. ⌜ r ≡ getD (now (ix .entry)) k 0 ⌝ }
+{
+    if k < ix.len() { number(ix[k]) } else { 0 }
+}
+
+// Along the chain of the name's hash.
+fn chained(m: Model, rec: &[u32], text: &[u8], ix: &[u16], kind: u32, name: &[u8]) -> Position
+    requires { ⌜ Indexed (schemaOf m (now rec) (now text)) (now ix) × (length (schemaOf m (now rec) (now text) .items) ≤ 1024) × (declares kind ≡ true) ⌝ }
+    ensures { λ r. ⌜ r ≡ found (lastNamed kind (now (name .entry)) (schemaOf m (now (rec .entry)) (now (text .entry)))) ⌝ }
+{
+    let b = hash_of(name);
+    let mut p = word(ix, HEADS + b);
+    while 0 < p {
+        let i = p - 1;
+        if is_named(m, rec, text, i, kind, name) {
+            return Position::At(i);
+        }
+        p = word(ix, CHAIN + i as usize);
+    }
+    Position::Nothing
+}
+
+// The last declaration of a kind with a name.
+pub fn named(m: Model, rec: &[u32], text: &[u8], ix: &[u16], kind: u32, name: &[u8]) -> Position
+    requires { ⌜ Indexed (schemaOf m (now rec) (now text)) (now ix) ⌝ }
+    ensures { λ r. ⌜ r ≡ found (lastNamed kind (now (name .entry)) (schemaOf m (now (rec .entry)) (now (text .entry)))) ⌝ }
+{
+    if MOST < count(m, rec, text) {
+        return last_named(m, rec, text, kind, name);
+    }
+    if is_declaring(kind) {
+        return chained(m, rec, text, ix, kind, name);
+    }
+    last_named(m, rec, text, kind, name)
+}
