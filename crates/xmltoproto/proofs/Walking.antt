@@ -87,6 +87,22 @@ module _ (q : Item → Bool) (s : Schema) (from : ℕ) where
   unfolding ahead
   next-none e = record { empty = first-none _ e }
 
+-- ---- what the index answers
+
+module _ (s : Schema) (kind from owner : ℕ) {r : Position} where
+  pub next-child : {i : ℕ} → r ≡ At i → r ≡ found (nextUnder kind owner from s) → Next (underOwner kind owner) s from i
+  unfolding nextUnder
+  next-child {i} f h = next-some (underOwner kind owner) s from i (found-some _ i (sym h ∙ f))
+
+  pub last-child : r ≡ Nothing → r ≡ found (nextUnder kind owner from s) → Last (underOwner kind owner) s from
+  unfolding nextUnder
+  last-child f h = next-none (underOwner kind owner) s from (found-none _ (sym h ∙ f))
+
+  pub child-within : {i : ℕ} → r ≡ At i → r ≡ found (nextUnder kind owner from s) → {n : ℕ} → n ≡ length (s .items) → (from ≤ i) × (i < n)
+  child-within f h e =
+      let x = next-child f h in
+      (x .low, rw e (x .high))
+
 -- ---- what the model answers
 
 module _ (m : Model) (rec text : List ℕ) (kind from : ℕ) {r : Position} where
@@ -100,12 +116,10 @@ module _ (m : Model) (rec text : List ℕ) (kind from : ℕ) {r : Position} wher
 
   module _ (owner : ℕ) where
     pub next-under : {i : ℕ} → r ≡ At i → ((t : List ℕ) → r ≡ found (nextUnder kind owner from (schemaOf m rec t))) → Next (underOwner kind owner) (schemaOf m rec text) from i
-    unfolding nextUnder
-    next-under {i} f h = next-some (underOwner kind owner) (schemaOf m rec text) from i (found-some _ i (sym (h text) ∙ f))
+    next-under f h = next-child (schemaOf m rec text) kind from owner f (h text)
 
     pub last-under : r ≡ Nothing → ((t : List ℕ) → r ≡ found (nextUnder kind owner from (schemaOf m rec t))) → Last (underOwner kind owner) (schemaOf m rec text) from
-    unfolding nextUnder
-    last-under f h = next-none (underOwner kind owner) (schemaOf m rec text) from (found-none _ (sym (h text) ∙ f))
+    last-under f h = last-child (schemaOf m rec text) kind from owner f (h text)
 
 -- past the last item there is none
 pub last-end : (q : Item → Bool) (s : Schema) (from : ℕ) {n : ℕ} → n ≡ length (s .items) → n ≤ from → Last q s from

@@ -2,9 +2,10 @@
 use crate::composites::is_printed;
 use crate::types::Sense;
 use crate::types::is_array;
-use crate::types::sense_of;
+use crate::types::sense_in;
 use crate::view::second_at;
 use crate::view::size_at;
+use index::child;
 use refusals::Refusal;
 use xmlschema::items::COMPOSITE;
 use xmlschema::items::FIELD;
@@ -15,9 +16,9 @@ use xmlschema::items::Model;
 use xmlschema::items::Position;
 use xmlschema::items::count;
 use xmlschema::items::next_of;
-use xmlschema::items::next_under;
 ghost use mathlib.Core.Path.{_≡_};
 ghost use Rattle.xmlschema.specs.Schema.{itemAt, under, allOf, aMember, aComposite, aMessage, aGroup};
+ghost use Rattle.index.specs.Index.{Indexed};
 ghost use Rattle.xmlschema.specs.Store.{schemaOf, found};
 ghost use Rattle.xmltoproto.specs.Lists.{any};
 ghost use Rattle.xmltoproto.specs.Types.{formOf, isArray, meaning};
@@ -38,13 +39,14 @@ fn is_member_array(m: Model, rec: &[u32], text: &[u8], i: u32) -> bool
     is_array(second_at(m, rec, text, i), size_at(m, rec, text, i))
 }
 
-fn has_member_array(m: Model, rec: &[u32], text: &[u8], c: u32) -> bool
+fn has_member_array(m: Model, rec: &[u32], text: &[u8], ix: &[u16], c: u32) -> bool
+    requires { ⌜ Indexed (schemaOf m (now rec) (now text)) (now ix) ⌝ }
     ensures { λ r. ⌜ r ≡ any (λ i. isArray (formOf (itemAt (schemaOf m (now (rec .entry)) (now (text .entry))) i))) (under aMember c (schemaOf m (now (rec .entry)) (now (text .entry)))) ⌝ }
 {
     let n = count(m, rec, text);
     let mut from = 0;
     while from < n {
-        match next_under(m, rec, MEMBER, c, from) {
+        match child(m, rec, text, ix, MEMBER, c, from) {
             Position::At(i) => {
                 if is_member_array(m, rec, text, i) {
                     return true;
@@ -60,17 +62,19 @@ fn has_member_array(m: Model, rec: &[u32], text: &[u8], c: u32) -> bool
 }
 
 // Such a member in a composite that is printed.
-fn is_refused_composite(m: Model, rec: &[u32], text: &[u8], c: u32) -> bool
+fn is_refused_composite(m: Model, rec: &[u32], text: &[u8], ix: &[u16], c: u32) -> bool
+    requires { ⌜ Indexed (schemaOf m (now rec) (now text)) (now ix) ⌝ }
     ensures { λ r. ⌜ r ≡ refusedComposite (schemaOf m (now (rec .entry)) (now (text .entry))) c ⌝ }
 {
     if is_printed(m, rec, text, c) {
-        return has_member_array(m, rec, text, c);
+        return has_member_array(m, rec, text, ix, c);
     }
     false
 }
 
 // The place, among all composites, of the first that is refused.
-fn first_composite(m: Model, rec: &[u32], text: &[u8]) -> Position
+fn first_composite(m: Model, rec: &[u32], text: &[u8], ix: &[u16]) -> Position
+    requires { ⌜ Indexed (schemaOf m (now rec) (now text)) (now ix) ⌝ }
     ensures { λ r. ⌜ r ≡ found (firstFrom 0 (refusedComposite (schemaOf m (now (rec .entry)) (now (text .entry)))) (allOf aComposite (schemaOf m (now (rec .entry)) (now (text .entry))))) ⌝ }
 {
     let n = count(m, rec, text);
@@ -79,7 +83,7 @@ fn first_composite(m: Model, rec: &[u32], text: &[u8]) -> Position
     while from < n {
         match next_of(m, rec, COMPOSITE, from) {
             Position::At(i) => {
-                if is_refused_composite(m, rec, text, i) {
+                if is_refused_composite(m, rec, text, ix, i) {
                     return Position::At(k);
                 }
                 k += 1;
@@ -95,10 +99,11 @@ fn first_composite(m: Model, rec: &[u32], text: &[u8]) -> Position
 
 // ---- messages
 
-fn is_field_array(m: Model, rec: &[u32], text: &[u8], i: u32) -> bool
+fn is_field_array(m: Model, rec: &[u32], text: &[u8], ix: &[u16], i: u32) -> bool
+    requires { ⌜ Indexed (schemaOf m (now rec) (now text)) (now ix) ⌝ }
     ensures { λ r. ⌜ r ≡ isArrayType (meaning (schemaOf m (now (rec .entry)) (now (text .entry))) (itemAt (schemaOf m (now (rec .entry)) (now (text .entry))) i .second)) ⌝ }
 {
-    match sense_of(m, rec, text, second_at(m, rec, text, i)) {
+    match sense_in(m, rec, text, ix, second_at(m, rec, text, i)) {
         Sense::Declared => false,
         Sense::Typed(t) => is_member_array(m, rec, text, t),
         Sense::BuiltIn => false,
@@ -107,15 +112,16 @@ fn is_field_array(m: Model, rec: &[u32], text: &[u8], i: u32) -> bool
 }
 
 // A message or group that has a field of such a type.
-fn holds_array(m: Model, rec: &[u32], text: &[u8], owner: u32) -> bool
+fn holds_array(m: Model, rec: &[u32], text: &[u8], ix: &[u16], owner: u32) -> bool
+    requires { ⌜ Indexed (schemaOf m (now rec) (now text)) (now ix) ⌝ }
     ensures { λ r. ⌜ r ≡ holdsArray (schemaOf m (now (rec .entry)) (now (text .entry))) owner ⌝ }
 {
     let n = count(m, rec, text);
     let mut from = 0;
     while from < n {
-        match next_under(m, rec, FIELD, owner, from) {
+        match child(m, rec, text, ix, FIELD, owner, from) {
             Position::At(i) => {
-                if is_field_array(m, rec, text, i) {
+                if is_field_array(m, rec, text, ix, i) {
                     return true;
                 }
                 from = i + 1;
@@ -128,15 +134,16 @@ fn holds_array(m: Model, rec: &[u32], text: &[u8], owner: u32) -> bool
     false
 }
 
-fn has_group_array(m: Model, rec: &[u32], text: &[u8], owner: u32) -> bool
+fn has_group_array(m: Model, rec: &[u32], text: &[u8], ix: &[u16], owner: u32) -> bool
+    requires { ⌜ Indexed (schemaOf m (now rec) (now text)) (now ix) ⌝ }
     ensures { λ r. ⌜ r ≡ any (holdsArray (schemaOf m (now (rec .entry)) (now (text .entry)))) (under aGroup owner (schemaOf m (now (rec .entry)) (now (text .entry)))) ⌝ }
 {
     let n = count(m, rec, text);
     let mut from = 0;
     while from < n {
-        match next_under(m, rec, GROUP, owner, from) {
+        match child(m, rec, text, ix, GROUP, owner, from) {
             Position::At(i) => {
-                if holds_array(m, rec, text, i) {
+                if holds_array(m, rec, text, ix, i) {
                     return true;
                 }
                 from = i + 1;
@@ -149,16 +156,18 @@ fn has_group_array(m: Model, rec: &[u32], text: &[u8], owner: u32) -> bool
     false
 }
 
-fn is_refused_message(m: Model, rec: &[u32], text: &[u8], i: u32) -> bool
+fn is_refused_message(m: Model, rec: &[u32], text: &[u8], ix: &[u16], i: u32) -> bool
+    requires { ⌜ Indexed (schemaOf m (now rec) (now text)) (now ix) ⌝ }
     ensures { λ r. ⌜ r ≡ refusedMessage (schemaOf m (now (rec .entry)) (now (text .entry))) i ⌝ }
 {
-    if holds_array(m, rec, text, i) {
+    if holds_array(m, rec, text, ix, i) {
         return true;
     }
-    has_group_array(m, rec, text, i)
+    has_group_array(m, rec, text, ix, i)
 }
 
-fn first_message(m: Model, rec: &[u32], text: &[u8]) -> Position
+fn first_message(m: Model, rec: &[u32], text: &[u8], ix: &[u16]) -> Position
+    requires { ⌜ Indexed (schemaOf m (now rec) (now text)) (now ix) ⌝ }
     ensures { λ r. ⌜ r ≡ found (firstFrom 0 (refusedMessage (schemaOf m (now (rec .entry)) (now (text .entry)))) (allOf aMessage (schemaOf m (now (rec .entry)) (now (text .entry))))) ⌝ }
 {
     let n = count(m, rec, text);
@@ -167,7 +176,7 @@ fn first_message(m: Model, rec: &[u32], text: &[u8]) -> Position
     while from < n {
         match next_of(m, rec, MESSAGE, from) {
             Position::At(i) => {
-                if is_refused_message(m, rec, text, i) {
+                if is_refused_message(m, rec, text, ix, i) {
                     return Position::At(k);
                 }
                 k += 1;
@@ -184,12 +193,13 @@ fn first_message(m: Model, rec: &[u32], text: &[u8]) -> Position
 // ---- both
 
 // 40 by composite, then 41 by message.
-pub fn array_refusal(m: Model, rec: &[u32], text: &[u8]) -> Arrays
+pub fn array_refusal(m: Model, rec: &[u32], text: &[u8], ix: &[u16]) -> Arrays
+    requires { ⌜ Indexed (schemaOf m (now rec) (now text)) (now ix) ⌝ }
     ensures { λ r. ⌜ r ≡ refusing (arrayRefusal (schemaOf m (now (rec .entry)) (now (text .entry)))) ⌝ }
 {
-    match first_composite(m, rec, text) {
+    match first_composite(m, rec, text, ix) {
         Position::At(c) => Arrays::Refused(Refusal::ArrayInComposite { place: c as usize }),
-        Position::Nothing => match first_message(m, rec, text) {
+        Position::Nothing => match first_message(m, rec, text, ix) {
             Position::At(i) => Arrays::Refused(Refusal::ArrayInMessage { place: i as usize }),
             Position::Nothing => Arrays::Fine,
         },

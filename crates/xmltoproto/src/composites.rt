@@ -4,6 +4,7 @@ use crate::typed::put_typed;
 use crate::types::Shape;
 use crate::view::name_at;
 use crate::view::second_at;
+use index::child;
 use printing::put_bytes;
 use texts::equal;
 use xmlschema::items::COMPOSITE;
@@ -13,13 +14,13 @@ use xmlschema::items::Position;
 use xmlschema::items::REF;
 use xmlschema::items::count;
 use xmlschema::items::next_of;
-use xmlschema::items::next_under;
 ghost use mathlib.Core.Path.{_≡_};
 ghost use mathlib.Core.List.{[]};
 ghost use Prim.Native.Nat.{_+_};
 ghost use Rattle.texts.specs.Choice.{pick};
 ghost use Rattle.printing.specs.Printed.{Printed};
 ghost use Rattle.xmlschema.specs.Schema.{itemAt, under, aMember, aRef};
+ghost use Rattle.index.specs.Index.{Indexed};
 ghost use Rattle.xmlschema.specs.Store.{schemaOf};
 ghost use Rattle.xmltoproto.specs.Lists.{each, numbered};
 ghost use Rattle.xmltoproto.specs.Composites.{isPrinted, printedComposites};
@@ -67,14 +68,15 @@ fn put_ref(
 }
 
 // How many members a composite has.
-fn members_in(m: Model, rec: &[u32], text: &[u8], c: u32) -> u32
+fn members_in(m: Model, rec: &[u32], text: &[u8], ix: &[u16], c: u32) -> u32
+    requires { ⌜ Indexed (schemaOf m (now rec) (now text)) (now ix) ⌝ }
     ensures { λ r. ⌜ Members (schemaOf m (now (rec .entry)) (now (text .entry))) c r ⌝ }
 {
     let n = count(m, rec, text);
     let mut k = 0;
     let mut from = 0;
     while from < n {
-        match next_under(m, rec, MEMBER, c, from) {
+        match child(m, rec, text, ix, MEMBER, c, from) {
             Position::At(i) => {
                 k += 1;
                 from = i + 1;
@@ -87,7 +89,16 @@ fn members_in(m: Model, rec: &[u32], text: &[u8], c: u32) -> u32
     k
 }
 
-fn put_members(out: &mut [u8], at: usize, m: Model, rec: &[u32], text: &[u8], c: u32) -> usize
+fn put_members(
+    out: &mut [u8],
+    at: usize,
+    m: Model,
+    rec: &[u32],
+    text: &[u8],
+    ix: &[u16],
+    c: u32,
+) -> usize
+    requires { ⌜ Indexed (schemaOf m (now rec) (now text)) (now ix) ⌝ }
     ensures { λ r. ⌜ Printed (now (out .entry)) at (now (out .exit)) r (numbered (λ n i. memberText n (itemAt (schemaOf m (now (rec .entry)) (now (text .entry))) i)) 1 (under aMember c (schemaOf m (now (rec .entry)) (now (text .entry))))) ⌝ }
 {
     let n = count(m, rec, text);
@@ -95,7 +106,7 @@ fn put_members(out: &mut [u8], at: usize, m: Model, rec: &[u32], text: &[u8], c:
     let mut k = 0;
     let mut from = 0;
     while from < n {
-        match next_under(m, rec, MEMBER, c, from) {
+        match child(m, rec, text, ix, MEMBER, c, from) {
             Position::At(i) => {
                 k += 1;
                 p = put_member(out, p, m, rec, text, i, k);
@@ -116,10 +127,11 @@ fn put_refs(
     m: Model,
     rec: &[u32],
     text: &[u8],
+    ix: &[u16],
     c: u32,
     members: u32,
 ) -> usize
-    requires { ⌜ Members (schemaOf m (now rec) (now text)) c members ⌝ }
+    requires { ⌜ Members (schemaOf m (now rec) (now text)) c members × Indexed (schemaOf m (now rec) (now text)) (now ix) ⌝ }
     ensures { λ r. ⌜ Printed (now (out .entry)) at (now (out .exit)) r (numbered (λ n i. refText n (itemAt (schemaOf m (now (rec .entry)) (now (text .entry))) i)) (members + 1) (under aRef c (schemaOf m (now (rec .entry)) (now (text .entry))))) ⌝ }
 {
     let n = count(m, rec, text);
@@ -127,7 +139,7 @@ fn put_refs(
     let mut k = members;
     let mut from = 0;
     while from < n {
-        match next_under(m, rec, REF, c, from) {
+        match child(m, rec, text, ix, REF, c, from) {
             Position::At(i) => {
                 k += 1;
                 p = put_ref(out, p, m, rec, text, i, k);
@@ -141,21 +153,39 @@ fn put_refs(
     p
 }
 
-fn put_parts(out: &mut [u8], at: usize, m: Model, rec: &[u32], text: &[u8], c: u32) -> usize
+fn put_parts(
+    out: &mut [u8],
+    at: usize,
+    m: Model,
+    rec: &[u32],
+    text: &[u8],
+    ix: &[u16],
+    c: u32,
+) -> usize
+    requires { ⌜ Indexed (schemaOf m (now rec) (now text)) (now ix) ⌝ }
     ensures { λ r. ⌜ Printed (now (out .entry)) at (now (out .exit)) r (partTexts (schemaOf m (now (rec .entry)) (now (text .entry))) c) ⌝ }
 {
-    let members = members_in(m, rec, text, c);
-    let p = put_members(out, at, m, rec, text, c);
-    put_refs(out, p, m, rec, text, c, members)
+    let members = members_in(m, rec, text, ix, c);
+    let p = put_members(out, at, m, rec, text, ix, c);
+    put_refs(out, p, m, rec, text, ix, c, members)
 }
 
-fn put_composite(out: &mut [u8], at: usize, m: Model, rec: &[u32], text: &[u8], c: u32) -> usize
+fn put_composite(
+    out: &mut [u8],
+    at: usize,
+    m: Model,
+    rec: &[u32],
+    text: &[u8],
+    ix: &[u16],
+    c: u32,
+) -> usize
+    requires { ⌜ Indexed (schemaOf m (now rec) (now text)) (now ix) ⌝ }
     ensures { λ r. ⌜ Printed (now (out .entry)) at (now (out .exit)) r (compositeText (schemaOf m (now (rec .entry)) (now (text .entry))) c) ⌝ }
 {
     let p = put_bytes(out, at, b"message ");
     let p = put_bytes(out, p, name_at(m, rec, text, c));
     let p = put_bytes(out, p, b" {\n");
-    let p = put_parts(out, p, m, rec, text, c);
+    let p = put_parts(out, p, m, rec, text, ix, c);
     put_bytes(out, p, b"}\n\n")
 }
 
@@ -176,17 +206,27 @@ fn put_composite_if_printed(
     m: Model,
     rec: &[u32],
     text: &[u8],
+    ix: &[u16],
     c: u32,
 ) -> usize
+    requires { ⌜ Indexed (schemaOf m (now rec) (now text)) (now ix) ⌝ }
     ensures { λ r. ⌜ Printed (now (out .entry)) at (now (out .exit)) r (pick (isPrinted (itemAt (schemaOf m (now (rec .entry)) (now (text .entry))) c)) (compositeText (schemaOf m (now (rec .entry)) (now (text .entry))) c) []) ⌝ }
 {
     if is_printed(m, rec, text, c) {
-        return put_composite(out, at, m, rec, text, c);
+        return put_composite(out, at, m, rec, text, ix, c);
     }
     at
 }
 
-pub fn put_composites(out: &mut [u8], at: usize, m: Model, rec: &[u32], text: &[u8]) -> usize
+pub fn put_composites(
+    out: &mut [u8],
+    at: usize,
+    m: Model,
+    rec: &[u32],
+    text: &[u8],
+    ix: &[u16],
+) -> usize
+    requires { ⌜ Indexed (schemaOf m (now rec) (now text)) (now ix) ⌝ }
     ensures { λ r. ⌜ Printed (now (out .entry)) at (now (out .exit)) r (each (compositeText (schemaOf m (now (rec .entry)) (now (text .entry)))) (printedComposites (schemaOf m (now (rec .entry)) (now (text .entry))))) ⌝ }
 {
     let n = count(m, rec, text);
@@ -195,7 +235,7 @@ pub fn put_composites(out: &mut [u8], at: usize, m: Model, rec: &[u32], text: &[
     while from < n {
         match next_of(m, rec, COMPOSITE, from) {
             Position::At(i) => {
-                p = put_composite_if_printed(out, p, m, rec, text, i);
+                p = put_composite_if_printed(out, p, m, rec, text, ix, i);
                 from = i + 1;
             }
             Position::Nothing => {

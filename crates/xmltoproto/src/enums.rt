@@ -1,6 +1,7 @@
 // Enums, printed.
 use crate::view::name_at;
 use crate::view::second_at;
+use index::child;
 use names::convert::put_screaming;
 use printing::put_byte;
 use printing::put_bytes;
@@ -11,11 +12,11 @@ use xmlschema::items::Position;
 use xmlschema::items::VALUE;
 use xmlschema::items::count;
 use xmlschema::items::next_of;
-use xmlschema::items::next_under;
 ghost use mathlib.Core.Path.{_≡_};
 ghost use Rattle.printing.specs.Printed.{Printed, past};
 ghost use Rattle.names.specs.Conversions.{prefixOf};
 ghost use Rattle.xmlschema.specs.Schema.{itemAt, under, allOf, anEnum, aValue};
+ghost use Rattle.index.specs.Index.{Indexed};
 ghost use Rattle.xmlschema.specs.Store.{schemaOf};
 ghost use Rattle.xmltoproto.specs.Lists.{each};
 ghost use Rattle.xmltoproto.specs.Source.{valueText, enumText};
@@ -66,9 +67,11 @@ fn put_values(
     m: Model,
     rec: &[u32],
     text: &[u8],
+    ix: &[u16],
     name: &[u8],
     e: u32,
 ) -> usize
+    requires { ⌜ Indexed (schemaOf m (now rec) (now text)) (now ix) ⌝ }
     ensures { λ r. ⌜ Printed (now (out .entry)) at (now (out .exit)) r (each (λ v. valueText (now (name .entry)) (itemAt (schemaOf m (now (rec .entry)) (now (text .entry))) v)) (under aValue e (schemaOf m (now (rec .entry)) (now (text .entry))))) ⌝ }
 {
     let mut none = [0u8; 0];
@@ -77,7 +80,7 @@ fn put_values(
     let mut p = at;
     let mut from = 0;
     while from < n {
-        match next_under(m, rec, VALUE, e, from) {
+        match child(m, rec, text, ix, VALUE, e, from) {
             Position::At(i) => {
                 p = put_value(out, p, m, rec, text, name, width, i);
                 from = i + 1;
@@ -90,18 +93,28 @@ fn put_values(
     p
 }
 
-fn put_enum(out: &mut [u8], at: usize, m: Model, rec: &[u32], text: &[u8], e: u32) -> usize
+fn put_enum(
+    out: &mut [u8],
+    at: usize,
+    m: Model,
+    rec: &[u32],
+    text: &[u8],
+    ix: &[u16],
+    e: u32,
+) -> usize
+    requires { ⌜ Indexed (schemaOf m (now rec) (now text)) (now ix) ⌝ }
     ensures { λ r. ⌜ Printed (now (out .entry)) at (now (out .exit)) r (enumText (schemaOf m (now (rec .entry)) (now (text .entry))) e) ⌝ }
 {
     let name = name_at(m, rec, text, e);
     let p = put_bytes(out, at, b"enum ");
     let p = put_bytes(out, p, name);
     let p = put_bytes(out, p, b" {\n");
-    let p = put_values(out, p, m, rec, text, name, e);
+    let p = put_values(out, p, m, rec, text, ix, name, e);
     put_bytes(out, p, b"}\n\n")
 }
 
-pub fn put_enums(out: &mut [u8], at: usize, m: Model, rec: &[u32], text: &[u8]) -> usize
+pub fn put_enums(out: &mut [u8], at: usize, m: Model, rec: &[u32], text: &[u8], ix: &[u16]) -> usize
+    requires { ⌜ Indexed (schemaOf m (now rec) (now text)) (now ix) ⌝ }
     ensures { λ r. ⌜ Printed (now (out .entry)) at (now (out .exit)) r (each (enumText (schemaOf m (now (rec .entry)) (now (text .entry)))) (allOf anEnum (schemaOf m (now (rec .entry)) (now (text .entry))))) ⌝ }
 {
     let n = count(m, rec, text);
@@ -110,7 +123,7 @@ pub fn put_enums(out: &mut [u8], at: usize, m: Model, rec: &[u32], text: &[u8]) 
     while from < n {
         match next_of(m, rec, ENUM, from) {
             Position::At(i) => {
-                p = put_enum(out, p, m, rec, text, i);
+                p = put_enum(out, p, m, rec, text, ix, i);
                 from = i + 1;
             }
             Position::Nothing => {

@@ -21,6 +21,8 @@ mod view;
 use crate::arrays::Arrays;
 use crate::arrays::array_refusal;
 use crate::source::put_source;
+use index::SIZE;
+use index::build;
 use refusals::Answer;
 use refusals::Refusal;
 use texts::equal;
@@ -30,26 +32,37 @@ use xmlschema::build::read_schema;
 use xmlschema::items::Model;
 ghost use lib.ListN.{length};
 ghost use Rattle.xmlschema.specs.Whole.{answerOf};
+ghost use Rattle.index.specs.Index.{Indexed};
 ghost use Rattle.xmlschema.specs.Store.{schemaOf};
 ghost use Rattle.xmltoproto.specs.Generate.{Generated};
 ghost use Rattle.xmltoproto.specs.Convert.{Converts};
 ghost use Rattle.xmltoproto.specs.Demand.{Decides};
 
-pub fn generate(m: Model, rec: &[u32], text: &[u8], out: &mut [u8]) -> Answer
+// The array refusals, then the source: measured first, and written where it fits.
+fn generate_in(m: Model, rec: &[u32], text: &[u8], ix: &[u16], out: &mut [u8]) -> Answer
+    requires { ⌜ Indexed (schemaOf m (now rec) (now text)) (now ix) ⌝ }
     ensures { λ r. ⌜ Generated (schemaOf m (now (rec .entry)) (now (text .entry))) (now (out .entry)) (now (out .exit)) r ⌝ }
 {
-    match array_refusal(m, rec, text) {
+    match array_refusal(m, rec, text, ix) {
         Arrays::Refused(r) => Answer::Refused(r),
         Arrays::Fine => {
             let mut none = [0u8; 0];
-            let n = put_source(&mut none, 0, m, rec, text);
+            let n = put_source(&mut none, 0, m, rec, text, ix);
             if out.len() < n {
                 return Answer::Refused(Refusal::NoRoom);
             }
-            let written = put_source(out, 0, m, rec, text);
+            let written = put_source(out, 0, m, rec, text, ix);
             Answer::Accepted(written)
         }
     }
+}
+
+pub fn generate(m: Model, rec: &[u32], text: &[u8], out: &mut [u8]) -> Answer
+    ensures { λ r. ⌜ Generated (schemaOf m (now (rec .entry)) (now (text .entry))) (now (out .entry)) (now (out .exit)) r ⌝ }
+{
+    let mut ix = [0u16; SIZE];
+    build(m, rec, text, &mut ix);
+    generate_in(m, rec, text, &ix, out)
 }
 
 // The converter: a document, two work buffers and an output are lent. Nothing is asked of the

@@ -3,11 +3,12 @@ use crate::line::put_line;
 use crate::typed::put_typed;
 use crate::types::Sense;
 use crate::types::Shape;
-use crate::types::sense_of;
+use crate::types::sense_in;
 use crate::types::shape_of;
 use crate::view::name_at;
 use crate::view::number_at;
 use crate::view::second_at;
+use index::child;
 use names::convert::put_singular;
 use names::convert::put_snake;
 use printing::put_bytes;
@@ -19,9 +20,9 @@ use xmlschema::items::Model;
 use xmlschema::items::Position;
 use xmlschema::items::count;
 use xmlschema::items::next_of;
-use xmlschema::items::next_under;
 ghost use Rattle.printing.specs.Printed.{Printed};
 ghost use Rattle.xmlschema.specs.Schema.{itemAt, under, allOf, aMessage, aGroup, aField};
+ghost use Rattle.index.specs.Index.{Indexed};
 ghost use Rattle.xmlschema.specs.Store.{schemaOf};
 ghost use Rattle.xmltoproto.specs.Lists.{each};
 ghost use Rattle.xmltoproto.specs.Source.{fieldText, groupText, messageText};
@@ -33,15 +34,17 @@ fn put_field(
     m: Model,
     rec: &[u32],
     text: &[u8],
+    ix: &[u16],
     indent: &[u8],
     i: u32,
 ) -> usize
+    requires { ⌜ Indexed (schemaOf m (now rec) (now text)) (now ix) ⌝ }
     ensures { λ r. ⌜ Printed (now (out .entry)) at (now (out .exit)) r (fieldText (schemaOf m (now (rec .entry)) (now (text .entry))) (now (indent .entry)) (itemAt (schemaOf m (now (rec .entry)) (now (text .entry))) i)) ⌝ }
 {
     let type_name = second_at(m, rec, text, i);
     let name = name_at(m, rec, text, i);
     let number = number_at(m, rec, text, i);
-    match sense_of(m, rec, text, type_name) {
+    match sense_in(m, rec, text, ix, type_name) {
         Sense::Declared => put_line(out, at, indent, Shape::Plain, type_name, b"", name, number),
         Sense::Typed(t) => put_typed(out, at, m, rec, text, indent, t, name, number),
         Sense::BuiltIn => {
@@ -58,18 +61,20 @@ fn put_fields(
     m: Model,
     rec: &[u32],
     text: &[u8],
+    ix: &[u16],
     indent: &[u8],
     owner: u32,
 ) -> usize
+    requires { ⌜ Indexed (schemaOf m (now rec) (now text)) (now ix) ⌝ }
     ensures { λ r. ⌜ Printed (now (out .entry)) at (now (out .exit)) r (each (λ f. fieldText (schemaOf m (now (rec .entry)) (now (text .entry))) (now (indent .entry)) (itemAt (schemaOf m (now (rec .entry)) (now (text .entry))) f)) (under aField owner (schemaOf m (now (rec .entry)) (now (text .entry))))) ⌝ }
 {
     let n = count(m, rec, text);
     let mut p = at;
     let mut from = 0;
     while from < n {
-        match next_under(m, rec, FIELD, owner, from) {
+        match child(m, rec, text, ix, FIELD, owner, from) {
             Position::At(i) => {
-                p = put_field(out, p, m, rec, text, indent, i);
+                p = put_field(out, p, m, rec, text, ix, indent, i);
                 from = i + 1;
             }
             Position::Nothing => {
@@ -80,20 +85,38 @@ fn put_fields(
     p
 }
 
-fn put_group_head(out: &mut [u8], at: usize, m: Model, rec: &[u32], text: &[u8], g: u32) -> usize
+fn put_group_head(
+    out: &mut [u8],
+    at: usize,
+    m: Model,
+    rec: &[u32],
+    text: &[u8],
+    ix: &[u16],
+    g: u32,
+) -> usize
+    requires { ⌜ Indexed (schemaOf m (now rec) (now text)) (now ix) ⌝ }
     ensures { λ r. ⌜ Printed (now (out .entry)) at (now (out .exit)) r (groupHead (schemaOf m (now (rec .entry)) (now (text .entry))) g) ⌝ }
 {
     let p = put_bytes(out, at, b"  message ");
     let p = put_singular(out, p, name_at(m, rec, text, g));
     let p = put_bytes(out, p, b" {\n");
-    put_fields(out, p, m, rec, text, b"    ", g)
+    put_fields(out, p, m, rec, text, ix, b"    ", g)
 }
 
-fn put_group(out: &mut [u8], at: usize, m: Model, rec: &[u32], text: &[u8], g: u32) -> usize
+fn put_group(
+    out: &mut [u8],
+    at: usize,
+    m: Model,
+    rec: &[u32],
+    text: &[u8],
+    ix: &[u16],
+    g: u32,
+) -> usize
+    requires { ⌜ Indexed (schemaOf m (now rec) (now text)) (now ix) ⌝ }
     ensures { λ r. ⌜ Printed (now (out .entry)) at (now (out .exit)) r (groupText (schemaOf m (now (rec .entry)) (now (text .entry))) g) ⌝ }
 {
     let name = name_at(m, rec, text, g);
-    let p = put_group_head(out, at, m, rec, text, g);
+    let p = put_group_head(out, at, m, rec, text, ix, g);
     let p = put_bytes(out, p, b"  }\n  repeated ");
     let p = put_singular(out, p, name);
     let p = put_bytes(out, p, b" ");
@@ -103,16 +126,25 @@ fn put_group(out: &mut [u8], at: usize, m: Model, rec: &[u32], text: &[u8], g: u
     put_bytes(out, p, b";\n")
 }
 
-fn put_groups(out: &mut [u8], at: usize, m: Model, rec: &[u32], text: &[u8], owner: u32) -> usize
+fn put_groups(
+    out: &mut [u8],
+    at: usize,
+    m: Model,
+    rec: &[u32],
+    text: &[u8],
+    ix: &[u16],
+    owner: u32,
+) -> usize
+    requires { ⌜ Indexed (schemaOf m (now rec) (now text)) (now ix) ⌝ }
     ensures { λ r. ⌜ Printed (now (out .entry)) at (now (out .exit)) r (each (groupText (schemaOf m (now (rec .entry)) (now (text .entry)))) (under aGroup owner (schemaOf m (now (rec .entry)) (now (text .entry))))) ⌝ }
 {
     let n = count(m, rec, text);
     let mut p = at;
     let mut from = 0;
     while from < n {
-        match next_under(m, rec, GROUP, owner, from) {
+        match child(m, rec, text, ix, GROUP, owner, from) {
             Position::At(i) => {
-                p = put_group(out, p, m, rec, text, i);
+                p = put_group(out, p, m, rec, text, ix, i);
                 from = i + 1;
             }
             Position::Nothing => {
@@ -123,7 +155,16 @@ fn put_groups(out: &mut [u8], at: usize, m: Model, rec: &[u32], text: &[u8], own
     p
 }
 
-fn put_message(out: &mut [u8], at: usize, m: Model, rec: &[u32], text: &[u8], i: u32) -> usize
+fn put_message(
+    out: &mut [u8],
+    at: usize,
+    m: Model,
+    rec: &[u32],
+    text: &[u8],
+    ix: &[u16],
+    i: u32,
+) -> usize
+    requires { ⌜ Indexed (schemaOf m (now rec) (now text)) (now ix) ⌝ }
     ensures { λ r. ⌜ Printed (now (out .entry)) at (now (out .exit)) r (messageText (schemaOf m (now (rec .entry)) (now (text .entry))) i) ⌝ }
 {
     let p = put_bytes(out, at, b"message ");
@@ -131,12 +172,20 @@ fn put_message(out: &mut [u8], at: usize, m: Model, rec: &[u32], text: &[u8], i:
     let p = put_bytes(out, p, b" {\n  option (sbe.template_id) = ");
     let p = put_decimal(out, p, number_at(m, rec, text, i));
     let p = put_bytes(out, p, b";\n");
-    let p = put_fields(out, p, m, rec, text, b"  ", i);
-    let p = put_groups(out, p, m, rec, text, i);
+    let p = put_fields(out, p, m, rec, text, ix, b"  ", i);
+    let p = put_groups(out, p, m, rec, text, ix, i);
     put_bytes(out, p, b"}\n\n")
 }
 
-pub fn put_messages(out: &mut [u8], at: usize, m: Model, rec: &[u32], text: &[u8]) -> usize
+pub fn put_messages(
+    out: &mut [u8],
+    at: usize,
+    m: Model,
+    rec: &[u32],
+    text: &[u8],
+    ix: &[u16],
+) -> usize
+    requires { ⌜ Indexed (schemaOf m (now rec) (now text)) (now ix) ⌝ }
     ensures { λ r. ⌜ Printed (now (out .entry)) at (now (out .exit)) r (each (messageText (schemaOf m (now (rec .entry)) (now (text .entry)))) (allOf aMessage (schemaOf m (now (rec .entry)) (now (text .entry))))) ⌝ }
 {
     let n = count(m, rec, text);
@@ -145,7 +194,7 @@ pub fn put_messages(out: &mut [u8], at: usize, m: Model, rec: &[u32], text: &[u8
     while from < n {
         match next_of(m, rec, MESSAGE, from) {
             Position::At(i) => {
-                p = put_message(out, p, m, rec, text, i);
+                p = put_message(out, p, m, rec, text, ix, i);
                 from = i + 1;
             }
             Position::Nothing => {

@@ -12,6 +12,7 @@ use printing::put_decimal;
 use xmlschema::items::Model;
 use xmlschema::items::package_of;
 ghost use Rattle.printing.specs.Printed.{Printed};
+ghost use Rattle.index.specs.Index.{Indexed};
 ghost use Rattle.xmlschema.specs.Store.{schemaOf};
 ghost use Rattle.xmltoproto.specs.Source.{packageLine, header, source};
 
@@ -42,11 +43,19 @@ fn put_header(out: &mut [u8], at: usize, m: Model, rec: &[u32], text: &[u8]) -> 
     put_bytes(out, p, b";\n\n")
 }
 
-pub fn put_source(out: &mut [u8], at: usize, m: Model, rec: &[u32], text: &[u8]) -> usize
+pub fn put_source(
+    out: &mut [u8],
+    at: usize,
+    m: Model,
+    rec: &[u32],
+    text: &[u8],
+    ix: &[u16],
+) -> usize
+    requires { ⌜ Indexed (schemaOf m (now rec) (now text)) (now ix) ⌝ }
     ensures { λ r. ⌜ Printed (now (out .entry)) at (now (out .exit)) r (source (schemaOf m (now (rec .entry)) (now (text .entry)))) ⌝ }
 {
     let p = put_header(out, at, m, rec, text);
-    let p = put_enums(out, p, m, rec, text);
-    let p = put_composites(out, p, m, rec, text);
-    put_messages(out, p, m, rec, text)
+    let p = put_enums(out, p, m, rec, text, ix);
+    let p = put_composites(out, p, m, rec, text, ix);
+    put_messages(out, p, m, rec, text, ix)
 }

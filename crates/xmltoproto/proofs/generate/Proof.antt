@@ -1,68 +1,26 @@
-use Prim.Native.Nat.{_<_, _^_}
-use native.Mathlib.Omega.{arith}
-use lib.ListN.{length}
-use denote.Ref.{now}
-use Rattle.xmltoproto.proofs.Laws.{generate as laws}
+use borrow.Author.Needs.{needs}
+use Rattle.index.proofs.Building.{blank-zeros}
 use Rattle.xmltoproto.proofs.generate.Statement.{statement}
 use Rattle.xmltoproto.proofs.generate.Tie as tie
-use Rattle.xmltoproto.proofs.generate.Reads as reads
-use Rattle.xmltoproto.proofs.generate.Lts as lts
-use Rattle.xmltoproto.proofs.arrays.array_refusal.Reads as array-refusal-reads
-use Rattle.xmltoproto.proofs.source.put_source.Reads as put-source-reads
 
--- src/lib.rt:33:11
-array-refusal-requires : tie.Need-array-refusal-requires
-array-refusal-requires c κs = search laws
+slice-aggregate-build : tie.Need-slice-aggregate-build
+slice-aggregate-build c = search needs
 
--- src/lib.rt:34:25
-enum-known-r : tie.Need-enum-known-r
-enum-known-r c = search laws
+build-requires : tie.Need-build-requires
+build-requires c κs = blank-zeros
 
--- src/lib.rt:36:17
-enum-told : tie.Need-enum-told
-enum-told c = search laws
+slice-aggregate-generate-in : tie.Need-slice-aggregate-generate-in
+slice-aggregate-generate-in c = search needs
 
--- src/lib.rt:37:32
-slice-aggregate-put-source : tie.Need-slice-aggregate-put-source
-slice-aggregate-put-source c = search laws
+generate-in-requires : tie.Need-generate-in-requires
+generate-in-requires c κs = search needs
 
--- src/lib.rt:37:17
-put-source-requires : tie.Need-put-source-requires
-put-source-requires c κs = search laws
-
--- src/lib.rt:39:17
-returns : tie.Need-returns
-returns c = search laws
-
--- src/lib.rt:41:17
-put-source-requires-2 : tie.Need-put-source-requires-2
-put-source-requires-2 c κs = search laws
-
--- src/lib.rt:30:1
-returns-2 : tie.Need-returns-2
-returns-2 c = search laws
-
--- src/lib.rt:30:1
 same-length : tie.Need-same-length
-same-length c = search laws
+same-length c = search needs
 
--- src/lib.rt:30:1
-returns-3 : tie.Need-returns-3
-returns-3 c =
-    let l : length (now (c .before .before .before .before .before .before .before .before .before .before .before .before .before .before .args .out)) < 2 ^ 63 = omega arith in
-    search laws
+returns : tie.Need-returns
+returns c = search needs
 
 pub generate-spec : {M : Type 1} → statement M
 generate-spec =
-    tie.close
-    (tie.spec
-    array-refusal-requires
-    enum-known-r
-    enum-told
-    slice-aggregate-put-source
-    put-source-requires
-    returns
-    put-source-requires-2
-    returns-2
-    same-length
-    returns-3)
+    tie.close (tie.spec slice-aggregate-build build-requires slice-aggregate-generate-in generate-in-requires same-length returns)

@@ -15,8 +15,8 @@ enum-known-c : tie.Need-enum-known-c
 enum-known-c c = search laws
 
 -- src/arrays.rt:191:79
-cast-t8 : tie.Need-cast-t8
-cast-t8 c = search laws
+cast-t9 : tie.Need-cast-t9
+cast-t9 c = search laws
 
 -- src/arrays.rt:192:36
 enum-told : tie.Need-enum-told
@@ -31,8 +31,8 @@ enum-known-i : tie.Need-enum-known-i
 enum-known-i c = search laws
 
 -- src/arrays.rt:193:81
-cast-t12 : tie.Need-cast-t12
-cast-t12 c = search laws
+cast-t13 : tie.Need-cast-t13
+cast-t13 c = search laws
 
 -- src/arrays.rt:194:34
 enum-told-2 : tie.Need-enum-told-2
@@ -56,11 +56,11 @@ array-refusal-spec =
     (tie.spec
     first-composite-requires
     enum-known-c
-    cast-t8
+    cast-t9
     enum-told
     first-message-requires
     enum-known-i
-    cast-t12
+    cast-t13
     enum-told-2
     returns
     returns-2

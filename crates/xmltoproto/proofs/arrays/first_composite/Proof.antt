@@ -15,10 +15,10 @@ use Rattle.xmlschema.proofs.items.next_of.Reads as next-of-reads
 use Rattle.xmltoproto.proofs.arrays.is_refused_composite.Reads as is-refused-composite-reads
 
 abbrev Inv-loop : tie.InvT-loop
-Inv-loop m rec text n k₀ from₀ k from = Seeking (refusedComposite (schemaOf m rec text)) (allOf aComposite (schemaOf m rec text)) (ofKind aComposite) (schemaOf m rec text) k from
+Inv-loop m rec text ix n k₀ from₀ k from = Seeking (refusedComposite (schemaOf m rec text)) (allOf aComposite (schemaOf m rec text)) (ofKind aComposite) (schemaOf m rec text) k from
 
 abbrev μ-loop : tie.MeasureT-loop
-μ-loop m rec text n k₀ from₀ k from = n - from
+μ-loop m rec text ix n k₀ from₀ k from = n - from
 
 -- src/arrays.rt:76:9
 count-requires : tie.Need-count-requires Inv-loop μ-loop

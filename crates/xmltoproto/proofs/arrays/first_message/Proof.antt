@@ -15,10 +15,10 @@ use Rattle.xmlschema.proofs.items.next_of.Reads as next-of-reads
 use Rattle.xmltoproto.proofs.arrays.is_refused_message.Reads as is-refused-message-reads
 
 abbrev Inv-loop : tie.InvT-loop
-Inv-loop m rec text n k₀ from₀ k from = Seeking (refusedMessage (schemaOf m rec text)) (allOf aMessage (schemaOf m rec text)) (ofKind aMessage) (schemaOf m rec text) k from
+Inv-loop m rec text ix n k₀ from₀ k from = Seeking (refusedMessage (schemaOf m rec text)) (allOf aMessage (schemaOf m rec text)) (ofKind aMessage) (schemaOf m rec text) k from
 
 abbrev μ-loop : tie.MeasureT-loop
-μ-loop m rec text n k₀ from₀ k from = n - from
+μ-loop m rec text ix n k₀ from₀ k from = n - from
 
 -- src/arrays.rt:76:9
 count-requires : tie.Need-count-requires Inv-loop μ-loop

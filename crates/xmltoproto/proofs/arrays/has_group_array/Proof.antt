@@ -3,7 +3,7 @@ use Prim.Native.Nat.{_-_}
 use Rattle.xmltoproto.proofs.Looping.{Asking}
 use Rattle.xmlschema.specs.Schema.{under, aGroup}
 use Rattle.xmlschema.specs.Store.{schemaOf}
-use Rattle.xmltoproto.proofs.Walking.{underOwner, under-within}
+use Rattle.xmltoproto.proofs.Walking.{underOwner, child-within}
 use Rattle.xmltoproto.specs.Arrays.{holdsArray}
 use Rattle.xmltoproto.proofs.Laws.{ask as laws}
 use Rattle.xmltoproto.proofs.arrays.has_group_array.Statement.{statement}
@@ -11,14 +11,14 @@ use Rattle.xmltoproto.proofs.arrays.has_group_array.Tie as tie
 use Rattle.xmltoproto.proofs.arrays.has_group_array.Reads as reads
 use Rattle.xmltoproto.proofs.arrays.has_group_array.Lts as lts
 use Rattle.xmlschema.proofs.items.count.Reads as count-reads
-use Rattle.xmlschema.proofs.items.next_under.Reads as next-under-reads
+use Rattle.index.proofs.child.Reads as child-reads
 use Rattle.xmltoproto.proofs.arrays.holds_array.Reads as holds-array-reads
 
 abbrev Inv-loop : tie.InvT-loop
-Inv-loop m rec text owner n from₀ from = Asking (holdsArray (schemaOf m rec text)) (under aGroup owner (schemaOf m rec text)) (underOwner aGroup owner) (schemaOf m rec text) from
+Inv-loop m rec text ix owner n from₀ from = Asking (holdsArray (schemaOf m rec text)) (under aGroup owner (schemaOf m rec text)) (underOwner aGroup owner) (schemaOf m rec text) from
 
 abbrev μ-loop : tie.MeasureT-loop
-μ-loop m rec text owner n from₀ from = n - from
+μ-loop m rec text ix owner n from₀ from = n - from
 
 -- src/arrays.rt:134:9
 count-requires : tie.Need-count-requires Inv-loop μ-loop
@@ -29,8 +29,8 @@ loop-holds : tie.Need-loop-holds Inv-loop μ-loop
 loop-holds c = search laws
 
 -- src/arrays.rt:137:15
-next-under-requires : tie.Need-next-under-requires Inv-loop μ-loop
-next-under-requires c κs = search laws
+child-requires : tie.Need-child-requires Inv-loop μ-loop
+child-requires c κs = search laws
 
 -- src/arrays.rt:138:26
 enum-known-i : tie.Need-enum-known-i Inv-loop μ-loop
@@ -50,7 +50,7 @@ add-from c =
     let at-i = c .before .before .before in
     let at-next-under = at-i .before .before in
     let at-count = at-next-under .before .before .before in
-    let h = under-within _ _ _ _ _ (at-i .i .given .1) _ (at-next-under .next-under .ensures) (at-count .count .ensures) in
+    let h = child-within _ _ _ _ (at-i .i .given .1) (at-next-under .child .ensures) (at-count .count .ensures) in
     omega (arith, h)
 
 -- src/arrays.rt:136:5
@@ -59,7 +59,7 @@ loop-less c =
     let at-i = c .before .before .before in
     let at-next-under = at-i .before .before in
     let at-count = at-next-under .before .before .before in
-    let h = under-within _ _ _ _ _ (at-i .i .given .1) _ (at-next-under .next-under .ensures) (at-count .count .ensures) in
+    let h = child-within _ _ _ _ (at-i .i .given .1) (at-next-under .child .ensures) (at-count .count .ensures) in
     omega (arith, h)
 
 -- src/arrays.rt:136:5
@@ -86,7 +86,7 @@ has-group-array-spec =
     μ-loop
     count-requires
     loop-holds
-    next-under-requires
+    child-requires
     enum-known-i
     holds-array-requires
     returns

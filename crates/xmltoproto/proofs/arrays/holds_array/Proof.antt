@@ -3,7 +3,7 @@ use Prim.Native.Nat.{_-_}
 use Rattle.xmltoproto.proofs.Looping.{Asking}
 use Rattle.xmlschema.specs.Schema.{itemAt, under, aField}
 use Rattle.xmlschema.specs.Store.{schemaOf}
-use Rattle.xmltoproto.proofs.Walking.{underOwner, under-within}
+use Rattle.xmltoproto.proofs.Walking.{underOwner, child-within}
 use Rattle.xmltoproto.specs.Types.{meaning}
 use Rattle.xmltoproto.specs.Arrays.{isArrayType}
 use Rattle.xmltoproto.proofs.Laws.{ask as laws}
@@ -12,14 +12,14 @@ use Rattle.xmltoproto.proofs.arrays.holds_array.Tie as tie
 use Rattle.xmltoproto.proofs.arrays.holds_array.Reads as reads
 use Rattle.xmltoproto.proofs.arrays.holds_array.Lts as lts
 use Rattle.xmlschema.proofs.items.count.Reads as count-reads
-use Rattle.xmlschema.proofs.items.next_under.Reads as next-under-reads
+use Rattle.index.proofs.child.Reads as child-reads
 use Rattle.xmltoproto.proofs.arrays.is_field_array.Reads as is-field-array-reads
 
 abbrev Inv-loop : tie.InvT-loop
-Inv-loop m rec text owner n from₀ from = Asking (λ f. isArrayType (meaning (schemaOf m rec text) (itemAt (schemaOf m rec text) f .second))) (under aField owner (schemaOf m rec text)) (underOwner aField owner) (schemaOf m rec text) from
+Inv-loop m rec text ix owner n from₀ from = Asking (λ f. isArrayType (meaning (schemaOf m rec text) (itemAt (schemaOf m rec text) f .second))) (under aField owner (schemaOf m rec text)) (underOwner aField owner) (schemaOf m rec text) from
 
 abbrev μ-loop : tie.MeasureT-loop
-μ-loop m rec text owner n from₀ from = n - from
+μ-loop m rec text ix owner n from₀ from = n - from
 
 -- src/arrays.rt:113:9
 count-requires : tie.Need-count-requires Inv-loop μ-loop
@@ -30,8 +30,8 @@ loop-holds : tie.Need-loop-holds Inv-loop μ-loop
 loop-holds c = search laws
 
 -- src/arrays.rt:116:15
-next-under-requires : tie.Need-next-under-requires Inv-loop μ-loop
-next-under-requires c κs = search laws
+child-requires : tie.Need-child-requires Inv-loop μ-loop
+child-requires c κs = search laws
 
 -- src/arrays.rt:117:26
 enum-known-i : tie.Need-enum-known-i Inv-loop μ-loop
@@ -51,7 +51,7 @@ add-from c =
     let at-i = c .before .before .before in
     let at-next-under = at-i .before .before in
     let at-count = at-next-under .before .before .before in
-    let h = under-within _ _ _ _ _ (at-i .i .given .1) _ (at-next-under .next-under .ensures) (at-count .count .ensures) in
+    let h = child-within _ _ _ _ (at-i .i .given .1) (at-next-under .child .ensures) (at-count .count .ensures) in
     omega (arith, h)
 
 -- src/arrays.rt:115:5
@@ -60,7 +60,7 @@ loop-less c =
     let at-i = c .before .before .before in
     let at-next-under = at-i .before .before in
     let at-count = at-next-under .before .before .before in
-    let h = under-within _ _ _ _ _ (at-i .i .given .1) _ (at-next-under .next-under .ensures) (at-count .count .ensures) in
+    let h = child-within _ _ _ _ (at-i .i .given .1) (at-next-under .child .ensures) (at-count .count .ensures) in
     omega (arith, h)
 
 -- src/arrays.rt:115:5
@@ -87,7 +87,7 @@ holds-array-spec =
     μ-loop
     count-requires
     loop-holds
-    next-under-requires
+    child-requires
     enum-known-i
     is-field-array-requires
     returns

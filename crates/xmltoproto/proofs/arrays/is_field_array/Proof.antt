@@ -4,7 +4,7 @@ use Rattle.xmltoproto.proofs.arrays.is_field_array.Tie as tie
 use Rattle.xmltoproto.proofs.arrays.is_field_array.Reads as reads
 use Rattle.xmltoproto.proofs.arrays.is_field_array.Lts as lts
 use Rattle.xmltoproto.proofs.arrays.is_member_array.Reads as is-member-array-reads
-use Rattle.xmltoproto.proofs.types.sense_of.Reads as sense-of-reads
+use Rattle.xmltoproto.proofs.types.sense_in.Reads as sense-in-reads
 use Rattle.xmltoproto.proofs.view.second_at.Reads as second-at-reads
 
 -- src/arrays.rt:101:34
@@ -12,8 +12,8 @@ second-at-requires : tie.Need-second-at-requires
 second-at-requires c κs = search laws
 
 -- src/arrays.rt:101:11
-sense-of-requires : tie.Need-sense-of-requires
-sense-of-requires c κs = search laws
+sense-in-requires : tie.Need-sense-in-requires
+sense-in-requires c κs = search laws
 
 -- src/arrays.rt:102:28
 enum-told : tie.Need-enum-told
@@ -56,7 +56,7 @@ is-field-array-spec =
     tie.close
     (tie.spec
     second-at-requires
-    sense-of-requires
+    sense-in-requires
     enum-told
     enum-known-t
     is-member-array-requires

@@ -3,20 +3,20 @@ use Prim.Native.Nat.{_-_}
 use Rattle.xmltoproto.proofs.Looping.{Counting, counting-room}
 use Rattle.xmlschema.specs.Schema.{under, aMember}
 use Rattle.xmlschema.specs.Store.{schemaOf}
-use Rattle.xmltoproto.proofs.Walking.{underOwner, next-under, under-within}
+use Rattle.xmltoproto.proofs.Walking.{underOwner, next-child, child-within}
 use Rattle.xmltoproto.proofs.Laws.{number as laws}
 use Rattle.xmltoproto.proofs.composites.members_in.Statement.{statement}
 use Rattle.xmltoproto.proofs.composites.members_in.Tie as tie
 use Rattle.xmltoproto.proofs.composites.members_in.Reads as reads
 use Rattle.xmltoproto.proofs.composites.members_in.Lts as lts
 use Rattle.xmlschema.proofs.items.count.Reads as count-reads
-use Rattle.xmlschema.proofs.items.next_under.Reads as next-under-reads
+use Rattle.index.proofs.child.Reads as child-reads
 
 abbrev Inv-loop : tie.InvT-loop
-Inv-loop m rec text c n k₀ from₀ k from = Counting (under aMember c (schemaOf m rec text)) (underOwner aMember c) (schemaOf m rec text) n k from
+Inv-loop m rec text ix c n k₀ from₀ k from = Counting (under aMember c (schemaOf m rec text)) (underOwner aMember c) (schemaOf m rec text) n k from
 
 abbrev μ-loop : tie.MeasureT-loop
-μ-loop m rec text c n k₀ from₀ k from = n - from
+μ-loop m rec text ix c n k₀ from₀ k from = n - from
 
 -- src/composites.rt:73:9
 count-requires : tie.Need-count-requires Inv-loop μ-loop
@@ -27,8 +27,8 @@ loop-holds : tie.Need-loop-holds Inv-loop μ-loop
 loop-holds c = search laws
 
 -- src/composites.rt:77:15
-next-under-requires : tie.Need-next-under-requires Inv-loop μ-loop
-next-under-requires c κs = search laws
+child-requires : tie.Need-child-requires Inv-loop μ-loop
+child-requires c κs = search laws
 
 -- src/composites.rt:78:26
 enum-known-i : tie.Need-enum-known-i Inv-loop μ-loop
@@ -40,7 +40,7 @@ add-k c =
     let at-i = c .before in
     let at-next-under = at-i .before .before in
     let at-loop = at-next-under .before .before in
-    let x = next-under _ _ _ _ _ _ (at-i .i .given .1) (at-next-under .next-under .ensures) in
+    let x = next-child _ _ _ _ (at-i .i .given .1) (at-next-under .child .ensures) in
     let h = counting-room (at-loop .loop .inv) x in
     omega (arith, h)
 
@@ -50,7 +50,7 @@ add-from c =
     let at-i = c .before in
     let at-next-under = at-i .before .before in
     let at-count = at-next-under .before .before .before in
-    let h = under-within _ _ _ _ _ (at-i .i .given .1) _ (at-next-under .next-under .ensures) (at-count .count .ensures) in
+    let h = child-within _ _ _ _ (at-i .i .given .1) (at-next-under .child .ensures) (at-count .count .ensures) in
     omega (arith, h)
 
 -- src/composites.rt:76:5
@@ -59,7 +59,7 @@ loop-less c =
     let at-i = c .before in
     let at-next-under = at-i .before .before in
     let at-count = at-next-under .before .before .before in
-    let h = under-within _ _ _ _ _ (at-i .i .given .1) _ (at-next-under .next-under .ensures) (at-count .count .ensures) in
+    let h = child-within _ _ _ _ (at-i .i .given .1) (at-next-under .child .ensures) (at-count .count .ensures) in
     omega (arith, h)
 
 -- src/composites.rt:76:5
@@ -86,7 +86,7 @@ members-in-spec =
     μ-loop
     count-requires
     loop-holds
-    next-under-requires
+    child-requires
     enum-known-i
     add-k
     add-from

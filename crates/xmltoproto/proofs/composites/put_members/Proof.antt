@@ -3,7 +3,7 @@ use Prim.Native.Nat.{_-_}
 use Rattle.xmltoproto.proofs.Looping.{Numbering, numbering-room}
 use Rattle.xmlschema.specs.Schema.{itemAt, under, aMember}
 use Rattle.xmlschema.specs.Store.{schemaOf}
-use Rattle.xmltoproto.proofs.Walking.{underOwner, next-under, under-within}
+use Rattle.xmltoproto.proofs.Walking.{underOwner, next-child, child-within}
 use Rattle.xmltoproto.specs.Source.{memberText}
 use Rattle.xmltoproto.proofs.Laws.{number as laws}
 use Rattle.xmltoproto.proofs.composites.put_members.Statement.{statement}
@@ -11,14 +11,14 @@ use Rattle.xmltoproto.proofs.composites.put_members.Tie as tie
 use Rattle.xmltoproto.proofs.composites.put_members.Reads as reads
 use Rattle.xmltoproto.proofs.composites.put_members.Lts as lts
 use Rattle.xmlschema.proofs.items.count.Reads as count-reads
-use Rattle.xmlschema.proofs.items.next_under.Reads as next-under-reads
+use Rattle.index.proofs.child.Reads as child-reads
 use Rattle.xmltoproto.proofs.composites.put_member.Reads as put-member-reads
 
 abbrev Inv-loop : tie.InvT-loop
-Inv-loop out₀ at m rec text c n p₀ k₀ from₀ out p k from = Numbering (λ n i. memberText n (itemAt (schemaOf m rec text) i)) 0 (under aMember c (schemaOf m rec text)) (underOwner aMember c) (schemaOf m rec text) n k from out₀ at out p
+Inv-loop out₀ at m rec text ix c n p₀ k₀ from₀ out p k from = Numbering (λ n i. memberText n (itemAt (schemaOf m rec text) i)) 0 (under aMember c (schemaOf m rec text)) (underOwner aMember c) (schemaOf m rec text) n k from out₀ at out p
 
 abbrev μ-loop : tie.MeasureT-loop
-μ-loop out₀ at m rec text c n p₀ k₀ from₀ out p k from = n - from
+μ-loop out₀ at m rec text ix c n p₀ k₀ from₀ out p k from = n - from
 
 -- src/composites.rt:93:9
 count-requires : tie.Need-count-requires Inv-loop μ-loop
@@ -29,8 +29,8 @@ loop-holds : tie.Need-loop-holds Inv-loop μ-loop
 loop-holds c = search laws
 
 -- src/composites.rt:98:15
-next-under-requires : tie.Need-next-under-requires Inv-loop μ-loop
-next-under-requires c κs = search laws
+child-requires : tie.Need-child-requires Inv-loop μ-loop
+child-requires c κs = search laws
 
 -- src/composites.rt:99:26
 enum-known-i : tie.Need-enum-known-i Inv-loop μ-loop
@@ -42,7 +42,7 @@ add-k c =
     let at-i = c .before in
     let at-next-under = at-i .before .before in
     let at-loop = at-next-under .before .before in
-    let x = next-under _ _ _ _ _ _ (at-i .i .given .1) (at-next-under .next-under .ensures) in
+    let x = next-child _ _ _ _ (at-i .i .given .1) (at-next-under .child .ensures) in
     let h = numbering-room (at-loop .loop .inv) x in
     omega (arith, h)
 
@@ -56,7 +56,7 @@ add-from c =
     let at-i = c .before .before .before .before .before in
     let at-next-under = at-i .before .before in
     let at-count = at-next-under .before .before .before in
-    let h = under-within _ _ _ _ _ (at-i .i .given .1) _ (at-next-under .next-under .ensures) (at-count .count .ensures) in
+    let h = child-within _ _ _ _ (at-i .i .given .1) (at-next-under .child .ensures) (at-count .count .ensures) in
     omega (arith, h)
 
 -- src/composites.rt:97:5
@@ -65,7 +65,7 @@ loop-less c =
     let at-i = c .before .before .before .before .before in
     let at-next-under = at-i .before .before in
     let at-count = at-next-under .before .before .before in
-    let h = under-within _ _ _ _ _ (at-i .i .given .1) _ (at-next-under .next-under .ensures) (at-count .count .ensures) in
+    let h = child-within _ _ _ _ (at-i .i .given .1) (at-next-under .child .ensures) (at-count .count .ensures) in
     omega (arith, h)
 
 -- src/composites.rt:97:5
@@ -100,7 +100,7 @@ put-members-spec =
     μ-loop
     count-requires
     loop-holds
-    next-under-requires
+    child-requires
     enum-known-i
     add-k
     put-member-requires

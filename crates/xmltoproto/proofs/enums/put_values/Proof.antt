@@ -3,7 +3,7 @@ use Prim.Native.Nat.{_-_}
 use Rattle.xmltoproto.proofs.Looping.{Walking}
 use Rattle.xmlschema.specs.Schema.{itemAt, under, aValue}
 use Rattle.xmlschema.specs.Store.{schemaOf}
-use Rattle.xmltoproto.proofs.Walking.{underOwner, under-within}
+use Rattle.xmltoproto.proofs.Walking.{underOwner, child-within}
 use Rattle.xmltoproto.specs.Source.{valueText}
 use Rattle.xmltoproto.proofs.Laws.{walk as laws}
 use Rattle.xmltoproto.proofs.enums.put_values.Statement.{statement}
@@ -11,15 +11,15 @@ use Rattle.xmltoproto.proofs.enums.put_values.Tie as tie
 use Rattle.xmltoproto.proofs.enums.put_values.Reads as reads
 use Rattle.xmltoproto.proofs.enums.put_values.Lts as lts
 use Rattle.xmlschema.proofs.items.count.Reads as count-reads
-use Rattle.xmlschema.proofs.items.next_under.Reads as next-under-reads
+use Rattle.index.proofs.child.Reads as child-reads
 use Rattle.xmltoproto.proofs.enums.put_prefix.Reads as put-prefix-reads
 use Rattle.xmltoproto.proofs.enums.put_value.Reads as put-value-reads
 
 abbrev Inv-loop : tie.InvT-loop
-Inv-loop out₀ at m rec text name e width n p₀ from₀ out p from = Walking (λ v. valueText name (itemAt (schemaOf m rec text) v)) (under aValue e (schemaOf m rec text)) (underOwner aValue e) (schemaOf m rec text) from out₀ at out p
+Inv-loop out₀ at m rec text ix name e width n p₀ from₀ out p from = Walking (λ v. valueText name (itemAt (schemaOf m rec text) v)) (under aValue e (schemaOf m rec text)) (underOwner aValue e) (schemaOf m rec text) from out₀ at out p
 
 abbrev μ-loop : tie.MeasureT-loop
-μ-loop out₀ at m rec text name e width n p₀ from₀ out p from = n - from
+μ-loop out₀ at m rec text ix name e width n p₀ from₀ out p from = n - from
 
 -- src/enums.rt:75:28
 slice-aggregate-put-prefix : tie.Need-slice-aggregate-put-prefix Inv-loop μ-loop
@@ -38,8 +38,8 @@ loop-holds : tie.Need-loop-holds Inv-loop μ-loop
 loop-holds c = search laws
 
 -- src/enums.rt:80:15
-next-under-requires : tie.Need-next-under-requires Inv-loop μ-loop
-next-under-requires c κs = search laws
+child-requires : tie.Need-child-requires Inv-loop μ-loop
+child-requires c κs = search laws
 
 -- src/enums.rt:81:26
 enum-known-i : tie.Need-enum-known-i Inv-loop μ-loop
@@ -55,7 +55,7 @@ add-from c =
     let at-i = c .before .before .before .before .before in
     let at-next-under = at-i .before .before in
     let at-count = at-next-under .before .before .before in
-    let h = under-within _ _ _ _ _ (at-i .i .given .1) _ (at-next-under .next-under .ensures) (at-count .count .ensures) in
+    let h = child-within _ _ _ _ (at-i .i .given .1) (at-next-under .child .ensures) (at-count .count .ensures) in
     omega (arith, h)
 
 -- src/enums.rt:79:5
@@ -64,7 +64,7 @@ loop-less c =
     let at-i = c .before .before .before .before .before in
     let at-next-under = at-i .before .before in
     let at-count = at-next-under .before .before .before in
-    let h = under-within _ _ _ _ _ (at-i .i .given .1) _ (at-next-under .next-under .ensures) (at-count .count .ensures) in
+    let h = child-within _ _ _ _ (at-i .i .given .1) (at-next-under .child .ensures) (at-count .count .ensures) in
     omega (arith, h)
 
 -- src/enums.rt:79:5
@@ -101,7 +101,7 @@ put-values-spec =
     put-prefix-requires
     count-requires
     loop-holds
-    next-under-requires
+    child-requires
     enum-known-i
     put-value-requires
     add-from

@@ -3,7 +3,7 @@ use Prim.Native.Nat.{_-_}
 use Rattle.xmltoproto.proofs.Looping.{Walking}
 use Rattle.xmlschema.specs.Schema.{itemAt, under, aField}
 use Rattle.xmlschema.specs.Store.{schemaOf}
-use Rattle.xmltoproto.proofs.Walking.{underOwner, under-within}
+use Rattle.xmltoproto.proofs.Walking.{underOwner, child-within}
 use Rattle.xmltoproto.specs.Source.{fieldText}
 use Rattle.xmltoproto.proofs.Laws.{walk as laws}
 use Rattle.xmltoproto.proofs.messages.put_fields.Statement.{statement}
@@ -11,14 +11,14 @@ use Rattle.xmltoproto.proofs.messages.put_fields.Tie as tie
 use Rattle.xmltoproto.proofs.messages.put_fields.Reads as reads
 use Rattle.xmltoproto.proofs.messages.put_fields.Lts as lts
 use Rattle.xmlschema.proofs.items.count.Reads as count-reads
-use Rattle.xmlschema.proofs.items.next_under.Reads as next-under-reads
+use Rattle.index.proofs.child.Reads as child-reads
 use Rattle.xmltoproto.proofs.messages.put_field.Reads as put-field-reads
 
 abbrev Inv-loop : tie.InvT-loop
-Inv-loop out₀ at m rec text indent owner n p₀ from₀ out p from = Walking (λ f. fieldText (schemaOf m rec text) indent (itemAt (schemaOf m rec text) f)) (under aField owner (schemaOf m rec text)) (underOwner aField owner) (schemaOf m rec text) from out₀ at out p
+Inv-loop out₀ at m rec text ix indent owner n p₀ from₀ out p from = Walking (λ f. fieldText (schemaOf m rec text) indent (itemAt (schemaOf m rec text) f)) (under aField owner (schemaOf m rec text)) (underOwner aField owner) (schemaOf m rec text) from out₀ at out p
 
 abbrev μ-loop : tie.MeasureT-loop
-μ-loop out₀ at m rec text indent owner n p₀ from₀ out p from = n - from
+μ-loop out₀ at m rec text ix indent owner n p₀ from₀ out p from = n - from
 
 -- src/messages.rt:66:9
 count-requires : tie.Need-count-requires Inv-loop μ-loop
@@ -29,8 +29,8 @@ loop-holds : tie.Need-loop-holds Inv-loop μ-loop
 loop-holds c = search laws
 
 -- src/messages.rt:70:15
-next-under-requires : tie.Need-next-under-requires Inv-loop μ-loop
-next-under-requires c κs = search laws
+child-requires : tie.Need-child-requires Inv-loop μ-loop
+child-requires c κs = search laws
 
 -- src/messages.rt:71:26
 enum-known-i : tie.Need-enum-known-i Inv-loop μ-loop
@@ -46,7 +46,7 @@ add-from c =
     let at-i = c .before .before .before .before .before in
     let at-next-under = at-i .before .before in
     let at-count = at-next-under .before .before .before in
-    let h = under-within _ _ _ _ _ (at-i .i .given .1) _ (at-next-under .next-under .ensures) (at-count .count .ensures) in
+    let h = child-within _ _ _ _ (at-i .i .given .1) (at-next-under .child .ensures) (at-count .count .ensures) in
     omega (arith, h)
 
 -- src/messages.rt:69:5
@@ -55,7 +55,7 @@ loop-less c =
     let at-i = c .before .before .before .before .before in
     let at-next-under = at-i .before .before in
     let at-count = at-next-under .before .before .before in
-    let h = under-within _ _ _ _ _ (at-i .i .given .1) _ (at-next-under .next-under .ensures) (at-count .count .ensures) in
+    let h = child-within _ _ _ _ (at-i .i .given .1) (at-next-under .child .ensures) (at-count .count .ensures) in
     omega (arith, h)
 
 -- src/messages.rt:69:5
@@ -90,7 +90,7 @@ put-fields-spec =
     μ-loop
     count-requires
     loop-holds
-    next-under-requires
+    child-requires
     enum-known-i
     put-field-requires
     add-from

@@ -58,11 +58,11 @@ slice-aggregate-put-fields c = search laws
 
 -- src/messages.rt:134:9
 put-fields-requires : tie.Need-put-fields-requires
-put-fields-requires c κs = search laws
+put-fields-requires c κs = c .before .before .before .before .before .before .before .before .before .before .before .before .before .before .before .before .before .before .before .before .before .before .before .before .before .before .before .before .before .before .before .pre
 
 -- src/messages.rt:135:9
 put-groups-requires : tie.Need-put-groups-requires
-put-groups-requires c κs = search laws
+put-groups-requires c κs = c .before .before .before .before .before .before .before .before .before .before .before .before .before .before .before .before .before .before .before .before .before .before .before .before .before .before .before .before .before .before .before .before .before .before .before .pre
 
 -- src/messages.rt:136:23
 slice-aggregate-put-bytes-4 : tie.Need-slice-aggregate-put-bytes-4
