@@ -4,7 +4,6 @@
 // it took nine tenths of the time. A loop that only counts, and one that writes without a test for room, would save
 // a quarter of what is left, and are not worth their proofs.
 use classes::is_lower_in;
-use classes::is_upper;
 use classes::is_upper_in;
 use classes::table;
 use printing::put_byte;
@@ -21,13 +20,7 @@ ghost use Rattle.printing.specs.Printed.{Printed};
 ghost use Rattle.names.specs.Letters.{lowered, raised};
 ghost use Rattle.names.specs.Conversions.{breaksSnake, snakeAt, camelToSnake, breaksScreaming, screamingAt, camelToScreamingSnake, follows, camelAt, snakeToCamel, pascalAt, screamingSnakeToPascal, endsWith, endsInIes, endsInS, capitalized, singularPascal};
 
-pub fn lower(b: u8) -> u8
-    ensures { λ r. ⌜ r ≡ lowered b ⌝ }
-{
-    if is_upper(b) { b + 32 } else { b }
-}
-
-fn lower_in(t: &[u8; 256], b: u8) -> u8
+pub fn lower_in(t: &[u8; 256], b: u8) -> u8
     requires { ⌜ IsTable (now t) ⌝ }
     ensures { λ r. ⌜ r ≡ lowered b ⌝ }
 {

@@ -1,7 +1,9 @@
 // Which character encodings are UTF-8 compatible: 01 cleans the encoding afresh for each name that it is compared with.
-use names::convert::lower;
+use classes::table;
+use names::convert::lower_in;
 use texts::trim;
 ghost use mathlib.Core.Path.{_≡_};
+ghost use Rattle.classes.specs.Table.{IsTable};
 ghost use Rattle.texts.specs.Text.{ascii, same};
 ghost use Rattle.xmltoproto.specs.Lists.{among};
 ghost use Rattle.xmltoproto.specs.Charset.{isPunctuation, cleaned, compatible};
@@ -22,7 +24,8 @@ fn is_punctuation(b: u8) -> bool
 }
 
 // Whether the cleaned encoding is `name`.
-fn cleaned_is(s: &[u8], name: &[u8]) -> bool
+fn cleaned_is(s: &[u8], name: &[u8], t: &[u8; 256]) -> bool
+    requires { ⌜ IsTable (now t) ⌝ }
     ensures { λ r. ⌜ r ≡ same (cleaned (now (s .entry))) (now (name .entry)) ⌝ }
 {
     let mut i = 0;
@@ -34,7 +37,7 @@ fn cleaned_is(s: &[u8], name: &[u8]) -> bool
             if name.len() <= j {
                 return false;
             }
-            if lower(s[i]) != name[j] {
+            if lower_in(t, s[i]) != name[j] {
                 return false;
             }
             i += 1;
@@ -45,68 +48,72 @@ fn cleaned_is(s: &[u8], name: &[u8]) -> bool
 }
 
 // Of the 13 names, those of ANSI.
-fn is_ansi_name(s: &[u8]) -> bool
+fn is_ansi_name(s: &[u8], t: &[u8; 256]) -> bool
+    requires { ⌜ IsTable (now t) ⌝ }
     ensures { λ r. ⌜ r ≡ among (cleaned (now (s .entry))) ansiNames ⌝ }
 {
-    if cleaned_is(s, b"usascii") {
+    if cleaned_is(s, b"usascii", t) {
         return true;
     }
-    if cleaned_is(s, b"ascii") {
+    if cleaned_is(s, b"ascii", t) {
         return true;
     }
-    if cleaned_is(s, b"ansix341968") {
+    if cleaned_is(s, b"ansix341968", t) {
         return true;
     }
-    cleaned_is(s, b"ansix341986")
+    cleaned_is(s, b"ansix341986", t)
 }
 
 // Those of ISO, and "us".
-fn is_iso_name(s: &[u8]) -> bool
+fn is_iso_name(s: &[u8], t: &[u8; 256]) -> bool
+    requires { ⌜ IsTable (now t) ⌝ }
     ensures { λ r. ⌜ r ≡ among (cleaned (now (s .entry))) isoNames ⌝ }
 {
-    if cleaned_is(s, b"iso646us") {
+    if cleaned_is(s, b"iso646us", t) {
         return true;
     }
-    if cleaned_is(s, b"isoir6") {
+    if cleaned_is(s, b"isoir6", t) {
         return true;
     }
-    if cleaned_is(s, b"iso646irv1991") {
+    if cleaned_is(s, b"iso646irv1991", t) {
         return true;
     }
-    cleaned_is(s, b"us")
+    cleaned_is(s, b"us", t)
 }
 
 // The others.
-fn is_other_name(s: &[u8]) -> bool
+fn is_other_name(s: &[u8], t: &[u8; 256]) -> bool
+    requires { ⌜ IsTable (now t) ⌝ }
     ensures { λ r. ⌜ r ≡ among (cleaned (now (s .entry))) otherNames ⌝ }
 {
-    if cleaned_is(s, b"ibm367") {
+    if cleaned_is(s, b"ibm367", t) {
         return true;
     }
-    if cleaned_is(s, b"cp367") {
+    if cleaned_is(s, b"cp367", t) {
         return true;
     }
-    if cleaned_is(s, b"csascii") {
+    if cleaned_is(s, b"csascii", t) {
         return true;
     }
-    if cleaned_is(s, b"utf8") {
+    if cleaned_is(s, b"utf8", t) {
         return true;
     }
-    cleaned_is(s, b"csutf8")
+    cleaned_is(s, b"csutf8", t)
 }
 
 pub fn is_compatible(encoding: &[u8]) -> bool
     ensures { λ r. ⌜ r ≡ compatible (now (encoding .entry)) ⌝ }
 {
+    let t = table();
     let s = trim(encoding);
-    if cleaned_is(s, b"") {
+    if cleaned_is(s, b"", &t) {
         return true;
     }
-    if is_ansi_name(s) {
+    if is_ansi_name(s, &t) {
         return true;
     }
-    if is_iso_name(s) {
+    if is_iso_name(s, &t) {
         return true;
     }
-    is_other_name(s)
+    is_other_name(s, &t)
 }

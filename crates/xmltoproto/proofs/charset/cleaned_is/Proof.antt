@@ -6,14 +6,14 @@ use Rattle.xmltoproto.proofs.charset.cleaned_is.Statement.{statement}
 use Rattle.xmltoproto.proofs.charset.cleaned_is.Tie as tie
 use Rattle.xmltoproto.proofs.charset.cleaned_is.Reads as reads
 use Rattle.xmltoproto.proofs.charset.cleaned_is.Lts as lts
-use Rattle.names.proofs.convert.lower.Reads as lower-reads
+use Rattle.names.proofs.convert.lower_in.Reads as lower-in-reads
 use Rattle.xmltoproto.proofs.charset.is_punctuation.Reads as is-punctuation-reads
 
 abbrev Inv-loop : tie.InvT-loop
-Inv-loop s name i₀ j₀ i j = Cleaning s name i j
+Inv-loop s name t i₀ j₀ i j = Cleaning s name i j
 
 abbrev μ-loop : tie.MeasureT-loop
-μ-loop s name i₀ j₀ i j = length s - i
+μ-loop s name t i₀ j₀ i j = length s - i
 
 -- src/charset.rt:31:5
 loop-holds : tie.Need-loop-holds Inv-loop μ-loop
@@ -44,12 +44,12 @@ returns : tie.Need-returns Inv-loop μ-loop
 returns c = search laws
 
 -- src/charset.rt:38:22
-shared-slice-read-lower : tie.Need-shared-slice-read-lower Inv-loop μ-loop
-shared-slice-read-lower c = search laws
+shared-slice-read-lower-in : tie.Need-shared-slice-read-lower-in Inv-loop μ-loop
+shared-slice-read-lower-in c = search laws
 
 -- src/charset.rt:38:16
-lower-requires : tie.Need-lower-requires Inv-loop μ-loop
-lower-requires c κs = search laws
+lower-in-requires : tie.Need-lower-in-requires Inv-loop μ-loop
+lower-in-requires c κs = search laws
 
 -- src/charset.rt:38:31
 shared-slice-read-if3 : tie.Need-shared-slice-read-if3 Inv-loop μ-loop
@@ -77,7 +77,7 @@ loop-again-2 c =
     let l = c .before .before in
     let p = l .before .before .before .before in
     let i = p .before .before in
-    cleaning-on (i .before .loop .inv) (i .loop-test .taken) (p .is-punctuation .ensures) (l .before .before .before .if1 .left) (l .before .before .if2 .left) (l .lower .ensures) (c .if3 .left)
+    cleaning-on (i .before .loop .inv) (i .loop-test .taken) (p .is-punctuation .ensures) (l .before .before .before .if1 .left) (l .before .before .if2 .left) (l .lower-in .ensures) (c .if3 .left)
 
 -- src/charset.rt:26:1
 returns-3 : tie.Need-returns-3 Inv-loop μ-loop
@@ -96,8 +96,8 @@ cleaned-is-spec =
     loop-less
     loop-again
     returns
-    shared-slice-read-lower
-    lower-requires
+    shared-slice-read-lower-in
+    lower-in-requires
     shared-slice-read-if3
     returns-2
     add-i-2

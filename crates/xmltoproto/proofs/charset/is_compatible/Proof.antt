@@ -7,7 +7,11 @@ use Rattle.xmltoproto.proofs.charset.cleaned_is.Reads as cleaned-is-rea
 use Rattle.xmltoproto.proofs.charset.is_ansi_name.Reads as is-ansi-name-reads
 use Rattle.xmltoproto.proofs.charset.is_iso_name.Reads as is-iso-name-reads
 use Rattle.xmltoproto.proofs.charset.is_other_name.Reads as is-other-name-reads
+use Rattle.classes.proofs.table.Reads as table-reads
 use Rattle.texts.proofs.trim.Reads as trim-reads
+
+table-requires : tie.Need-table-requires
+table-requires c κs = search laws
 
 -- src/charset.rt:102:9
 trim-requires : tie.Need-trim-requires
@@ -53,6 +57,7 @@ pub is-compatible-spec : {M : Type 1} → statement M
 is-compatible-spec =
     tie.close
     (tie.spec
+    table-requires
     trim-requires
     slice-aggregate-cleaned-is
     cleaned-is-requires
