@@ -10,7 +10,7 @@ use Rattle.xmlschema.specs.Schema.{Item, Schema, itemAt}
 use Rattle.xmlschema.specs.Store.{itemOf, schemaOf}
 use Rattle.xmlschema.specs.declared.items.Entry.{Entry}
 use Rattle.xmlschema.specs.declared.items.Model.{Model}
-use Rattle.index.specs.Index.{code, fronted, hashFrom, declares, Linked, Chained, Blank, Linking, Naming, Indexed}
+use Rattle.index.specs.Index.{code, fronted, hashFrom, HashOf, declares, Linked, Chained, Blank, Linking, Naming, Indexed}
 use Rattle.index.proofs.Fronting.{fronted-length, fronted-other}
 use Rattle.index.proofs.Linking.{linked-start, linked-on, linked-off, linked-frame}
 use Rattle.index.proofs.Chaining.{chained-start, chained-on, chained-off}
@@ -86,10 +86,10 @@ module _ (m : Model) (rec text : List ℕ) (i : ℕ) (e : Entry) (f : (t : List 
   pub name-off : b ≡ false → Naming (schemaOf m rec text) (i + 1) ix
   name-off g = record { long = c .long; linked = c .linked; chained = chained-off (schemaOf m rec text) ix i (c .chained) h (told ∙ g) }
 
-  pub name-on : b ≡ true → length (schemaOf m rec text .items) ≤ 1024 → {w : List ℕ} → w ≡ itemOf text e .name → {k : ℕ} → (k ≡ hashFrom 0 w) × (k < 1024) → {ix′ : List ℕ} → ix′ ≡ fronted ix (11264 + k) (12288 + i) i → Naming (schemaOf m rec text) (i + 1) ix′
+  pub name-on : b ≡ true → length (schemaOf m rec text .items) ≤ 1024 → {w : List ℕ} → w ≡ itemOf text e .name → {k : ℕ} → HashOf w k → {ix′ : List ℕ} → ix′ ≡ fronted ix (11264 + k) (12288 + i) i → Naming (schemaOf m rec text) (i + 1) ix′
   name-on t most {w} ew {k} ek {ix′} q =
-      let z : k ≡ hashFrom 0 (itemAt (schemaOf m rec text) i .name) = ek .0 ∙ ap (hashFrom 0) (name-is m rec i e f text ew) in
-      let low : k < 1024 = ek .1 in
+      let z : k ≡ hashFrom 0 (itemAt (schemaOf m rec text) i .name) = ek .is ∙ ap (hashFrom 0) (name-is m rec i e f text ew) in
+      let low : k < 1024 = ek .low in
       let on = chained-on (schemaOf m rec text) ix i (c .chained) h (c .long) most (told ∙ t) (rw (← z) low) in
       record {
         long = rw (q, fronted-length ix (11264 + k) (12288 + i) i) (c .long);

@@ -19,7 +19,7 @@ use Rattle.xmlschema.specs.declared.items.Entry.{Entry}
 use Rattle.xmlschema.specs.declared.items.Model.{Model}
 use Rattle.xmlschema.specs.declared.items.Position.{Position}
 use Rattle.xmlschema.specs.declared.items.Position.the-variants.{At, Nothing}
-use Rattle.index.specs.Index.{code, hashFrom, declares, Indexed}
+use Rattle.index.specs.Index.{code, hashFrom, HashOf, declares, Indexed}
 use Rattle.index.proofs.Building.{kind-is, owner-is, name-is}
 
 -- ---- the hash: what is still to come is unchanged
@@ -35,12 +35,9 @@ pub hashing-on : {s : List ℕ} {i h : ℕ} → Hashing s i h → i < length s �
 unfolding hashFrom
 hashing-on {s} {i} {h} k l e = record { rest = rw (add-one, e .0) (rw (drop-cons s i 0) at (k .rest)); low = omega arith }
 
-pub hashing-end : {s : List ℕ} {i h : ℕ} → Hashing s i h → length s ≤ i → h ≡ hashFrom 0 s
+pub hashing-end : {s : List ℕ} {i h : ℕ} → Hashing s i h → length s ≤ i → HashOf s h
 unfolding hashFrom
-hashing-end {s} {i} {h} k l = rw (drop-of-length-le s l) at (k .rest)
-
-pub hashing-low : {s : List ℕ} {i h : ℕ} → Hashing s i h → h < 1024
-hashing-low k = k .low
+hashing-end {s} {i} {h} k l = record { is = rw (drop-of-length-le s l) at (k .rest); low = k .low }
 
 -- ---- kinds that declare
 

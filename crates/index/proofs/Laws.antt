@@ -2,7 +2,7 @@
 use borrow.Author.Needs.{needs}
 use Rattle.texts.proofs.Pieces.{byte-past}
 use Rattle.index.proofs.Building.{linking-start, linking-here, linking-end, link-kind, link-owner, link-on, naming-start, naming-end, name-off, name-on, indexed-built, indexed-not}
-use Rattle.index.proofs.Finding.{hashing-start, hashing-on, hashing-end, hashing-low, declares-type, declares-composite, declares-enum, position-some, position-none, under-any, child-first, child-next, named-yes, named-no}
+use Rattle.index.proofs.Finding.{hashing-start, hashing-on, hashing-end, declares-type, declares-composite, declares-enum, position-some, position-none, under-any, child-first, child-next, named-yes, named-no}
 use Rattle.index.proofs.Seeking.{seeking-start, seeking-none, seeking-found, seeking-on, seeking-less, seeking-low, least, declaring}
 
-pub ruleset laws = (byte-past, linking-start, linking-here, linking-end, link-kind, link-owner, link-on, naming-start, naming-end, name-off, name-on, indexed-built, indexed-not, hashing-start, hashing-on, hashing-end, hashing-low, declares-type, declares-composite, declares-enum, position-some, position-none, under-any, child-first, child-next, named-yes, named-no, seeking-start, seeking-none, seeking-found, seeking-on, seeking-less, seeking-low, least, declaring, needs)
+pub ruleset laws = (byte-past, linking-start, linking-here, linking-end, link-kind, link-owner, link-on, naming-start, naming-end, name-off, name-on, indexed-built, indexed-not, hashing-start, hashing-on, hashing-end, declares-type, declares-composite, declares-enum, position-some, position-none, under-any, child-first, child-next, named-yes, named-no, seeking-start, seeking-none, seeking-found, seeking-on, seeking-less, seeking-low, least, declaring, needs)

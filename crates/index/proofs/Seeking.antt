@@ -17,7 +17,7 @@ use Rattle.xmlschema.specs.Schema.{Item, Schema, itemAt, lastNamed}
 use Rattle.xmlschema.specs.Store.{found}
 use Rattle.xmlschema.specs.declared.items.Position.{Position}
 use Rattle.xmlschema.specs.declared.items.Position.the-variants.{At, Nothing}
-use Rattle.index.specs.Index.{code, hashFrom, declares, hashed, lastHashed, Indexed}
+use Rattle.index.specs.Index.{code, hashFrom, HashOf, declares, hashed, lastHashed, Indexed}
 use Rattle.index.proofs.Chaining.{lastBy, none-passes, some-passes, last-yes, last-no, code-none, code-some}
 
 abbrev pub namedSo : ℕ → List ℕ → Item → Bool
@@ -39,13 +39,13 @@ pub record Seeking (kind : ℕ) (name : List ℕ) (s : Schema) (p : ℕ) : Type 
   pub leads : p ≡ code (lastHashed (hashFrom 0 name) n s)
   pub same : lastBy (namedSo kind name) n s ≡ lastNamed kind name s
 
-pub seeking-start : (kind : ℕ) (name : List ℕ) (s : Schema) (ix : List ℕ) → Indexed s ix → length (s .items) ≤ 1024 → {b : ℕ} → (b ≡ hashFrom 0 name) × (b < 1024) → {p : ℕ} → p ≡ getD ix (11264 + b) 0 → Seeking kind name s p
+pub seeking-start : (kind : ℕ) (name : List ℕ) (s : Schema) (ix : List ℕ) → Indexed s ix → length (s .items) ≤ 1024 → {b : ℕ} → HashOf name b → {p : ℕ} → p ≡ getD ix (11264 + b) 0 → Seeking kind name s p
 unfolding lastNamed
 seeking-start kind name s ix x most {b} eb {p} ep =
     record {
       n = length (s .items);
       within = omega arith;
-      leads = ep ∙ x .names most .head b (eb .1) ∙ ap (λ y. code (lastHashed y (length (s .items)) s)) (eb .0);
+      leads = ep ∙ x .names most .head b (eb .low) ∙ ap (λ y. code (lastHashed y (length (s .items)) s)) (eb .is);
       same = rw (take-length (s .items));
     }
 

@@ -33,6 +33,11 @@ unfoldable pub hashFrom : ℕ → List ℕ → ℕ
 hashFrom h [] = h
 hashFrom h (x ∷ xs) = hashFrom ((h * 31 + x) % 1024) xs
 
+-- b is the hash of a name
+pub record HashOf (name : List ℕ) (b : ℕ) : Type 0 where
+  pub is : b ≡ hashFrom 0 name
+  pub low : b < 1024
+
 -- the kinds that a type name is looked up among
 unfoldable pub declares : ℕ → Bool
 declares kind = eqb kind aType or eqb kind aComposite or eqb kind anEnum

@@ -21,7 +21,7 @@ ghost use Rattle.texts.specs.Choice.{_and_};
 ghost use Rattle.texts.specs.Text.{same};
 ghost use Rattle.xmlschema.specs.Schema.{itemAt, nextUnder, lastNamed};
 ghost use Rattle.xmlschema.specs.Store.{schemaOf, found};
-ghost use Rattle.index.specs.Index.{code, fronted, hashFrom, declares, Blank, Linking, Naming, Indexed};
+ghost use Rattle.index.specs.Index.{code, fronted, HashOf, declares, Blank, Linking, Naming, Indexed};
 
 // How many numbers the index takes.
 pub const SIZE: usize = 13312;
@@ -40,8 +40,9 @@ fn wide(b: u8) -> usize
     b as usize
 }
 
-fn hash_of(name: &[u8]) -> usize
-    ensures { λ r. ⌜ (r ≡ hashFrom 0 (now (name .entry))) × (r < 1024) ⌝ }
+// The hash of a name, for `named`.
+pub fn hash_of(name: &[u8]) -> usize
+    ensures { λ r. ⌜ HashOf (now (name .entry)) r ⌝ }
 {
     let mut h: usize = 0;
     let mut i = 0;
@@ -231,11 +232,18 @@ fn word(ix: &[u16], k: usize) -> u32
 }
 
 // Along the chain of the name's hash.
-fn chained(m: Model, rec: &[u32], text: &[u8], ix: &[u16], kind: u32, name: &[u8]) -> Position
-    requires { ⌜ Indexed (schemaOf m (now rec) (now text)) (now ix) × (length (schemaOf m (now rec) (now text) .items) ≤ 1024) × (declares kind ≡ true) ⌝ }
+fn chained(
+    m: Model,
+    rec: &[u32],
+    text: &[u8],
+    ix: &[u16],
+    kind: u32,
+    name: &[u8],
+    b: usize,
+) -> Position
+    requires { ⌜ Indexed (schemaOf m (now rec) (now text)) (now ix) × (length (schemaOf m (now rec) (now text) .items) ≤ 1024) × (declares kind ≡ true) × HashOf (now name) b ⌝ }
     ensures { λ r. ⌜ r ≡ found (lastNamed kind (now (name .entry)) (schemaOf m (now (rec .entry)) (now (text .entry)))) ⌝ }
 {
-    let b = hash_of(name);
     let mut p = word(ix, HEADS + b);
     while 0 < p {
         let i = p - 1;
@@ -247,16 +255,24 @@ fn chained(m: Model, rec: &[u32], text: &[u8], ix: &[u16], kind: u32, name: &[u8
     Position::Nothing
 }
 
-// The last declaration of a kind with a name.
-pub fn named(m: Model, rec: &[u32], text: &[u8], ix: &[u16], kind: u32, name: &[u8]) -> Position
-    requires { ⌜ Indexed (schemaOf m (now rec) (now text)) (now ix) ⌝ }
+// The last declaration of a kind with a name, whose hash is `b`.
+pub fn named(
+    m: Model,
+    rec: &[u32],
+    text: &[u8],
+    ix: &[u16],
+    kind: u32,
+    name: &[u8],
+    b: usize,
+) -> Position
+    requires { ⌜ Indexed (schemaOf m (now rec) (now text)) (now ix) × HashOf (now name) b ⌝ }
     ensures { λ r. ⌜ r ≡ found (lastNamed kind (now (name .entry)) (schemaOf m (now (rec .entry)) (now (text .entry)))) ⌝ }
 {
     if MOST < count(m, rec, text) {
         return last_named(m, rec, text, kind, name);
     }
     if is_declaring(kind) {
-        return chained(m, rec, text, ix, kind, name);
+        return chained(m, rec, text, ix, kind, name, b);
     }
     last_named(m, rec, text, kind, name)
 }

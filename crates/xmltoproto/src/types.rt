@@ -1,5 +1,6 @@
 // How a type prints, and what a field's type name stands for.
 use crate::charset::is_compatible;
+use index::hash_of;
 use index::named;
 use texts::equal;
 use xmlschema::items::COMPOSITE;
@@ -11,7 +12,7 @@ use xmlschema::items::last_named;
 ghost use mathlib.Core.Path.{_≡_};
 ghost use mathlib.Core.List.{List, []};
 ghost use Prim.Native.Nat.{ℕ};
-ghost use Rattle.index.specs.Index.{Indexed};
+ghost use Rattle.index.specs.Index.{HashOf, Indexed};
 ghost use Rattle.xmlschema.specs.Store.{schemaOf};
 ghost use Rattle.xmltoproto.specs.Lists.{among};
 ghost use Rattle.xmltoproto.specs.Types.{builtIns, chars, isByte, isRaw, isArray, asPrimitive, protoOf, isDeclared, meaning};
@@ -199,13 +200,13 @@ pub fn sense_of(m: Model, rec: &[u32], text: &[u8], name: &[u8]) -> Sense
 
 // ---- the same by an index
 
-fn is_declared_in(m: Model, rec: &[u32], text: &[u8], ix: &[u16], name: &[u8]) -> bool
-    requires { ⌜ Indexed (schemaOf m (now rec) (now text)) (now ix) ⌝ }
+fn is_declared_in(m: Model, rec: &[u32], text: &[u8], ix: &[u16], name: &[u8], b: usize) -> bool
+    requires { ⌜ Indexed (schemaOf m (now rec) (now text)) (now ix) × HashOf (now name) b ⌝ }
     ensures { λ r. ⌜ r ≡ isDeclared (schemaOf m (now (rec .entry)) (now (text .entry))) (now (name .entry)) ⌝ }
 {
-    match named(m, rec, text, ix, ENUM, name) {
+    match named(m, rec, text, ix, ENUM, name, b) {
         Position::At(_) => true,
-        Position::Nothing => match named(m, rec, text, ix, COMPOSITE, name) {
+        Position::Nothing => match named(m, rec, text, ix, COMPOSITE, name, b) {
             Position::At(_) => true,
             Position::Nothing => false,
         },
@@ -216,10 +217,11 @@ pub fn sense_in(m: Model, rec: &[u32], text: &[u8], ix: &[u16], name: &[u8]) -> 
     requires { ⌜ Indexed (schemaOf m (now rec) (now text)) (now ix) ⌝ }
     ensures { λ r. ⌜ meaningIn (schemaOf m (now (rec .entry)) (now (text .entry))) (now (name .entry)) r ≡ meaning (schemaOf m (now (rec .entry)) (now (text .entry))) (now (name .entry)) ⌝ }
 {
-    if is_declared_in(m, rec, text, ix, name) {
+    let b = hash_of(name);
+    if is_declared_in(m, rec, text, ix, name, b) {
         return Sense::Declared;
     }
-    match named(m, rec, text, ix, TYPE, name) {
+    match named(m, rec, text, ix, TYPE, name, b) {
         Position::At(i) => Sense::Typed(i),
         Position::Nothing => {
             if is_built_in(name) {

@@ -6,7 +6,6 @@ use Rattle.index.proofs.chained.Statement.{statement}
 use Rattle.index.proofs.chained.Tie as tie
 use Rattle.index.proofs.chained.Reads as reads
 use Rattle.index.proofs.chained.Lts as lts
-use Rattle.index.proofs.hash_of.Reads as hash-of-reads
 use Rattle.index.proofs.is_named.Reads as is-named-reads
 use Rattle.index.proofs.word.Reads as word-reads
 
@@ -15,10 +14,6 @@ Inv-loop m rec text ix kind name b p₀ p = Seeking kind name (schemaOf m rec te
 
 abbrev μ-loop : tie.MeasureT-loop
 μ-loop m rec text ix kind name b p₀ p = p
-
--- src/lib.rt:222:9
-hash-of-requires : tie.Need-hash-of-requires Inv-loop μ-loop
-hash-of-requires c κs = search laws
 
 -- src/lib.rt:223:26
 add-word : tie.Need-add-word Inv-loop μ-loop
@@ -74,7 +69,6 @@ chained-spec =
     (tie.spec
     Inv-loop
     μ-loop
-    hash-of-requires
     add-word
     word-requires
     loop-holds

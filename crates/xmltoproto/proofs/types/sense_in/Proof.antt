@@ -3,9 +3,13 @@ use Rattle.xmltoproto.proofs.types.sense_in.Statement.{statement}
 use Rattle.xmltoproto.proofs.types.sense_in.Tie as tie
 use Rattle.xmltoproto.proofs.types.sense_in.Reads as reads
 use Rattle.xmltoproto.proofs.types.sense_in.Lts as lts
+use Rattle.index.proofs.hash_of.Reads as hash-of-reads
 use Rattle.index.proofs.named.Reads as named-reads
 use Rattle.xmltoproto.proofs.types.is_built_in.Reads as is-built-in-reads
 use Rattle.xmltoproto.proofs.types.is_declared_in.Reads as is-declared-in-reads
+
+hash-of-requires : tie.Need-hash-of-requires
+hash-of-requires c κs = search laws
 
 -- src/types.rt:185:8
 is-declared-in-requires : tie.Need-is-declared-in-requires
@@ -47,6 +51,7 @@ pub sense-in-spec : {M : Type 1} → statement M
 sense-in-spec =
     tie.close
     (tie.spec
+    hash-of-requires
     is-declared-in-requires
     returns
     named-requires
