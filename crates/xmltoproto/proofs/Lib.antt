@@ -1,14 +1,5 @@
--- Trials of the definitions, and demand 3: equal sources exactly when equal sheets.
+-- Trials of the definitions, and the laws of the functions.
 pub mod Trials
-pub mod Splitting
-pub mod Numbers
-pub mod Escapes
-pub mod Rendering
-pub mod Tokens
-pub mod Lines
-pub mod Rendered
-pub mod PlainSheets
-pub mod Unique
 pub mod Cleaning
 pub mod Going
 pub mod Escaping
@@ -18,7 +9,6 @@ pub mod Laying
 pub mod Walking
 pub mod Looping
 pub mod Sources
-pub mod Sheets
 pub mod Refusals
 pub mod Generating
 pub mod Converting

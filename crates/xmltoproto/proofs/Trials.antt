@@ -1,4 +1,4 @@
--- 01, "Trials": those on types, the worked example, and the empty document's length; and an example of each kind, which is plain.
+-- 01, "Trials": those on types, the worked example, and the empty document's length; and an example of each kind.
 use mathlib.Core.Path.{_≡_, refl}
 use mathlib.Core.Bool.{true, false}
 use mathlib.Core.List.{List, [], _∷_}
@@ -14,16 +14,13 @@ use Rattle.names.specs.Letters.{lowered, raised}
 use Rattle.names.specs.Conversions.{camelToSnake, snakeAt, breaksSnake, camelToScreamingSnake, screamingAt, breaksScreaming, prefixOf, endsInIes, endsInS, singular, capitalized, singularPascal}
 use Rattle.refusals.specs.declared.Refusal.the-variants.{ArrayInComposite, ArrayInMessage}
 use Rattle.xmlschema.specs.Schema.{Item, Schema, positionsFrom, allOf, under, last, lastNamed, aType, aMember, aRef, aComposite, anEnum, aValue, aMessage, aGroup, aField}
-use Rattle.xmltoproto.specs.Lists.{each, numbered, any, all, Every, among}
+use Rattle.xmltoproto.specs.Lists.{each, numbered, any, among}
 use Rattle.xmltoproto.specs.Charset.{isPunctuation, cleaned, compatible}
 use Rattle.xmltoproto.specs.Escape.{hex, escaped, quoted}
 use Rattle.xmltoproto.specs.Types.{formOf, builtIn, isChar, chars, isByte, isRaw, isArray, asNamed, ofLength, noteOn, narrow, asPrimitive, protoOf, isDeclared, meaning}
 use Rattle.xmltoproto.specs.Composites.{isPrinted, printedComposites}
 use Rattle.xmltoproto.specs.Source.{packageLine, header, valueText, enumText, noteLine, bracketed, line, memberText, refText, partTexts, compositeText, fieldText, groupText, messageText, source}
 use Rattle.xmltoproto.specs.Arrays.{firstFrom, refusedComposite, holdsArray, refusedMessage, arrayRefusal}
-use Rattle.xmlschema.specs.Numbers.{isDigit}
-use Rattle.xmltoproto.specs.Plain.{isLetter, isNameByte, isIdentifier, isDotted, isPackage, isDigits, isInteger, Plain}
-use Rattle.xmltoproto.specs.Sheet.{kindOf, valueOf, enumOf, memberOf, refOf, compositeOf, fieldOf, groupOf, messageOf, sheet, shown, kindShown, enumShown, compositeShown, fieldShown, groupShown, messageShown, sheetLines}
 
 abbrev item : ℕ → ℕ → List ℕ → List ℕ → ℕ → Item
 item kind owner name second number = record { kind = kind; owner = owner; name = name; second = second; number = number; given = false; encoding = [] }
@@ -69,9 +66,9 @@ hit =
       items = item aMessage 0 (ascii "Hit") [] 3 ∷ item aGroup 0 (ascii "legs") [] 5 ∷ field 1 (ascii "legId") (ascii "uint16") 6 ∷ [];
     }
 
--- ---- a plain schema with an enum, a type that hides a built-in, a composite that isn't printed, and a member of each kind
+-- ---- a schema with an enum, a type that hides a built-in, a composite that isn't printed, and a member of each kind
 
-abbrev full : Schema
+abbrev pub full : Schema
 full =
     record {
       packageName = ascii "a.b1";
@@ -95,32 +92,12 @@ full =
           ∷ [];
     }
 
--- ---- the worked example's source, the empty document's, and the other's with its sheet as lines
+-- ---- the worked example's source, the empty document's, and the other's
 
 pub printed
     : (source hit ≡ ascii "syntax = \"proto3\";\n\nimport \"sbe/annotations.proto\";\n\noption (sbe.schema_id) = 7;\noption (sbe.version) = 0;\n\nmessage Hit {\n  option (sbe.template_id) = 3;\n  message Leg {\n    uint32 leg_id = 6 [(sbe.encoding) = \"uint16\"];\n  }\n  repeated Leg legs = 5;\n}\n\n")
     × (length (source (schema [])) ≡ 108)
     × (arrayRefusal full ≡ none)
     × (source full ≡ ascii "syntax = \"proto3\";\n\npackage a.b1;\n\nimport \"sbe/annotations.proto\";\n\noption (sbe.schema_id) = 1;\noption (sbe.version) = 2;\n\nenum Side {\n  SIDE_BUY_NOW = -1;\n}\n\nmessage Box {\n  string tag = 1 [(sbe.length) = 5];\n  // SBE characterEncoding \"Latin\\\"1\\n\" is not UTF-8 compatible, so this field is bytes.\n  bytes old = 2 [(sbe.length) = 1];\n  bytes blob = 3 [(sbe.length) = 3];\n  Side which_side = 4;\n}\n\nmessage Hit {\n  option (sbe.template_id) = 3;\n  Box box = 4;\n  uint64 f = 5;\n}\n\n")
-    × (sheetLines (sheet full) ≡ ascii "schema\ta.b1\t1\t2\nenum\tSide\nvalue\tBUY_NOW\t-1\ncomposite\tBox\npart\ttext 5\ttag\npart\ttext 1 Latin\"1\n\told\npart\traw 3\tblob\npart\tnamed Side\twhich_side\nmessage\tHit\t3\nfield\tnamed Box\tbox\t4\nfield\tuint64\tf\t5\n")
-unfolding source header packageLine enumText valueText noteLine bracketed line isPrinted printedComposites memberText refText partTexts compositeText fieldText groupText messageText each numbered isChar isByte isRaw chars formOf builtIn asNamed ofLength noteOn narrow asPrimitive protoOf meaning isDeclared lastNamed last positionsFrom allOf under same among decimal digits camelToSnake snakeAt breaksSnake camelToScreamingSnake screamingAt breaksScreaming prefixOf endsInIes endsInS singular capitalized singularPascal startsWith lowered raised isUpper isLower upTo isBlank trimmedFront trimmedBack trimmed isPunctuation cleaned compatible hex escaped quoted arrayRefusal firstFrom refusedComposite holdsArray refusedMessage any isArray kindOf valueOf enumOf memberOf refOf compositeOf fieldOf groupOf messageOf sheet shown kindShown enumShown compositeShown fieldShown groupShown messageShown sheetLines
-printed = (refl, refl, refl, refl, refl)
-
--- every test that plainness asks computes to true
-pub full-is-plain : Plain full
-unfolding isLetter isDigit isNameByte isIdentifier isDotted isPackage isDigits isInteger all Every among same isUpper isLower isPrinted printedComposites positionsFrom allOf under meaning isDeclared lastNamed last formOf builtIn
-full-is-plain =
-    record {
-      packageName = tt;
-      enums = (record { name = tt; free = tt; values = (record { name = tt; value = tt }, tt) }, tt);
-      free = (tt, (tt, tt));
-      composites = (
-        record {
-          name = tt;
-          members = (record { name = tt; primitive = tt }, (record { name = tt; primitive = tt }, (record { name = tt; primitive = tt }, tt)));
-          refs = (record { name = tt; type = tt }, tt);
-        },
-        tt,
-      );
-      messages = (record { name = tt; fields = (record { name = tt; type = tt }, (record { name = tt; type = tt }, tt)); groups = tt }, tt);
-    }
+unfolding source header packageLine enumText valueText noteLine bracketed line isPrinted printedComposites memberText refText partTexts compositeText fieldText groupText messageText each numbered isChar isByte isRaw chars formOf builtIn asNamed ofLength noteOn narrow asPrimitive protoOf meaning isDeclared lastNamed last positionsFrom allOf under same among decimal digits camelToSnake snakeAt breaksSnake camelToScreamingSnake screamingAt breaksScreaming prefixOf endsInIes endsInS singular capitalized singularPascal startsWith lowered raised isUpper isLower upTo isBlank trimmedFront trimmedBack trimmed isPunctuation cleaned compatible hex escaped quoted arrayRefusal firstFrom refusedComposite holdsArray refusedMessage any isArray
+printed = (refl, refl, refl, refl)

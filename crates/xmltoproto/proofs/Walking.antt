@@ -114,13 +114,6 @@ module _ (m : Model) (rec text : List ℕ) (kind from : ℕ) {r : Position} wher
   unfolding nextOf
   last-of f h = next-none (ofKind kind) (schemaOf m rec text) from (found-none _ (sym (h text) ∙ f))
 
-  module _ (owner : ℕ) where
-    pub next-under : {i : ℕ} → r ≡ At i → ((t : List ℕ) → r ≡ found (nextUnder kind owner from (schemaOf m rec t))) → Next (underOwner kind owner) (schemaOf m rec text) from i
-    next-under f h = next-child (schemaOf m rec text) kind from owner f (h text)
-
-    pub last-under : r ≡ Nothing → ((t : List ℕ) → r ≡ found (nextUnder kind owner from (schemaOf m rec t))) → Last (underOwner kind owner) (schemaOf m rec text) from
-    last-under f h = last-child (schemaOf m rec text) kind from owner f (h text)
-
 -- past the last item there is none
 pub last-end : (q : Item → Bool) (s : Schema) (from : ℕ) {n : ℕ} → n ≡ length (s .items) → n ≤ from → Last q s from
 unfolding ahead positionsFrom
@@ -133,11 +126,6 @@ module _ (m : Model) (rec text : List ℕ) (kind from : ℕ) {r : Position} {i :
   pub of-within : ((t : List ℕ) → r ≡ found (nextOf kind from (schemaOf m rec t))) → {n : ℕ} → n ≡ length (schemaOf m rec text .items) → (from ≤ i) × (i < n)
   of-within h e =
       let x = next-of m rec text kind from f h in
-      (x .low, rw e (x .high))
-
-  pub under-within : (owner : ℕ) → ((t : List ℕ) → r ≡ found (nextUnder kind owner from (schemaOf m rec t))) → {n : ℕ} → n ≡ length (schemaOf m rec text .items) → (from ≤ i) × (i < n)
-  under-within owner h e =
-      let x = next-under m rec text kind from owner f h in
       (x .low, rw e (x .high))
 
 -- ---- from the start on

@@ -1,4 +1,4 @@
--- The printed source of a schema, the array refusals, plain schemas and the wire sheet.
+-- The printed source of a schema, the array refusals and the converter.
 pub mod Lists
 pub mod Charset
 pub mod Names
@@ -13,7 +13,3 @@ pub mod Arrays
 pub mod Refusing
 pub mod Generate
 pub mod Convert
-pub mod Demand
-pub mod Plain
-pub mod Sheet
-pub mod SheetLines

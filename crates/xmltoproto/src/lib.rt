@@ -1,22 +1,21 @@
 // From the model of a schema to annotated proto3 source.
 //
 // `xml_to_proto` is the entry: it reads the document into the model, and `generate` finds the array
-// refusals 40 and 41, measures the source, and then refuses by 3 or writes. Its contract, on all inputs: the answer is the one of specs/Generate.antt,
-// and the output is the source of specs/Source.antt and then what stood there, or, after a refusal,
-// what it held. `sheet::put_sheet` prints the wire sheet's lines. The model is seen through its
-// accessors alone.
+// refusals 40 and 41, measures the source, and then refuses by 3 or writes. Its contract, on all
+// inputs: the answer is the one of specs/Generate.antt, and the output is the source of
+// specs/Source.antt and then what stood there, or, after a refusal, what it held. The model is seen
+// through its accessors alone.
 pub mod arrays;
 pub mod charset;
-mod composites;
+pub mod composites;
 mod enums;
 pub mod escape;
 mod line;
 mod messages;
-pub mod sheet;
 pub mod source;
 mod typed;
-mod types;
-mod view;
+pub mod types;
+pub mod view;
 
 use crate::arrays::Arrays;
 use crate::arrays::array_refusal;
@@ -25,18 +24,14 @@ use index::SIZE;
 use index::build;
 use refusals::Answer;
 use refusals::Refusal;
-use texts::equal;
-use texts::part;
 use xmlschema::build::Schema;
 use xmlschema::build::read_schema;
 use xmlschema::items::Model;
 ghost use lib.ListN.{length};
-ghost use Rattle.xmlschema.specs.Whole.{answerOf};
 ghost use Rattle.index.specs.Index.{Indexed};
 ghost use Rattle.xmlschema.specs.Store.{schemaOf};
 ghost use Rattle.xmltoproto.specs.Generate.{Generated};
 ghost use Rattle.xmltoproto.specs.Convert.{Converts};
-ghost use Rattle.xmltoproto.specs.Demand.{Decides};
 
 // The array refusals, then the source: measured first, and written where it fits.
 fn generate_in(m: Model, rec: &[u32], text: &[u8], ix: &[u16], out: &mut [u8]) -> Answer
@@ -78,30 +73,5 @@ pub fn xml_to_proto(
     match read_schema(document, records, text) {
         Schema::Refused(r) => Answer::Refused(r),
         Schema::Accepted(m) => generate(m, records, text, output),
-    }
-}
-
-// Demand 3 about two whole calls: converts both documents, with any buffers, and answers whether
-// the bytes that the two calls left are the same.
-pub fn same_source(
-    document_a: &[u8],
-    records_a: &mut [u32],
-    text_a: &mut [u8],
-    output_a: &mut [u8],
-    document_b: &[u8],
-    records_b: &mut [u32],
-    text_b: &mut [u8],
-    output_b: &mut [u8],
-) -> bool
-    ensures { λ r. ⌜ Decides (answerOf (now («document_a» .entry)) (length (now («records_a» .entry))) (length (now («text_a» .entry)))) (length (now («output_a» .entry))) (answerOf (now («document_b» .entry)) (length (now («records_b» .entry))) (length (now («text_b» .entry)))) (length (now («output_b» .entry))) r ⌝ }
-{
-    let a = xml_to_proto(document_a, records_a, text_a, output_a);
-    let b = xml_to_proto(document_b, records_b, text_b, output_b);
-    match a {
-        Answer::Accepted(n) => match b {
-            Answer::Accepted(m) => equal(part(output_a, 0, n), part(output_b, 0, m)),
-            Answer::Refused(_) => false,
-        },
-        Answer::Refused(_) => false,
     }
 }

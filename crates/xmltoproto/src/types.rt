@@ -8,7 +8,6 @@ use xmlschema::items::ENUM;
 use xmlschema::items::Model;
 use xmlschema::items::Position;
 use xmlschema::items::TYPE;
-use xmlschema::items::last_named;
 ghost use mathlib.Core.Path.{_≡_};
 ghost use mathlib.Core.List.{List, []};
 ghost use Prim.Native.Nat.{ℕ};
@@ -114,18 +113,6 @@ pub enum Sense {
     Unknown,
 }
 
-fn is_declared(m: Model, rec: &[u32], text: &[u8], name: &[u8]) -> bool
-    ensures { λ r. ⌜ r ≡ isDeclared (schemaOf m (now (rec .entry)) (now (text .entry))) (now (name .entry)) ⌝ }
-{
-    match last_named(m, rec, text, ENUM, name) {
-        Position::At(_) => true,
-        Position::Nothing => match last_named(m, rec, text, COMPOSITE, name) {
-            Position::At(_) => true,
-            Position::Nothing => false,
-        },
-    }
-}
-
 fn is_signed_name(name: &[u8]) -> bool
     ensures { λ r. ⌜ r ≡ among (now (name .entry)) signedNames ⌝ }
 {
@@ -168,7 +155,7 @@ fn is_other_primitive(name: &[u8]) -> bool
     equal(name, b"char")
 }
 
-fn is_built_in(name: &[u8]) -> bool
+pub fn is_built_in(name: &[u8]) -> bool
     ensures { λ r. ⌜ r ≡ among (now (name .entry)) builtIns ⌝ }
 {
     if is_signed_name(name) {
@@ -179,26 +166,6 @@ fn is_built_in(name: &[u8]) -> bool
     }
     is_other_primitive(name)
 }
-
-// Enums, composites, types: the last declaration of the name wins; a built-in where there is none.
-pub fn sense_of(m: Model, rec: &[u32], text: &[u8], name: &[u8]) -> Sense
-    ensures { λ r. ⌜ meaningIn (schemaOf m (now (rec .entry)) (now (text .entry))) (now (name .entry)) r ≡ meaning (schemaOf m (now (rec .entry)) (now (text .entry))) (now (name .entry)) ⌝ }
-{
-    if is_declared(m, rec, text, name) {
-        return Sense::Declared;
-    }
-    match last_named(m, rec, text, TYPE, name) {
-        Position::At(i) => Sense::Typed(i),
-        Position::Nothing => {
-            if is_built_in(name) {
-                return Sense::BuiltIn;
-            }
-            Sense::Unknown
-        }
-    }
-}
-
-// ---- the same by an index
 
 fn is_declared_in(m: Model, rec: &[u32], text: &[u8], ix: &[u16], name: &[u8], b: usize) -> bool
     requires { ⌜ Indexed (schemaOf m (now rec) (now text)) (now ix) × HashOf (now name) b ⌝ }
@@ -213,6 +180,7 @@ fn is_declared_in(m: Model, rec: &[u32], text: &[u8], ix: &[u16], name: &[u8], b
     }
 }
 
+// Enums, composites, types: the last declaration of the name wins; a built-in where there is none.
 pub fn sense_in(m: Model, rec: &[u32], text: &[u8], ix: &[u16], name: &[u8]) -> Sense
     requires { ⌜ Indexed (schemaOf m (now rec) (now text)) (now ix) ⌝ }
     ensures { λ r. ⌜ meaningIn (schemaOf m (now (rec .entry)) (now (text .entry))) (now (name .entry)) r ≡ meaning (schemaOf m (now (rec .entry)) (now (text .entry))) (now (name .entry)) ⌝ }

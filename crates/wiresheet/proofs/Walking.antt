@@ -1,0 +1,22 @@
+-- What the model's own search among the things under an owner answers.
+use mathlib.Core.Path.{_≡_}
+use mathlib.Core.List.{List}
+use Prim.Native.Nat.{ℕ, _≤_, _<_}
+use lib.ListN.{length}
+use Rattle.xmlschema.specs.Schema.{nextUnder}
+use Rattle.xmlschema.specs.Store.{schemaOf, found}
+use Rattle.xmlschema.specs.declared.items.Model.{Model}
+use Rattle.xmlschema.specs.declared.items.Position.{Position}
+use Rattle.xmlschema.specs.declared.items.Position.the-variants.{At, Nothing}
+use Rattle.xmltoproto.proofs.Walking.{underOwner, Next, Last, next-child, last-child, child-within}
+
+module _ (m : Model) (rec text : List ℕ) (kind from : ℕ) {r : Position} where
+  pub next-under : (owner : ℕ) {i : ℕ} → r ≡ At i → ((t : List ℕ) → r ≡ found (nextUnder kind owner from (schemaOf m rec t))) → Next (underOwner kind owner) (schemaOf m rec text) from i
+  next-under owner f h = next-child (schemaOf m rec text) kind from owner f (h text)
+
+  pub last-under : (owner : ℕ) → r ≡ Nothing → ((t : List ℕ) → r ≡ found (nextUnder kind owner from (schemaOf m rec t))) → Last (underOwner kind owner) (schemaOf m rec text) from
+  last-under owner f h = last-child (schemaOf m rec text) kind from owner f (h text)
+
+  -- the next place is past the last and within the count
+  pub under-within : {i : ℕ} → r ≡ At i → (owner : ℕ) → ((t : List ℕ) → r ≡ found (nextUnder kind owner from (schemaOf m rec t))) → {n : ℕ} → n ≡ length (schemaOf m rec text .items) → (from ≤ i) × (i < n)
+  under-within f owner h e = child-within (schemaOf m rec text) kind from owner f (h text) e
