@@ -6,8 +6,9 @@ use std::time::{Duration, Instant};
 
 use reference::xmltoproto::xml_to_proto;
 
-use crate::library::Converter;
+use crate::library::{Converter, ROOM};
 use crate::prng::Prng;
+use crate::published::{dense, schema};
 use crate::schema::limits::real;
 
 /// Each side is called for so long, in turns.
@@ -20,7 +21,7 @@ fn median(mut times: Vec<f64>) -> f64 {
     times[times.len() / 2]
 }
 
-/// Microseconds of both sides.
+/// Microseconds of both sides, which have to agree.
 fn measure(document: &str) -> (f64, f64) {
     let mut converter = Converter::new();
     let due = xml_to_proto(document).map(String::into_bytes);
@@ -29,6 +30,11 @@ fn measure(document: &str) -> (f64, f64) {
         Ok(source) => assert!(answer == Ok(source), "the sources differ"),
         Err(_) => assert!(answer.is_err(), "a refusal is due"),
     }
+    timed(document, &mut converter)
+}
+
+/// Microseconds of both sides.
+fn timed(document: &str, converter: &mut Converter) -> (f64, f64) {
     let (mut rust, mut proved) = (Vec::new(), Vec::new());
     let start = Instant::now();
     while rust.len() < LEAST || start.elapsed() < BUDGET {
@@ -93,6 +99,17 @@ pub fn hard() -> Vec<(&'static str, String)> {
         ("composites, a member each", most("", |_| "<composite><type/></composite>".into(), "", 512)),
         ("enums, a value each", most("", |_| "<enum><validValue/></enum>".into(), "", 512)),
         ("values", most("<enum>", |_| "<validValue/>".into(), "</enum>", 1_023)),
+        ("empty groups in one message", most("<message>", |_| "<group/>".into(), "</message>", 1_023)),
+        ("fields that name the first of 400 types with a common prefix", {
+            let types = most("", |k| format!("<type name='commonPrefixOfTwenty{k:03}'/>"), "", 400);
+            most(
+                &format!("{types}<message>"),
+                |_| "<field type='commonPrefixOfTwenty000'/>".into(),
+                "</message>",
+                400,
+            )
+        }),
+        ("one tag of 4,000 attributes", most("<field ", |_| "ab='' ".into(), "/>", 4_000)),
         ("values of one long enum name", {
             let name = "aB".repeat(6_000);
             most(&format!("<enum name='{name}'>"), |_| "<validValue/>".into(), "</enum>", 1_020)
@@ -134,6 +151,16 @@ pub fn hard() -> Vec<(&'static str, String)> {
     ]
 }
 
+/// An enum whose source is 3 MB, which is measured and then refused with 3.
+fn refused(converter: &mut Converter) -> (String, (f64, f64)) {
+    let name = "aB".repeat(1_000);
+    let document = most(&format!("<enum name='{name}'>"), |_| "<validValue/>".into(), "</enum>", 1_020);
+    converter.room(65_536);
+    let times = timed(&document, converter);
+    converter.room(ROOM);
+    (document, times)
+}
+
 fn line(name: &str, document: &str, (rust, proved): (f64, f64)) {
     let length = document.len();
     println!("{name}: {length} bytes, Rust {rust:.1} us, proved {proved:.1} us, ratio {:.2}", proved / rust);
@@ -142,6 +169,23 @@ fn line(name: &str, document: &str, (rust, proved): (f64, f64)) {
 pub fn run() -> bool {
     drop(std::panic::take_hook());
     let mut rng = Prng::new(0x6265_6e63);
+    for length in [600, 10_000, 30_000] {
+        let document = schema(&mut rng, length);
+        line("as published", &document, measure(&document));
+    }
+    let document = dense(&mut rng, 250, 420);
+    line("250 types, 420 fields that name them", &document, measure(&document));
+    for length in [4_000, 8_000, 16_000, 32_000] {
+        let document = schema(&mut rng, length);
+        let (_, proved) = measure(&document);
+        println!(
+            "as published, {} bytes: {:.2} ns a byte",
+            document.len(),
+            proved * 1e3 / document.len() as f64
+        );
+    }
+    let (document, times) = refused(&mut Converter::new());
+    line("values of an enum name of 2,000 bytes, refused with 3", &document, times);
     for (name, length) in [("small", 1_800), ("real size", 30_000)] {
         let document = String::from_utf8(real(&mut rng, length)).expect("the document is ASCII");
         line(name, &document, measure(&document));

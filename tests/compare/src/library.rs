@@ -256,6 +256,9 @@ pub fn xml_to_proto(call: &Call, room: usize) -> Result<Answer, OutOfBounds> {
     with_work_space(sbe_xml_to_proto, call, room)
 }
 
+/// The output's length in measurements, unless another is asked for.
+pub const ROOM: usize = 1 << 26;
+
 /// The converter with buffers that stay, for measurements.
 pub struct Converter {
     records: Vec<u32>,
@@ -265,7 +268,12 @@ pub struct Converter {
 
 impl Converter {
     pub fn new() -> Self {
-        Converter { records: vec![0; RECORDS], text: vec![0; TEXT], output: vec![0; 1 << 26] }
+        Converter { records: vec![0; RECORDS], text: vec![0; TEXT], output: vec![0; ROOM] }
+    }
+
+    /// Another output, of `room` bytes.
+    pub fn room(&mut self, room: usize) {
+        self.output = vec![0; room];
     }
 
     /// Number and n.

@@ -8,6 +8,7 @@ mod library;
 mod markup;
 mod names;
 mod prng;
+mod published;
 mod record;
 mod refusals;
 mod schema;
