@@ -35,8 +35,12 @@ const SUITES: &[(&str, Run)] = &[
 type Record = fn(&Path) -> bool;
 
 /// What is recorded for crates/replay_NAME, by NAME.
-const RECORDS: &[(&str, Record)] =
-    &[("names", names::record::write), ("markup", markup::record::write), ("schema", schema::record::write)];
+const RECORDS: &[(&str, Record)] = &[
+    ("names", names::record::write),
+    ("markup", markup::record::write),
+    ("schema", schema::record::write),
+    ("source", convert::record::write),
+];
 
 /// Does what the command line says; false where anything differs or fails.
 fn command(words: &[&str]) -> bool {

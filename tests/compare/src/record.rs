@@ -11,6 +11,11 @@ pub fn hex(bytes: &[u8]) -> String {
     bytes.iter().map(|b| format!("{b:02x}")).collect()
 }
 
+/// The line of a document.
+pub fn question(document: &[u8]) -> String {
+    format!("{:04x} {}\n", document.len(), hex(document))
+}
+
 /// Writes `stdin` and `stdout` into a folder.
 pub fn write(folder: &Path, questions: Vec<String>, answers: Vec<String>) -> bool {
     let (stdin, stdout) = (questions.concat(), answers.concat());

@@ -61,10 +61,6 @@ const DOCUMENTS: &[&str] = &[
     "<a b='\u{ff}",
 ];
 
-fn question(document: &[u8]) -> String {
-    format!("{:04x} {}\n", document.len(), hex(document))
-}
-
 fn answer(document: &[u8]) -> String {
     let r = events::read(document);
     format!("{} {} {} {} {}\n", r.number, r.offset, r.place, r.events.len(), hex(&r.events))
@@ -82,6 +78,6 @@ pub fn write(folder: &Path) -> bool {
             }
         }
     }
-    let questions = documents.iter().map(|d| question(d)).collect();
+    let questions = documents.iter().map(|d| record::question(d)).collect();
     record::write(folder, questions, documents.iter().map(|d| answer(d)).collect())
 }

@@ -55,7 +55,18 @@ pub fn random(rng: &mut Prng) -> Vec<u8> {
     maker.text.into_bytes()
 }
 
-/// The same, with a few faults.
+/// A few declarations and messages, without the elements around them: much in few bytes.
+pub fn bare(rng: &mut Prng) -> Vec<u8> {
+    let wild = rng.pick(&[0, 30]);
+    let mut maker = Maker { rng, wild, text: String::new() };
+    for _ in 0..2 + maker.rng.below(3) {
+        let name = maker.rng.pick(&["type", "composite", "enum", "message", "message"]);
+        maker.element(name, 0);
+    }
+    maker.text.into_bytes()
+}
+
+/// A random schema with a few faults.
 pub fn damaged(rng: &mut Prng) -> Vec<u8> {
     let mut document = random(rng);
     for _ in 0..1 + rng.below(2) {

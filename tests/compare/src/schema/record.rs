@@ -44,10 +44,6 @@ const DOCUMENTS: &[&str] = &[
     "<type xmlns='1' x:name='2' name='3'/>",
 ];
 
-fn question(document: &[u8]) -> String {
-    format!("{:04x} {}\n", document.len(), hex(document))
-}
-
 fn answer(document: &[u8]) -> String {
     let r = model(&Call::new(document.to_vec()));
     format!("{} {} {} {} {}\n", r.number, r.offset, r.place, r.events.len(), hex(&r.events))
@@ -73,6 +69,6 @@ pub fn write(folder: &Path) -> bool {
             }
         }
     }
-    let questions = documents.iter().map(|d| question(d)).collect();
+    let questions = documents.iter().map(|d| record::question(d)).collect();
     record::write(folder, questions, documents.iter().map(|d| answer(d)).collect())
 }

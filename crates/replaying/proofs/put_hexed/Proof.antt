@@ -3,8 +3,8 @@ use mathlib.Core.Path.{_≡_}
 use Prim.Native.Nat.{_-_}
 use lib.ListN.{length}
 use borrow.Author.Needs.{needs}
-use Rattle.replay_names.proofs.put_hexed.Statement.{statement}
-use Rattle.replay_names.proofs.put_hexed.Tie as tie
+use Rattle.replaying.proofs.put_hexed.Statement.{statement}
+use Rattle.replaying.proofs.put_hexed.Tie as tie
 
 abbrev Inv-loop : tie.InvT-loop
 Inv-loop out₀ at s p₀ i₀ out p i = length out ≡ length out₀

@@ -1,5 +1,7 @@
 //! Suite `convert`: a document's source by the proved library against the reference's.
 
+pub mod record;
+
 use crate::library::{self, junk, Answer, OutOfBounds};
 use crate::schema::due;
 use crate::schema::limits::Call;
@@ -39,9 +41,17 @@ fn source(call: &Call) -> Result<String, due::Refused> {
     due::source(&call.document, call.records, call.text)
 }
 
-/// A refusal leaves the output as it was.
-fn refused(r: due::Refused, output: Vec<u8>) -> Answer {
-    Answer { number: r.number, offset: r.offset, place: r.place, n: 0, output }
+/// What has to come of a call with this output. A refusal leaves the output as it was.
+fn answer(source: Result<String, due::Refused>, mut output: Vec<u8>) -> Answer {
+    let short = due::Refused { number: 3, offset: 0, place: 0 };
+    let fitting = source.and_then(|s| if output.len() < s.len() { Err(short) } else { Ok(s) });
+    match fitting {
+        Err(r) => Answer { number: r.number, offset: r.offset, place: r.place, n: 0, output },
+        Ok(source) => {
+            output[..source.len()].copy_from_slice(source.as_bytes());
+            Answer { number: 0, offset: 0, place: 0, n: source.len(), output }
+        }
+    }
 }
 
 impl Suite for Conversions {
@@ -64,17 +74,8 @@ impl Suite for Conversions {
 
     fn reference(&self, (call, room): &Self::Input) -> Self::Outcome {
         let source = source(call);
-        let mut output = junk(room.bytes(&source));
-        Ok(match source {
-            Err(r) => refused(r, output),
-            Ok(source) if output.len() < source.len() => {
-                refused(due::Refused { number: 3, offset: 0, place: 0 }, output)
-            }
-            Ok(source) => {
-                output[..source.len()].copy_from_slice(source.as_bytes());
-                Answer { number: 0, offset: 0, place: 0, n: source.len(), output }
-            }
-        })
+        let output = junk(room.bytes(&source));
+        Ok(answer(source, output))
     }
 
     fn library(&self, (call, room): &Self::Input) -> Self::Outcome {
