@@ -1,7 +1,8 @@
 // Classes of bytes: space, tag-name end, attribute-name end, upper case, lower case.
 //
 // One constant table of 256 class numbers decides them all. Its rule is proved once over the whole
-// table (proofs/table), and each test promises the predicate of specs/Class.antt for every byte.
+// table (proofs/table). Each test takes the table lent, and promises the predicate of specs/Class.antt
+// for every byte.
 ghost use mathlib.Core.Path.{_≡_};
 ghost use Rattle.classes.specs.Class.{isSpace, isTagNameEnd, isAttributeNameEnd, isUpper, isLower};
 ghost use Rattle.classes.specs.Table.{ClassOf, IsTable};
@@ -281,45 +282,6 @@ fn class_in(t: &[u8; 256], b: u8) -> u8
 {
     t[b as usize]
 }
-
-fn class(b: u8) -> u8
-    ensures { λ r. ⌜ ClassOf b r ⌝ }
-{
-    let t = table();
-    class_in(&t, b)
-}
-
-pub fn is_space(b: u8) -> bool
-    ensures { λ r. ⌜ r ≡ isSpace b ⌝ }
-{
-    class(b) == 0
-}
-
-pub fn is_tag_name_end(b: u8) -> bool
-    ensures { λ r. ⌜ r ≡ isTagNameEnd b ⌝ }
-{
-    class(b) < 2
-}
-
-pub fn is_attribute_name_end(b: u8) -> bool
-    ensures { λ r. ⌜ r ≡ isAttributeNameEnd b ⌝ }
-{
-    class(b) < 3
-}
-
-pub fn is_upper(b: u8) -> bool
-    ensures { λ r. ⌜ r ≡ isUpper b ⌝ }
-{
-    class(b) == 3
-}
-
-pub fn is_lower(b: u8) -> bool
-    ensures { λ r. ⌜ r ≡ isLower b ⌝ }
-{
-    class(b) == 4
-}
-
-// ---- by a lent table
 
 pub fn is_upper_in(t: &[u8; 256], b: u8) -> bool
     requires { ⌜ IsTable (now t) ⌝ }

@@ -12,7 +12,7 @@ use lib.Seq.{take-suc, length-take-le, take-length}
 use borrow.Author.Tests.{eqb-true, eq-eqb}
 use Rattle.texts.specs.Choice.{pick, _and_}
 use Rattle.texts.specs.Text.{same}
-use Rattle.texts.proofs.Choosing.{by-test, both-true, and-left, and-right}
+use Rattle.texts.proofs.Choosing.{by-test, both-true, is-true}
 use Rattle.xmlschema.specs.Schema.{Item, Schema, itemAt, noItem, positionsFrom, last, lastNamed}
 use Rattle.xmlschema.proofs.Records.{by-less}
 use Rattle.xmlschema.proofs.Searching.{last-snoc, positions-snoc, append-none}
@@ -92,10 +92,6 @@ hashed-as : (it : Item) (b : ℕ) → hashed b it ≡ true → (declares (it .ki
 unfolding hashed
 hashed-as it b t = let e = both-true (declares (it .kind)) (eqb (hashFrom 0 (it .name)) b) t in (e .0, eqb-true (hashFrom 0 (it .name)) b (e .1))
 
-truth : (b : Bool) → T b → b ≡ true
-truth true t = refl
-truth false t = absurd t
-
 module _ (s : Schema) (ix : List ℕ) (n : ℕ) (c : Chained s n ix) (h : n < length (s .items)) where
   unhashed : (b : ℕ) → (declares (itemAt s n .kind) ≡ true → hashFrom 0 (itemAt s n .name) ≡ b → ⊥) → hashed b (itemAt s n) ≡ false
   unhashed b f = by-test (hashed b (itemAt s n)) (λ t. let e = hashed-as (itemAt s n) b t in absurd (f (e .0) (e .1))) (λ g. g)
@@ -117,7 +113,7 @@ module _ (s : Schema) (ix : List ℕ) (n : ℕ) (c : Chained s n ix) (h : n < le
 
     chained-this : (b : ℕ) → T (hashed b (itemAt s n)) → getD (fronted ix (11264 + hashFrom 0 (itemAt s n .name)) (12288 + n) n) (12288 + n) 0 ≡ code (lastHashed b n s)
     chained-this b t =
-        let e = hashed-as (itemAt s n) b (truth (hashed b (itemAt s n)) t) .1 in
+        let e = hashed-as (itemAt s n) b (is-true (hashed b (itemAt s n)) t) .1 in
         fronted-at ix (11264 + hashFrom 0 (itemAt s n .name)) (12288 + n) n (omega arith) (λ q. omega arith) ∙ c .head (hashFrom 0 (itemAt s n .name)) low ∙ ap (λ x. code (lastHashed x n s)) e
 
     pub chained-on : Chained s (n + 1) (fronted ix (11264 + hashFrom 0 (itemAt s n .name)) (12288 + n) n)
@@ -135,5 +131,5 @@ module _ (s : Schema) (ix : List ℕ) (n : ℕ) (c : Chained s n ix) (h : n < le
         head = λ b l. head-kept b l (unhashed b (λ d _. let z : _≡_ {A = ℕ} 0 1 = cc in omega arith));
         chain = λ j l b t. by-less j n
             (λ m. c .chain j m b t)
-            (λ m. let e : j ≡ n = omega arith in let d = hashed-as (itemAt s n) b (truth (hashed b (itemAt s n)) (rw e at t)) .0 in absurd (let z : _≡_ {A = ℕ} 0 1 = cc in omega arith));
+            (λ m. let e : j ≡ n = omega arith in let d = hashed-as (itemAt s n) b (is-true (hashed b (itemAt s n)) (rw e at t)) .0 in absurd (let z : _≡_ {A = ℕ} 0 1 = cc in omega arith));
       }

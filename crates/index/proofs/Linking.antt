@@ -14,12 +14,9 @@ use Rattle.texts.specs.Choice.{pick, _and_}
 use Rattle.texts.proofs.Choosing.{by-test, both-true}
 use Rattle.xmlschema.specs.Schema.{Item, Schema, itemAt, noItem, positionsFrom, first, nextUnder}
 use Rattle.xmlschema.proofs.Records.{by-less}
-use Rattle.xmlschema.proofs.Searching.{first-yes, first-no}
+use Rattle.xmlschema.proofs.Searching.{ownedSo, first-yes, first-no}
 use Rattle.index.specs.Index.{code, fronted, Linked}
 use Rattle.index.proofs.Fronting.{by-equal, fronted-head, fronted-at, fronted-other}
-
-abbrev isUnder : ℕ → ℕ → Item → Bool
-isUnder k o it = eqb (it .kind) k and eqb (it .owner) o
 
 -- ---- one step of the model's search
 
@@ -30,14 +27,14 @@ under-end s k o j h = rw (drop-of-length-le (s .items) h)
 module _ (s : Schema) (k o j : ℕ) (h : j < length (s .items)) where
   pub under-hit : itemAt s j .kind ≡ k → itemAt s j .owner ≡ o → nextUnder k o j s ≡ some j
   unfolding nextUnder
-  under-hit ek eo = rw (drop-cons (s .items) j noItem) (first-yes (isUnder k o) j (itemAt s j) (drop (suc j) (s .items)) (rw (eq-eqb (itemAt s j .kind) k ek, eq-eqb (itemAt s j .owner) o eo)))
+  under-hit ek eo = rw (drop-cons (s .items) j noItem) (first-yes (ownedSo k o) j (itemAt s j) (drop (suc j) (s .items)) (rw (eq-eqb (itemAt s j .kind) k ek, eq-eqb (itemAt s j .owner) o eo)))
 
   pub under-miss : (itemAt s j .kind ≡ k → itemAt s j .owner ≡ o → ⊥) → nextUnder k o j s ≡ nextUnder k o (j + 1) s
   unfolding nextUnder
   under-miss n =
-      by-test (isUnder k o (itemAt s j))
+      by-test (ownedSo k o (itemAt s j))
       (λ t. let e = both-true (eqb (itemAt s j .kind) k) (eqb (itemAt s j .owner) o) t in absurd (n (eqb-true (itemAt s j .kind) k (e .0)) (eqb-true (itemAt s j .owner) o (e .1))))
-      (λ f. ap first (rw (add-one, drop-cons (s .items) j noItem) (first-no (isUnder k o) j (itemAt s j) (drop (suc j) (s .items)) f ∙ rw add-one)))
+      (λ f. ap first (rw (add-one, drop-cons (s .items) j noItem) (first-no (ownedSo k o) j (itemAt s j) (drop (suc j) (s .items)) f ∙ rw add-one)))
 
 -- ---- the links
 

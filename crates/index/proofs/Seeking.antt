@@ -14,14 +14,12 @@ use Rattle.texts.specs.Text.{same}
 use Rattle.texts.proofs.Choosing.{by-test, both-true}
 use Rattle.texts.proofs.Comparing.{same-equal}
 use Rattle.xmlschema.specs.Schema.{Item, Schema, itemAt, lastNamed}
+use Rattle.xmlschema.proofs.Searching.{namedSo}
 use Rattle.xmlschema.specs.Store.{found}
 use Rattle.xmlschema.specs.declared.items.Position.{Position}
 use Rattle.xmlschema.specs.declared.items.Position.the-variants.{At, Nothing}
 use Rattle.index.specs.Index.{code, hashFrom, HashOf, declares, hashed, lastHashed, Indexed}
 use Rattle.index.proofs.Chaining.{lastBy, none-passes, some-passes, last-yes, last-no, code-none, code-some}
-
-abbrev pub namedSo : ℕ → List ℕ → Item → Bool
-namedSo kind name it = eqb (it .kind) kind and same (it .name) name
 
 -- what is named so is hashed so
 narrow : (kind : ℕ) (name : List ℕ) → declares kind ≡ true → (it : Item) → namedSo kind name it ≡ true → hashed (hashFrom 0 name) it ≡ true

@@ -4,8 +4,11 @@
 // own `next_under` and `last_named` promise, without walking all items. Nothing is asked of the model: where it has
 // more than 1,024 items, which no document gives, the model's searches answer.
 use texts::equal;
+use xmlschema::items::COMPOSITE;
+use xmlschema::items::ENUM;
 use xmlschema::items::Model;
 use xmlschema::items::Position;
+use xmlschema::items::TYPE;
 use xmlschema::items::count;
 use xmlschema::items::item;
 use xmlschema::items::last_named;
@@ -23,16 +26,20 @@ ghost use Rattle.xmlschema.specs.Schema.{itemAt, nextUnder, lastNamed};
 ghost use Rattle.xmlschema.specs.Store.{schemaOf, found};
 ghost use Rattle.index.specs.Index.{code, fronted, HashOf, declares, Blank, Linking, Naming, Indexed};
 
-// How many numbers the index takes.
+// How many numbers the index takes: the first item of each of 10 kinds under each of 1,024 owners, the
+// next item after each of 1,024, the last declaration of each of 1,024 hashes, and the one before each of
+// 1,024 items with the same hash.
 pub const SIZE: usize = 13312;
 
-const MOST: u32 = 1024;
-
+// Where these parts begin; the first begins at 0.
 const NEXT: usize = 10240;
 
 const HEADS: usize = 11264;
 
 const CHAIN: usize = 12288;
+
+// As many items as the index holds, and a schema may have.
+const MOST: u32 = 1024;
 
 fn wide(b: u8) -> usize
     ensures { λ r. ⌜ (r ≡ b) × (r < 256) ⌝ }
@@ -96,13 +103,13 @@ fn put_links(m: Model, rec: &[u32], text: &[u8], ix: &mut [u16])
 fn is_declaring(kind: u32) -> bool
     ensures { λ r. ⌜ r ≡ declares kind ⌝ }
 {
-    if kind == 1 {
+    if kind == TYPE {
         return true;
     }
-    if kind == 4 {
+    if kind == COMPOSITE {
         return true;
     }
-    kind == 5
+    kind == ENUM
 }
 
 fn name_item(m: Model, rec: &[u32], text: &[u8], i: u32, ix: &mut [u16])
@@ -111,8 +118,8 @@ fn name_item(m: Model, rec: &[u32], text: &[u8], i: u32, ix: &mut [u16])
 {
     let e = item(m, rec, i);
     if is_declaring(e.kind) {
-        let b = hash_of(name_of(e, text));
-        let head = HEADS + b;
+        let hash = hash_of(name_of(e, text));
+        let head = HEADS + hash;
         let at = CHAIN + i as usize;
         put_front(ix, head, at, i);
     }
@@ -239,12 +246,12 @@ fn chained(
     ix: &[u16],
     kind: u32,
     name: &[u8],
-    b: usize,
+    hash: usize,
 ) -> Position
-    requires { ⌜ Indexed (schemaOf m (now rec) (now text)) (now ix) × (length (schemaOf m (now rec) (now text) .items) ≤ 1024) × (declares kind ≡ true) × HashOf (now name) b ⌝ }
+    requires { ⌜ Indexed (schemaOf m (now rec) (now text)) (now ix) × (length (schemaOf m (now rec) (now text) .items) ≤ 1024) × (declares kind ≡ true) × HashOf (now name) hash ⌝ }
     ensures { λ r. ⌜ r ≡ found (lastNamed kind (now (name .entry)) (schemaOf m (now (rec .entry)) (now (text .entry)))) ⌝ }
 {
-    let mut p = word(ix, HEADS + b);
+    let mut p = word(ix, HEADS + hash);
     while 0 < p {
         let i = p - 1;
         if is_named(m, rec, text, i, kind, name) {
@@ -255,7 +262,7 @@ fn chained(
     Position::Nothing
 }
 
-// The last declaration of a kind with a name, whose hash is `b`.
+// The last declaration of a kind with a name, whose hash is handed over.
 pub fn named(
     m: Model,
     rec: &[u32],
@@ -263,16 +270,16 @@ pub fn named(
     ix: &[u16],
     kind: u32,
     name: &[u8],
-    b: usize,
+    hash: usize,
 ) -> Position
-    requires { ⌜ Indexed (schemaOf m (now rec) (now text)) (now ix) × HashOf (now name) b ⌝ }
+    requires { ⌜ Indexed (schemaOf m (now rec) (now text)) (now ix) × HashOf (now name) hash ⌝ }
     ensures { λ r. ⌜ r ≡ found (lastNamed kind (now (name .entry)) (schemaOf m (now (rec .entry)) (now (text .entry)))) ⌝ }
 {
     if MOST < count(m, rec, text) {
         return last_named(m, rec, text, kind, name);
     }
     if is_declaring(kind) {
-        return chained(m, rec, text, ix, kind, name, b);
+        return chained(m, rec, text, ix, kind, name, hash);
     }
     last_named(m, rec, text, kind, name)
 }

@@ -17,6 +17,10 @@ pick-yes b p q t = rw (t, pick)
 pub pick-no {ℓ} : {A : Type ℓ} (b : Bool) (p q : A) → b ≡ false → pick b p q ≡ q
 pick-no b p q t = rw (t, pick)
 
+pub is-true : (b : Bool) → T b → b ≡ true
+is-true true t = refl
+is-true false t = absurd t
+
 pub and-left : (a b : Bool) → T (a and b) → T a
 and-left true b t = tt
 and-left false b t = t

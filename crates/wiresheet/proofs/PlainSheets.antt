@@ -11,7 +11,7 @@ use borrow.Author.Tests.{not-false}
 use lib.Seq.{getD-drop, drop-drop}
 use Rattle.texts.specs.Choice.{pick, _or_, _and_}
 use Rattle.texts.specs.Text.{ascii, same}
-use Rattle.texts.proofs.Choosing.{by-test, and-left, and-right}
+use Rattle.texts.proofs.Choosing.{by-test, and-left, and-right, is-true}
 use Rattle.texts.proofs.Comparing.{same-equal}
 use Rattle.classes.specs.Class.{isUpper, isLower}
 use Rattle.xmlschema.specs.Schema.{Item, Schema, noItem, itemAt, positionsFrom, allOf, under, last, lastNamed, aType, aComposite, anEnum, aValue, aMember, aRef, aMessage, aField, aGroup}
@@ -65,10 +65,6 @@ one-found P Q p k (x ∷ xs) g h t =
     (λ f. one-found P Q p (k + 1) xs (g .1) (h .1) (rw f at t))
 
 -- ---- names
-
-is-true : (b : Bool) → T b → b ≡ true
-is-true true h = refl
-is-true false h = absurd h
 
 abbrev Good : List ℕ → Type 0
 Good n = T (isIdentifier n) × T (not (among n reserved))

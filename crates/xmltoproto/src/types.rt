@@ -167,13 +167,13 @@ pub fn is_built_in(name: &[u8]) -> bool
     is_other_primitive(name)
 }
 
-fn is_declared_in(m: Model, rec: &[u32], text: &[u8], ix: &[u16], name: &[u8], b: usize) -> bool
-    requires { ⌜ Indexed (schemaOf m (now rec) (now text)) (now ix) × HashOf (now name) b ⌝ }
+fn is_declared_in(m: Model, rec: &[u32], text: &[u8], ix: &[u16], name: &[u8], hash: usize) -> bool
+    requires { ⌜ Indexed (schemaOf m (now rec) (now text)) (now ix) × HashOf (now name) hash ⌝ }
     ensures { λ r. ⌜ r ≡ isDeclared (schemaOf m (now (rec .entry)) (now (text .entry))) (now (name .entry)) ⌝ }
 {
-    match named(m, rec, text, ix, ENUM, name, b) {
+    match named(m, rec, text, ix, ENUM, name, hash) {
         Position::At(_) => true,
-        Position::Nothing => match named(m, rec, text, ix, COMPOSITE, name, b) {
+        Position::Nothing => match named(m, rec, text, ix, COMPOSITE, name, hash) {
             Position::At(_) => true,
             Position::Nothing => false,
         },
@@ -185,11 +185,11 @@ pub fn sense_in(m: Model, rec: &[u32], text: &[u8], ix: &[u16], name: &[u8]) -> 
     requires { ⌜ Indexed (schemaOf m (now rec) (now text)) (now ix) ⌝ }
     ensures { λ r. ⌜ meaningIn (schemaOf m (now (rec .entry)) (now (text .entry))) (now (name .entry)) r ≡ meaning (schemaOf m (now (rec .entry)) (now (text .entry))) (now (name .entry)) ⌝ }
 {
-    let b = hash_of(name);
-    if is_declared_in(m, rec, text, ix, name, b) {
+    let hash = hash_of(name);
+    if is_declared_in(m, rec, text, ix, name, hash) {
         return Sense::Declared;
     }
-    match named(m, rec, text, ix, TYPE, name, b) {
+    match named(m, rec, text, ix, TYPE, name, hash) {
         Position::At(i) => Sense::Typed(i),
         Position::Nothing => {
             if is_built_in(name) {

@@ -6,7 +6,7 @@ use std::time::{Duration, Instant};
 
 use reference::xmltoproto::xml_to_proto;
 
-use crate::library::{Converter, ROOM};
+use crate::library::Converter;
 use crate::prng::Prng;
 use crate::published::{dense, schema};
 use crate::schema::limits::real;
@@ -21,15 +21,20 @@ fn median(mut times: Vec<f64>) -> f64 {
     times[times.len() / 2]
 }
 
-/// Microseconds of both sides, which have to agree.
-fn measure(document: &str) -> (f64, f64) {
-    let mut converter = Converter::new();
+/// Both sides have to give the same source, or to refuse.
+fn agree(document: &str, converter: &mut Converter) {
     let due = xml_to_proto(document).map(String::into_bytes);
     let answer = converter.run(document.as_bytes());
     match due {
         Ok(source) => assert!(answer == Ok(source), "the sources differ"),
         Err(_) => assert!(answer.is_err(), "a refusal is due"),
     }
+}
+
+/// Microseconds of both sides, which have to agree.
+fn measure(document: &str) -> (f64, f64) {
+    let mut converter = Converter::new();
+    agree(document, &mut converter);
     timed(document, &mut converter)
 }
 
@@ -151,14 +156,19 @@ pub fn hard() -> Vec<(&'static str, String)> {
     ]
 }
 
-/// An enum whose source is 3 MB, which is measured and then refused with 3.
-fn refused(converter: &mut Converter) -> (String, (f64, f64)) {
+/// An enum whose source is 3 MB.
+fn long_source() -> String {
     let name = "aB".repeat(1_000);
-    let document = most(&format!("<enum name='{name}'>"), |_| "<validValue/>".into(), "</enum>", 1_020);
+    most(&format!("<enum name='{name}'>"), |_| "<validValue/>".into(), "</enum>", 1_020)
+}
+
+/// A converter with an output of 65,536 bytes, which refuses that source with 3 after measuring it.
+fn refusing(document: &str) -> Converter {
+    let mut converter = Converter::new();
+    agree(document, &mut converter);
     converter.room(65_536);
-    let times = timed(&document, converter);
-    converter.room(ROOM);
-    (document, times)
+    assert!(converter.run(document.as_bytes()) == Err(3), "3 is due");
+    converter
 }
 
 fn line(name: &str, document: &str, (rust, proved): (f64, f64)) {
@@ -184,7 +194,8 @@ pub fn run() -> bool {
             proved * 1e3 / document.len() as f64
         );
     }
-    let (document, times) = refused(&mut Converter::new());
+    let document = long_source();
+    let times = timed(&document, &mut refusing(&document));
     line("values of an enum name of 2,000 bytes, refused with 3", &document, times);
     for (name, length) in [("small", 1_800), ("real size", 30_000)] {
         let document = String::from_utf8(real(&mut rng, length)).expect("the document is ASCII");
@@ -197,4 +208,24 @@ pub fn run() -> bool {
         line(name, document, *times);
     }
     true
+}
+
+#[cfg(test)]
+mod tests {
+    use super::*;
+
+    /// What the benchmark needs to be right, without its times.
+    #[test]
+    fn the_sides_agree() {
+        let mut converter = Converter::new();
+        let mut rng = Prng::new(0x6265_6e63);
+        for length in [600, 10_000, 30_000] {
+            agree(&schema(&mut rng, length), &mut converter);
+        }
+        agree(&dense(&mut rng, 250, 420), &mut converter);
+        for (_, document) in hard() {
+            agree(&document, &mut converter);
+        }
+        refusing(&long_source());
+    }
 }

@@ -257,7 +257,7 @@ pub fn xml_to_proto(call: &Call, room: usize) -> Result<Answer, OutOfBounds> {
 }
 
 /// The output's length in measurements, unless another is asked for.
-pub const ROOM: usize = 1 << 26;
+const ROOM: usize = 1 << 26;
 
 /// The converter with buffers that stay, for measurements.
 pub struct Converter {
