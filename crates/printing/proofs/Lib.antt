@@ -1,5 +1,6 @@
 -- The laws of printing that every printing function cites.
 pub mod Sequencing
+pub mod Going
 pub mod Decimals
 pub mod Finishing
 pub mod Repeating

@@ -2,6 +2,7 @@
 pub mod Choosing
 pub mod Pieces
 pub mod Comparing
+pub mod Among
 pub mod Scanning
 pub mod Trimming
 pub mod Stores

@@ -8,9 +8,9 @@ use lib.Dec.{T, eqb, ltb, ltb→lt}
 use borrow.Author.Tests.{ltb-true, ltb-false, eqb-true, ne-eqb, le-ltb}
 use Rattle.texts.specs.Choice.{_or_, _and_}
 use Rattle.texts.specs.Text.{ascii}
+use Rattle.texts.specs.Lists.{Every}
 use Rattle.texts.proofs.Choosing.{by-test, and-left, and-right}
-use Rattle.xmltoproto.specs.Lists.{Every}
-use Rattle.xmltoproto.specs.Escape.{hex, escaped, quoted}
+use Rattle.escaping.specs.Escape.{hex, escaped, quoted}
 use Rattle.wiresheet.proofs.Splitting.{Splits, done, lit, byte, flip, apart, differs, listed}
 
 -- a test holds below n

@@ -9,12 +9,12 @@ use lib.Dec.{T, T-not, not-T}
 use lib.ListN.{take}
 use Rattle.texts.specs.Choice.{pick}
 use Rattle.texts.specs.Text.{ascii, same}
+use Rattle.texts.specs.Lists.{all, Every, among}
 use Rattle.texts.proofs.Choosing.{by-test}
 use Rattle.texts.proofs.Comparing.{same-equal}
 use Rattle.classes.specs.Class.{isUpper, isLower}
 use Rattle.printing.specs.Decimal.{decimal}
-use Rattle.xmltoproto.specs.Lists.{all, Every, among}
-use Rattle.xmltoproto.specs.Escape.{quoted}
+use Rattle.escaping.specs.Escape.{quoted}
 use Rattle.xmltoproto.specs.Types.{Proto, builtIns, asNamed, ofLength, noteOn, narrow, asPrimitive}
 use Rattle.xmltoproto.specs.Source.{noteLine, bracketed, line}
 use Rattle.xmlschema.specs.Numbers.{isDigit}

@@ -7,10 +7,10 @@ use native.Mathlib.Omega.{arith}
 use lib.Dec.{T, ltb, leb, le→leb}
 use borrow.Author.Tests.{ltb-true, ltb-false}
 use Rattle.texts.specs.Choice.{_and_}
+use Rattle.texts.specs.Lists.{all}
 use Rattle.texts.proofs.Choosing.{by-test, and-left, and-right}
 use Rattle.printing.specs.Decimal.{decimal}
 use Rattle.printing.proofs.Decimals.{decimal-one, decimal-more}
-use Rattle.xmltoproto.specs.Lists.{all}
 use Rattle.xmlschema.specs.Numbers.{isDigit}
 use Rattle.wiresheet.proofs.Splitting.{Splits, token, stops}
 

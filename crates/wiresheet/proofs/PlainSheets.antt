@@ -11,12 +11,12 @@ use borrow.Author.Tests.{not-false}
 use lib.Seq.{getD-drop, drop-drop}
 use Rattle.texts.specs.Choice.{pick, _or_, _and_}
 use Rattle.texts.specs.Text.{ascii, same}
+use Rattle.texts.specs.Lists.{isSome, all, Every, among}
 use Rattle.texts.proofs.Choosing.{by-test, and-left, and-right, is-true}
 use Rattle.texts.proofs.Comparing.{same-equal}
 use Rattle.classes.specs.Class.{isUpper, isLower}
+use Rattle.charsets.specs.Charset.{compatible}
 use Rattle.xmlschema.specs.Schema.{Item, Schema, noItem, itemAt, positionsFrom, allOf, under, last, lastNamed, aType, aComposite, anEnum, aValue, aMember, aRef, aMessage, aField, aGroup}
-use Rattle.xmltoproto.specs.Lists.{isSome, all, Every, among}
-use Rattle.xmltoproto.specs.Charset.{compatible}
 use Rattle.xmltoproto.specs.Types.{Form, formOf, builtIn, isChar, isRaw, builtIns, typed, unknown, isDeclared, typeOr, meaning}
 use Rattle.xmltoproto.specs.Composites.{isPrinted, printedComposites}
 use Rattle.xmlschema.specs.Numbers.{isDigit}

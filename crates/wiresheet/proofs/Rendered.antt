@@ -4,8 +4,8 @@ use mathlib.Core.List.{List, [], _∷_, _++_, append-assoc, head-eq-of-cons-eq}
 use Prim.Native.Nat.{ℕ}
 use native.Mathlib.Omega.{arith}
 use Rattle.texts.specs.Text.{ascii, same}
+use Rattle.texts.specs.Lists.{each, numbered, all, Every, among}
 use Rattle.names.specs.Conversions.{prefixOf}
-use Rattle.xmltoproto.specs.Lists.{each, numbered, all, Every, among}
 use Rattle.xmlschema.specs.Numbers.{isDigit}
 use Rattle.xmltoproto.specs.Source.{packageLine}
 use Rattle.wiresheet.specs.Sheet.{Value, Enum, Part, Composite, Field, Group, Message, Sheet}

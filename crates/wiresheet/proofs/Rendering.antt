@@ -6,12 +6,12 @@ use native.Mathlib.Nat.{add-zero}
 use native.Mathlib.Omega.{arith}
 use lib.ListN.{length, length-map}
 use Rattle.texts.specs.Text.{ascii}
+use Rattle.texts.specs.Lists.{each, numbered}
 use Rattle.texts.proofs.Choosing.{by-test}
 use Rattle.printing.specs.Decimal.{decimal}
 use Rattle.names.specs.Conversions.{prefixOf}
+use Rattle.charsets.specs.Charset.{compatible}
 use Rattle.xmlschema.specs.Schema.{Item, Schema, itemAt, allOf, under, aMember, aRef, anEnum, aValue, aMessage, aGroup, aField}
-use Rattle.xmltoproto.specs.Lists.{each, numbered}
-use Rattle.xmltoproto.specs.Charset.{compatible}
 use Rattle.xmltoproto.specs.Types.{Form, formOf, isChar, isRaw, Proto, asNamed, ofLength, noteOn, asPrimitive, protoOf, Meaning, declared, typed, unknown, meaning, protoBy}
 use Rattle.xmltoproto.specs.Composites.{printedComposites}
 use Rattle.xmltoproto.specs.Source.{packageLine, header, valueText, enumText, line, memberText, refText, partTexts, compositeText, fieldText, groupText, messageText, source}

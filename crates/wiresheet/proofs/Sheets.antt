@@ -4,12 +4,12 @@ use mathlib.Core.Bool.{Bool, true, false}
 use mathlib.Core.List.{List, [], _∷_, _++_, map, append-assoc}
 use Prim.Native.Nat.{ℕ}
 use Rattle.texts.specs.Text.{ascii, same}
+use Rattle.texts.specs.Lists.{each}
 use Rattle.printing.specs.Decimal.{decimal}
 use Rattle.printing.specs.Printed.{Printed}
 use Rattle.names.specs.Conversions.{camelToSnake, camelToScreamingSnake, singularPascal}
+use Rattle.charsets.specs.Charset.{compatible}
 use Rattle.xmlschema.specs.Schema.{Item, Schema, itemAt, allOf, under, aMember, aRef, anEnum, aValue, aMessage, aGroup, aField}
-use Rattle.xmltoproto.specs.Lists.{each}
-use Rattle.xmltoproto.specs.Charset.{compatible}
 use Rattle.xmltoproto.specs.Types.{Form, formOf, builtIn, chars, isChar, isByte, isRaw, Meaning, meaning}
 use Rattle.xmltoproto.specs.Composites.{printedComposites}
 use Rattle.xmltoproto.specs.Shapes.{form, meaningIn}

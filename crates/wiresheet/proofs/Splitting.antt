@@ -5,7 +5,7 @@ use mathlib.Core.List.{List, [], _∷_, _++_, append-assoc, append-cancel-left, 
 use Prim.Native.Nat.{ℕ, _+_}
 use lib.Dec.{T, eqb, eqb-refl, T-not}
 use Rattle.texts.proofs.Choosing.{and-left, and-right}
-use Rattle.xmltoproto.specs.Lists.{each, numbered, all, Every}
+use Rattle.texts.specs.Lists.{each, numbered, all, Every}
 
 -- append that nests to the right
 infixr 64 _▹_

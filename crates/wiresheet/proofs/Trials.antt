@@ -2,14 +2,14 @@
 use mathlib.Core.Path.{_≡_, refl}
 use Rattle.texts.specs.Text.{ascii, same}
 use Rattle.texts.specs.Trim.{isBlank, trimmedFront, trimmedBack, trimmed}
+use Rattle.texts.specs.Lists.{each, all, Every, among}
 use Rattle.classes.specs.Class.{isUpper, isLower}
 use Rattle.printing.specs.Decimal.{decimal, digits}
 use Rattle.printing.specs.Repeated.{upTo}
 use Rattle.names.specs.Letters.{lowered, raised}
 use Rattle.names.specs.Conversions.{camelToSnake, snakeAt, breaksSnake, camelToScreamingSnake, screamingAt, breaksScreaming, endsInIes, endsInS, singular, capitalized, singularPascal}
+use Rattle.charsets.specs.Charset.{isPunctuation, cleaned, compatible}
 use Rattle.xmlschema.specs.Schema.{positionsFrom, allOf, under, last, lastNamed}
-use Rattle.xmltoproto.specs.Lists.{each, all, Every, among}
-use Rattle.xmltoproto.specs.Charset.{isPunctuation, cleaned, compatible}
 use Rattle.xmltoproto.specs.Types.{formOf, builtIn, isChar, chars, isByte, isRaw, isDeclared, meaning}
 use Rattle.xmltoproto.specs.Composites.{isPrinted, printedComposites}
 use Rattle.xmlschema.specs.Numbers.{isDigit}

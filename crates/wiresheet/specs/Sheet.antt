@@ -3,11 +3,11 @@ use mathlib.Core.List.{List, [], _∷_, _++_, map}
 use Prim.Native.Nat.{ℕ}
 use Rattle.texts.specs.Choice.{pick}
 use Rattle.texts.specs.Text.{ascii}
+use Rattle.texts.specs.Lists.{each}
 use Rattle.printing.specs.Decimal.{decimal}
 use Rattle.names.specs.Conversions.{camelToSnake, camelToScreamingSnake, singularPascal}
+use Rattle.charsets.specs.Charset.{compatible}
 use Rattle.xmlschema.specs.Schema.{Item, Schema, itemAt, allOf, under, aMember, aRef, anEnum, aValue, aMessage, aGroup, aField}
-use Rattle.xmltoproto.specs.Lists.{each}
-use Rattle.xmltoproto.specs.Charset.{compatible}
 use Rattle.xmltoproto.specs.Types.{Form, formOf, isChar, isRaw, chars, Meaning, declared, typed, unknown, meaning}
 use Rattle.xmltoproto.specs.Composites.{printedComposites}
 

@@ -1,5 +1,6 @@
 // The wire sheet of a schema, printed as lines from the model (specs/Sheet.antt).
 use crate::sense::sense_of;
+use charsets::is_compatible;
 use names::convert::put_screaming;
 use names::convert::put_singular;
 use names::convert::put_snake;
@@ -20,7 +21,6 @@ use xmlschema::items::count;
 use xmlschema::items::next_of;
 use xmlschema::items::next_under;
 use xmlschema::items::package_of;
-use xmltoproto::charset::is_compatible;
 use xmltoproto::composites::is_printed;
 use xmltoproto::types::Sense;
 use xmltoproto::types::chars_in;
@@ -34,10 +34,10 @@ use xmltoproto::view::size_at;
 use xmltoproto::view::version_of;
 ghost use mathlib.Core.List.{[]};
 ghost use Rattle.texts.specs.Choice.{pick};
+ghost use Rattle.texts.specs.Lists.{each};
 ghost use Rattle.printing.specs.Printed.{Printed};
 ghost use Rattle.xmlschema.specs.Schema.{itemAt, under, allOf, aMember, aRef, anEnum, aValue, aMessage, aGroup, aField};
 ghost use Rattle.xmlschema.specs.Store.{schemaOf};
-ghost use Rattle.xmltoproto.specs.Lists.{each};
 ghost use Rattle.xmltoproto.specs.Types.{formOf, meaning};
 ghost use Rattle.xmltoproto.specs.Composites.{isPrinted, printedComposites};
 ghost use Rattle.xmltoproto.specs.Shapes.{form};

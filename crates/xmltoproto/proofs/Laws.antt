@@ -1,10 +1,7 @@
 -- The laws that the proofs of functions cite, one set a topic: `search laws` at each need.
 use borrow.Author.Needs.{needs}
-use Rattle.texts.proofs.Scanning.{scan-start, scan-on, scan-stop, scan-end}
+use Rattle.texts.proofs.Among.{among-here, among-later, among-last}
 use Rattle.printing.proofs.Sequencing.{length-printed, _▸_}
-use Rattle.xmltoproto.proofs.Cleaning.{mark-hyphen, mark-underscore, mark-dot, mark-colon, mark-space, mark-none, cleaning-start, cleaning-mark, cleaning-short, cleaning-no, cleaning-on, cleaning-fits, cleaning-end, among-here, among-later, among-last, compatible-empty, compatible-ansi, compatible-iso, compatible-other}
-use Rattle.xmltoproto.proofs.Escaping.{escapes-null, escapes-tab, escapes-feed, escapes-return, escapes-quote, escapes-backslash, escapes-delete, escapes-below-9, escapes-below-13, escapes-short, escapes-long, escapes-plain, digit-low, digit-high, unicode-small, unicode-one, unicode-two, unicode-long, escaped-plain, escaped-letter, escaped-hex, quoted-printed}
-use Rattle.xmltoproto.proofs.Going.{bytes-start, bytes-on, bytes-end, bytes-length}
 use Rattle.xmltoproto.proofs.Viewing.{name-seen, second-seen, encoding-seen, number-seen, size-seen, no-size-seen, id-seen, version-seen}
 use Rattle.xmltoproto.proofs.Typing.{chars-given, chars-absent, byte-told, raw-short, array-short, raw-long, array-char, array-other, shape-int8, shape-int16, shape-uint8, shape-uint16, shape-plain, shape-text, shape-foreign, shape-raw, shape-primitive, declared-enum, declared-composite, declared-not, built-signed, built-unsigned, built-other, sense-declared, sense-typed, sense-built-in, sense-unknown}
 use Rattle.xmltoproto.proofs.Laying.{length-printed-option, encoding-printed-option, note-foreign, note-text-none, note-raw-none, note-signed-none, note-unsigned-none, note-plain-none, word-text, word-foreign, word-raw, word-signed, word-unsigned, word-plain, option-text, option-foreign, option-raw, option-signed, option-unsigned, option-plain}
@@ -13,12 +10,6 @@ use Rattle.xmltoproto.proofs.Looping.{walking-under, walking-of, walkin
 use Rattle.xmltoproto.proofs.Sources.{package-none, package-some, header-printed, value-printed, enum-printed, typed-printed, member-printed, ref-printed, field-declared, field-unknown, field-typed, field-built-in, parts-printed, composite-printed, printed-header, printed-other, chosen, not-chosen, composites-printed, group-head-printed, group-printed, message-printed}
 use Rattle.xmltoproto.proofs.Refusals.{array-told, composite-told, composite-unprinted, field-array-declared, field-array-unknown, field-array-built-in, field-array-typed, holds-told, message-fields, message-groups, refused-composite, refused-message, refused-none}
 use Rattle.xmltoproto.proofs.Generating.{generated-refused, generated-no-room, generated-wrote}
-
-pub ruleset trim = (scan-start, scan-on, scan-stop, scan-end, needs)
-
-pub ruleset charset = (mark-hyphen, mark-underscore, mark-dot, mark-colon, mark-space, mark-none, cleaning-start, cleaning-mark, cleaning-short, cleaning-no, cleaning-on, cleaning-fits, cleaning-end, among-here, among-later, among-last, compatible-empty, compatible-ansi, compatible-iso, compatible-other, needs)
-
-pub ruleset escape = (escapes-null, escapes-tab, escapes-feed, escapes-return, escapes-quote, escapes-backslash, escapes-delete, escapes-below-9, escapes-below-13, escapes-short, escapes-long, escapes-plain, digit-low, digit-high, unicode-small, unicode-one, unicode-two, unicode-long, escaped-plain, escaped-letter, escaped-hex, quoted-printed, bytes-start, bytes-on, bytes-end, bytes-length, length-printed, needs)
 
 pub ruleset view = (name-seen, second-seen, encoding-seen, number-seen, size-seen, no-size-seen, id-seen, version-seen, needs)
 

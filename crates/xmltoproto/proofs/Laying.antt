@@ -6,7 +6,7 @@ use Rattle.texts.specs.Text.{ascii}
 use Rattle.printing.specs.Decimal.{decimal}
 use Rattle.printing.specs.Printed.{Printed}
 use Rattle.printing.proofs.Sequencing.{blank, _▸_}
-use Rattle.xmltoproto.specs.Escape.{quoted}
+use Rattle.escaping.specs.Escape.{quoted}
 use Rattle.xmltoproto.specs.Types.{noteOn}
 use Rattle.xmltoproto.specs.Source.{noteLine, bracketed}
 use Rattle.xmltoproto.specs.Shapes.{noteIn, wordIn, optionIn, lengthOption, encodingOption}

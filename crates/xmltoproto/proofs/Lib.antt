@@ -1,8 +1,5 @@
 -- Trials of the definitions, and the laws of the functions.
 pub mod Trials
-pub mod Cleaning
-pub mod Going
-pub mod Escaping
 pub mod Viewing
 pub mod Typing
 pub mod Laying

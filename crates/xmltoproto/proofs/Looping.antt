@@ -8,15 +8,15 @@ use native.Mathlib.Omega.{arith}
 use lib.ListN.{length}
 use borrow.Author.Tests.{eqb-true}
 use Rattle.texts.specs.Choice.{pick, _or_}
+use Rattle.texts.specs.Lists.{each, numbered, any}
 use Rattle.texts.proofs.Choosing.{both-true}
 use Rattle.printing.specs.Printed.{Printed}
 use Rattle.xmlschema.specs.Schema.{Item, Schema, positionsFrom, allOf, under, aMember, aRef}
 use Rattle.xmlschema.specs.Store.{found}
 use Rattle.xmlschema.specs.declared.items.Position.the-variants.{At, Nothing}
-use Rattle.xmltoproto.specs.Lists.{each, numbered, any}
 use Rattle.xmltoproto.specs.Arrays.{firstFrom}
 use Rattle.xmltoproto.specs.Parts.{Members}
-use Rattle.xmltoproto.proofs.Going.{Going, going-start, going-on, going-end}
+use Rattle.printing.proofs.Going.{Going, going-start, going-on, going-end}
 use Rattle.xmltoproto.proofs.Walking.{ofKind, underOwner, ahead, Next, Last, ahead-under, ahead-of}
 
 -- ---- f of each position of l

@@ -6,11 +6,11 @@ use mathlib.Core.List.{List, []}
 use Prim.Native.Nat.{ℕ}
 use native.Mathlib.Omega.{arith}
 use Rattle.refusals.specs.declared.Refusal.the-variants.{ArrayInComposite, ArrayInMessage}
+use Rattle.texts.specs.Lists.{any}
 use Rattle.xmlschema.specs.Schema.{Item, Schema, itemAt, allOf, under, aMember, aComposite, aMessage, aGroup, aField}
 use Rattle.xmlschema.specs.Store.{found}
 use Rattle.xmlschema.specs.declared.items.Position.{Position}
 use Rattle.xmlschema.specs.declared.items.Position.the-variants.{At, Nothing}
-use Rattle.xmltoproto.specs.Lists.{any}
 use Rattle.xmltoproto.specs.Types.{formOf, builtIn, isChar, isByte, isArray, meaning}
 use Rattle.xmltoproto.specs.Composites.{isPrinted}
 use Rattle.xmltoproto.specs.Arrays.{firstFrom, refusedComposite, isArrayType, holdsArray, refusedMessage, firstOf, arrayRefusal}

@@ -9,12 +9,12 @@ use lib.Dec.{eqb}
 use lib.ListN.{length, getD}
 use Rattle.texts.specs.Choice.{pick, _and_}
 use Rattle.texts.specs.Text.{ascii, same}
+use Rattle.texts.specs.Lists.{each, numbered}
 use Rattle.printing.specs.Decimal.{decimal}
 use Rattle.printing.specs.Printed.{Printed}
 use Rattle.printing.proofs.Sequencing.{blank, _▸_}
 use Rattle.names.specs.Conversions.{camelToSnake, camelToScreamingSnake, prefixOf, singularPascal}
 use Rattle.xmlschema.specs.Schema.{Item, Schema, noItem, itemAt, positionsFrom, allOf, under, aMember, aRef, aComposite, aValue, aGroup, aField}
-use Rattle.xmltoproto.specs.Lists.{each, numbered}
 use Rattle.xmltoproto.specs.Types.{formOf, builtIn, asNamed, protoOf, protoBy, Meaning, meaning}
 use Rattle.xmltoproto.specs.Composites.{isPrinted, printedComposites}
 use Rattle.xmltoproto.specs.Source.{packageLine, header, valueText, enumText, line, memberText, refText, partTexts, compositeText, fieldText, groupText, messageText}

@@ -7,16 +7,16 @@ use Prim.Native.Nat.{ℕ}
 use lib.ListN.{length}
 use Rattle.texts.specs.Text.{ascii, same, startsWith}
 use Rattle.texts.specs.Trim.{isBlank, trimmedFront, trimmedBack, trimmed}
+use Rattle.texts.specs.Lists.{each, numbered, any, among}
 use Rattle.classes.specs.Class.{isUpper, isLower}
 use Rattle.printing.specs.Decimal.{decimal, digits}
 use Rattle.printing.specs.Repeated.{upTo}
 use Rattle.names.specs.Letters.{lowered, raised}
 use Rattle.names.specs.Conversions.{camelToSnake, snakeAt, breaksSnake, camelToScreamingSnake, screamingAt, breaksScreaming, prefixOf, endsInIes, endsInS, singular, capitalized, singularPascal}
 use Rattle.refusals.specs.declared.Refusal.the-variants.{ArrayInComposite, ArrayInMessage}
+use Rattle.escaping.specs.Escape.{hex, escaped, quoted}
+use Rattle.charsets.specs.Charset.{isPunctuation, cleaned, compatible}
 use Rattle.xmlschema.specs.Schema.{Item, Schema, positionsFrom, allOf, under, last, lastNamed, aType, aMember, aRef, aComposite, anEnum, aValue, aMessage, aGroup, aField}
-use Rattle.xmltoproto.specs.Lists.{each, numbered, any, among}
-use Rattle.xmltoproto.specs.Charset.{isPunctuation, cleaned, compatible}
-use Rattle.xmltoproto.specs.Escape.{hex, escaped, quoted}
 use Rattle.xmltoproto.specs.Types.{formOf, builtIn, isChar, chars, isByte, isRaw, isArray, asNamed, ofLength, noteOn, narrow, asPrimitive, protoOf, isDeclared, meaning}
 use Rattle.xmltoproto.specs.Composites.{isPrinted, printedComposites}
 use Rattle.xmltoproto.specs.Source.{packageLine, header, valueText, enumText, noteLine, bracketed, line, memberText, refText, partTexts, compositeText, fieldText, groupText, messageText, source}

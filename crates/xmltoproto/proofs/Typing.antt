@@ -8,19 +8,19 @@ use native.Mathlib.Omega.{arith}
 use borrow.Author.Tests.{lt-ltb, le-ltb}
 use Rattle.texts.specs.Choice.{_or_}
 use Rattle.texts.specs.Text.{ascii, same}
+use Rattle.texts.specs.Lists.{isSome, among}
+use Rattle.texts.proofs.Among.{among-append}
+use Rattle.charsets.specs.Charset.{compatible}
 use Rattle.xmlschema.specs.Schema.{Schema, lastNamed, aType, aComposite, anEnum}
 use Rattle.xmlschema.specs.Store.{found}
 use Rattle.xmlschema.specs.declared.items.Position.{Position}
 use Rattle.xmlschema.specs.declared.items.Position.the-variants.{At, Nothing}
-use Rattle.xmltoproto.specs.Lists.{isSome, among}
-use Rattle.xmltoproto.specs.Charset.{compatible}
 use Rattle.xmltoproto.specs.Types.{builtIns, chars, isChar, isByte, isRaw, isArray, asNamed, ofLength, narrow, asPrimitive, protoOf, isDeclared, typeOr, meaning}
 use Rattle.xmltoproto.specs.Names.{signedNames, unsignedNames, otherPrimitives}
 use Rattle.xmltoproto.specs.Shapes.{form, protoIn, meaningIn}
 use Rattle.xmltoproto.specs.declared.types.Shape.{Shape}
 use Rattle.xmltoproto.specs.declared.types.Shape.the-variants as shape
 use Rattle.xmltoproto.specs.declared.types.Sense.the-variants as sense
-use Rattle.xmltoproto.proofs.Cleaning.{among-append}
 
 -- ---- lengths
 

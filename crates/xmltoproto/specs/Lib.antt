@@ -1,9 +1,5 @@
 -- The printed source of a schema, the array refusals and the converter.
-pub mod Lists
-pub mod Charset
 pub mod Names
-pub mod Escape
-pub mod Escaping
 pub mod Types
 pub mod Shapes
 pub mod Composites

@@ -4,9 +4,9 @@ use mathlib.Core.List.{List, _++_}
 use Prim.Native.Nat.{ℕ}
 use lib.ListN.{length}
 use Rattle.texts.specs.Text.{ascii}
+use Rattle.texts.specs.Lists.{each}
 use Rattle.names.specs.Conversions.{singularPascal}
 use Rattle.xmlschema.specs.Schema.{Schema, itemAt, under, aMember, aField}
-use Rattle.xmltoproto.specs.Lists.{each}
 use Rattle.xmltoproto.specs.Source.{fieldText}
 
 -- composite c has n members

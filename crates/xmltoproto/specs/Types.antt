@@ -6,11 +6,11 @@ use Prim.Native.Nat.{ℕ}
 use lib.Dec.{ltb}
 use Rattle.texts.specs.Choice.{pick, _or_, _and_}
 use Rattle.texts.specs.Text.{ascii, same}
+use Rattle.texts.specs.Lists.{isSome, among}
 use Rattle.printing.specs.Decimal.{decimal}
+use Rattle.escaping.specs.Escape.{quoted}
+use Rattle.charsets.specs.Charset.{compatible}
 use Rattle.xmlschema.specs.Schema.{Item, Schema, itemAt, lastNamed, aType, aComposite, anEnum}
-use Rattle.xmltoproto.specs.Lists.{isSome, among}
-use Rattle.xmltoproto.specs.Charset.{compatible}
-use Rattle.xmltoproto.specs.Escape.{quoted}
 
 abbrev pub builtIns : List (List ℕ)
 builtIns =

@@ -13,12 +13,12 @@ use xmlschema::items::VALUE;
 use xmlschema::items::count;
 use xmlschema::items::next_of;
 ghost use mathlib.Core.Path.{_≡_};
+ghost use Rattle.texts.specs.Lists.{each};
 ghost use Rattle.printing.specs.Printed.{Printed, past};
 ghost use Rattle.names.specs.Conversions.{prefixOf};
 ghost use Rattle.xmlschema.specs.Schema.{itemAt, under, allOf, anEnum, aValue};
 ghost use Rattle.index.specs.Index.{Indexed};
 ghost use Rattle.xmlschema.specs.Store.{schemaOf};
-ghost use Rattle.xmltoproto.specs.Lists.{each};
 ghost use Rattle.xmltoproto.specs.Source.{valueText, enumText};
 
 fn put_prefix(out: &mut [u8], at: usize, name: &[u8]) -> usize

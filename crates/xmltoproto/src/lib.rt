@@ -6,10 +6,8 @@
 // specs/Source.antt and then what stood there, or, after a refusal, what it held. The model is seen
 // through its accessors alone.
 pub mod arrays;
-pub mod charset;
 pub mod composites;
 mod enums;
-pub mod escape;
 mod line;
 mod messages;
 pub mod source;

@@ -1,6 +1,6 @@
 // One line of a message: its note, type, name, number and option.
-use crate::escape::put_quoted;
 use crate::types::Shape;
+use escaping::put_quoted;
 use names::convert::put_snake;
 use printing::put_bytes;
 use printing::put_decimal;

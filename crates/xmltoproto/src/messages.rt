@@ -20,11 +20,11 @@ use xmlschema::items::Model;
 use xmlschema::items::Position;
 use xmlschema::items::count;
 use xmlschema::items::next_of;
+ghost use Rattle.texts.specs.Lists.{each};
 ghost use Rattle.printing.specs.Printed.{Printed};
 ghost use Rattle.xmlschema.specs.Schema.{itemAt, under, allOf, aMessage, aGroup, aField};
 ghost use Rattle.index.specs.Index.{Indexed};
 ghost use Rattle.xmlschema.specs.Store.{schemaOf};
-ghost use Rattle.xmltoproto.specs.Lists.{each};
 ghost use Rattle.xmltoproto.specs.Source.{fieldText, groupText, messageText};
 ghost use Rattle.xmltoproto.specs.Parts.{groupHead};
 

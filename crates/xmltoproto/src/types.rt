@@ -1,5 +1,5 @@
 // How a type prints, and what a field's type name stands for.
-use crate::charset::is_compatible;
+use charsets::is_compatible;
 use index::hash_of;
 use index::named;
 use texts::equal;
@@ -11,9 +11,9 @@ use xmlschema::items::TYPE;
 ghost use mathlib.Core.Path.{_≡_};
 ghost use mathlib.Core.List.{List, []};
 ghost use Prim.Native.Nat.{ℕ};
+ghost use Rattle.texts.specs.Lists.{among};
 ghost use Rattle.index.specs.Index.{HashOf, Indexed};
 ghost use Rattle.xmlschema.specs.Store.{schemaOf};
-ghost use Rattle.xmltoproto.specs.Lists.{among};
 ghost use Rattle.xmltoproto.specs.Types.{builtIns, chars, isByte, isRaw, isArray, asPrimitive, protoOf, isDeclared, meaning};
 ghost use Rattle.xmltoproto.specs.Shapes.{form, protoIn, meaningIn};
 ghost use Rattle.xmltoproto.specs.Names.{signedNames, unsignedNames, otherPrimitives};

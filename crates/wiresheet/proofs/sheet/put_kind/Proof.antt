@@ -8,7 +8,7 @@ use Rattle.wiresheet.proofs.sheet.put_kind.Lts as lts
 use Rattle.printing.proofs.put_bytes.Reads as put-bytes-reads
 use Rattle.printing.proofs.put_decimal.Reads as put-decimal-reads
 use Rattle.texts.proofs.equal.Reads as equal-reads
-use Rattle.xmltoproto.proofs.charset.is_compatible.Reads as is-compatible-reads
+use Rattle.charsets.proofs.is_compatible.Reads as is-compatible-reads
 use Rattle.xmltoproto.proofs.types.chars_in.Reads as chars-in-reads
 use Rattle.xmltoproto.proofs.types.is_raw.Reads as is-raw-reads
 

@@ -4,7 +4,7 @@ use Rattle.xmltoproto.proofs.line.put_note.Tie as tie
 use Rattle.xmltoproto.proofs.line.put_note.Reads as reads
 use Rattle.xmltoproto.proofs.line.put_note.Lts as lts
 use Rattle.printing.proofs.put_bytes.Reads as put-bytes-reads
-use Rattle.xmltoproto.proofs.escape.put_quoted.Reads as put-quoted-reads
+use Rattle.escaping.proofs.put_quoted.Reads as put-quoted-reads
 
 -- src/line.rt:19:31
 enum-told : tie.Need-enum-told

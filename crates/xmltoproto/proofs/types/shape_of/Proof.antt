@@ -4,7 +4,7 @@ use Rattle.xmltoproto.proofs.types.shape_of.Tie as tie
 use Rattle.xmltoproto.proofs.types.shape_of.Reads as reads
 use Rattle.xmltoproto.proofs.types.shape_of.Lts as lts
 use Rattle.texts.proofs.equal.Reads as equal-reads
-use Rattle.xmltoproto.proofs.charset.is_compatible.Reads as is-compatible-reads
+use Rattle.charsets.proofs.is_compatible.Reads as is-compatible-reads
 use Rattle.xmltoproto.proofs.types.chars_in.Reads as chars-in-reads
 use Rattle.xmltoproto.proofs.types.is_raw.Reads as is-raw-reads
 use Rattle.xmltoproto.proofs.types.primitive_shape.Reads as primitive-shape-reads

@@ -1,0 +1,3 @@
+-- The laws of the charset test.
+pub mod Cleaning
+pub mod Laws

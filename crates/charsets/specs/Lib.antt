@@ -1,0 +1,3 @@
+-- Which character encodings are UTF-8 compatible.
+pub mod Charset
+pub mod Names

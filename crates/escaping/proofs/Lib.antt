@@ -1,0 +1,3 @@
+-- The laws of escaping.
+pub mod Escaping
+pub mod Laws
