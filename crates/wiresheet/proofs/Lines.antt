@@ -15,9 +15,9 @@ use Rattle.texts.proofs.Comparing.{same-equal}
 use Rattle.classes.specs.Class.{isUpper, isLower}
 use Rattle.printing.specs.Decimal.{decimal}
 use Rattle.escaping.specs.Escape.{quoted}
+use Rattle.numbers.specs.Numbers.{isDigit}
 use Rattle.xmltoproto.specs.Types.{Proto, builtIns, asNamed, ofLength, noteOn, narrow, asPrimitive}
 use Rattle.xmltoproto.specs.Source.{noteLine, bracketed, line}
-use Rattle.xmlschema.specs.Numbers.{isDigit}
 use Rattle.wiresheet.specs.Plain.{isLetter, isIdentifier, reserved}
 use Rattle.wiresheet.specs.Sheet.{Kind, single, text, textIn, raw, named}
 use Rattle.wiresheet.proofs.Splitting.{Splits, done, seq, lit, gives, apart, token, stops, _▹_}

@@ -11,7 +11,7 @@ use Rattle.texts.specs.Lists.{all}
 use Rattle.texts.proofs.Choosing.{by-test, and-left, and-right}
 use Rattle.printing.specs.Decimal.{decimal}
 use Rattle.printing.proofs.Decimals.{decimal-one, decimal-more}
-use Rattle.xmlschema.specs.Numbers.{isDigit}
+use Rattle.numbers.specs.Numbers.{isDigit}
 use Rattle.wiresheet.proofs.Splitting.{Splits, token, stops}
 
 pub and-both : (a b : Bool) → T a → T b → T (a and b)

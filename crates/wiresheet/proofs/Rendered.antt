@@ -6,7 +6,7 @@ use native.Mathlib.Omega.{arith}
 use Rattle.texts.specs.Text.{ascii, same}
 use Rattle.texts.specs.Lists.{each, numbered, all, Every, among}
 use Rattle.names.specs.Conversions.{prefixOf}
-use Rattle.xmlschema.specs.Numbers.{isDigit}
+use Rattle.numbers.specs.Numbers.{isDigit}
 use Rattle.xmltoproto.specs.Source.{packageLine}
 use Rattle.wiresheet.specs.Sheet.{Value, Enum, Part, Composite, Field, Group, Message, Sheet}
 use Rattle.wiresheet.proofs.Splitting.{Splits, done, lit, gives, flip, clash, apart, token, counted, listed, _▹_}

@@ -9,10 +9,10 @@ use Rattle.printing.specs.Repeated.{upTo}
 use Rattle.names.specs.Letters.{lowered, raised}
 use Rattle.names.specs.Conversions.{camelToSnake, snakeAt, breaksSnake, camelToScreamingSnake, screamingAt, breaksScreaming, endsInIes, endsInS, singular, capitalized, singularPascal}
 use Rattle.charsets.specs.Charset.{isPunctuation, cleaned, compatible}
+use Rattle.numbers.specs.Numbers.{isDigit}
 use Rattle.xmlschema.specs.Schema.{positionsFrom, allOf, under, last, lastNamed}
 use Rattle.xmltoproto.specs.Types.{formOf, builtIn, isChar, chars, isByte, isRaw, isDeclared, meaning}
 use Rattle.xmltoproto.specs.Composites.{isPrinted, printedComposites}
-use Rattle.xmlschema.specs.Numbers.{isDigit}
 use Rattle.wiresheet.specs.Plain.{isLetter, isNameByte, isIdentifier, isDotted, isPackage, isDigits, isInteger, Plain}
 use Rattle.wiresheet.specs.Sheet.{kindOf, valueOf, enumOf, memberOf, refOf, compositeOf, fieldOf, groupOf, messageOf, sheet, shown, kindShown, enumShown, compositeShown, fieldShown, groupShown, messageShown, sheetLines}
 use Rattle.xmltoproto.proofs.Trials.{full}

@@ -7,7 +7,7 @@ use Rattle.texts.specs.Choice.{_or_, _and_}
 use Rattle.texts.specs.Text.{ascii}
 use Rattle.texts.specs.Lists.{isEmpty, all, Every, among}
 use Rattle.classes.specs.Class.{isUpper, isLower}
-use Rattle.xmlschema.specs.Numbers.{isDigit}
+use Rattle.numbers.specs.Numbers.{isDigit}
 use Rattle.xmlschema.specs.Schema.{Item, Schema, itemAt, allOf, under, aMember, aRef, aComposite, anEnum, aValue, aMessage, aGroup, aField}
 use Rattle.xmltoproto.specs.Types.{Meaning, declared, typed, unknown, builtIns, isDeclared, meaning}
 use Rattle.xmltoproto.specs.Composites.{printedComposites}

@@ -22,12 +22,12 @@ use Rattle.saxlite.specs.declared.entities.Decoded.the-variants.{Written, NoRoo
 use Rattle.saxlite.proofs.Decoding.{decoded-length}
 use Rattle.xmlschema.specs.Schema.{Item, Schema, noItem, itemAt, under, last, positionsFrom, aValue}
 use Rattle.xmlschema.specs.Search.{lastUnder}
-use Rattle.xmlschema.specs.Elements.{elementOf}
 use Rattle.xmlschema.specs.Builder.{Builder, Outcome, on, refused, withStack, withText, withSchema, withItems, withSecond, givenTo, valueOfEnum, closeValue, closeBy, closed, collect, top, rest, nowComposite, nowEnum, nowMessage, nowGroup}
 use Rattle.xmlschema.specs.Store.{entryAt, wordsOf, itemOf, itemsOf, schemaOf, found}
 use Rattle.xmlschema.specs.Layout.{current, modelIn, builderOf, stackOf, recurrent, valued, givenAt, higher, Alike, Kept, Ready, After, usedBy}
-use Rattle.xmlschema.specs.declared.elements.Element.{Element}
-use Rattle.xmlschema.specs.declared.elements.Element.the-variants as element
+use Rattle.elements.specs.Elements.{elementOf}
+use Rattle.elements.specs.declared.Element.{Element}
+use Rattle.elements.specs.declared.Element.the-variants as element
 use Rattle.xmlschema.specs.declared.items.Entry.{Entry}
 use Rattle.xmlschema.specs.declared.items.Position.{Position}
 use Rattle.xmlschema.specs.declared.items.Position.the-variants.{At, Nothing}

@@ -18,18 +18,18 @@ use Rattle.saxlite.specs.declared.tag.Found.{Found}
 use Rattle.saxlite.specs.Attributes.{attributeAt, rawLength}
 use Rattle.saxlite.specs.Event.{valueIn}
 use Rattle.xmlschema.specs.Schema.{Item, Schema, noItem, itemAt}
-use Rattle.xmlschema.specs.Numbers.{numberOf, parsed}
-use Rattle.xmlschema.specs.Elements.{elementOf}
 use Rattle.xmlschema.specs.Builder.{Builder, Outcome, on, refused, Attributes, numberIn, textIn, orEmpty, withSchema, openSchema, openType, openRef, openComposite, openEnum, openValue, openMessage, openGroup, openField, openBy, opened, top, withStack}
 use Rattle.xmlschema.specs.Whole.{attributesIn}
 use Rattle.xmlschema.specs.Store.{entryAt, itemOf, itemsOf, schemaOf}
 use Rattle.xmlschema.specs.Layout.{modelIn, builderOf, stackOf, deeper, pushed, Alike, Kept, Ready, Tagged, After, usedBy}
 use Rattle.xmlschema.specs.Taking.{TakenAt, ReadAt}
-use Rattle.xmlschema.specs.declared.elements.Element.{Element}
-use Rattle.xmlschema.specs.declared.elements.Element.the-variants as element
+use Rattle.elements.specs.Elements.{elementOf}
+use Rattle.elements.specs.declared.Element.{Element}
+use Rattle.elements.specs.declared.Element.the-variants as element
 use Rattle.xmlschema.specs.declared.items.Entry.{Entry}
-use Rattle.xmlschema.specs.declared.numbers.Number.{Number}
-use Rattle.xmlschema.specs.declared.numbers.Number.the-variants as number
+use Rattle.numbers.specs.Numbers.{numberOf, parsed}
+use Rattle.numbers.specs.declared.Number.{Number}
+use Rattle.numbers.specs.declared.Number.the-variants as number
 use Rattle.xmlschema.specs.declared.state.Limits.{Limits}
 use Rattle.xmlschema.specs.declared.state.State.{State}
 use Rattle.xmlschema.specs.declared.state.Stepped.{Stepped}

@@ -2,10 +2,6 @@
 pub mod Records
 pub mod Searching
 pub mod Showing
-pub mod Numbering
-pub mod Naming
-pub mod Leaves
-pub mod Trials
 pub mod Alikes
 pub mod Takes
 pub mod Stacking

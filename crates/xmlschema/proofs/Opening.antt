@@ -18,18 +18,18 @@ use Rattle.saxlite.specs.Attributes.{attributeAt, rawLength, rawLengths}
 use Rattle.saxlite.specs.Event.{valueIn}
 use Rattle.saxlite.proofs.Ranges.{different}
 use Rattle.xmlschema.specs.Schema.{Item, Schema, itemAt, aType, aMember, aRef, aComposite, anEnum, aValue, aMessage, aGroup, aField}
-use Rattle.xmlschema.specs.Numbers.{numberOf, parsed}
-use Rattle.xmlschema.specs.Elements.{elementOf}
 use Rattle.xmlschema.specs.Builder.{Builder, Outcome, on, refused, added, andThen, plainItem, typeItem, textIn, orEmpty, openSchema, openType, openRef, openComposite, openEnum, openValue, openMessage, openGroup, openField, openBy, opened, top, Attributes, numberIn, nowComposite, nowEnum, nowMessage, nowGroup, withText, nextPosition}
 use Rattle.xmlschema.specs.Whole.{attributesIn}
 use Rattle.xmlschema.specs.Store.{entryAt, itemOf, itemsOf, schemaOf}
 use Rattle.xmlschema.specs.Layout.{current, modelIn, builderOf, stackOf, deeper, pushed, recurrent, Alike, Kept, Ready, Tagged, After, Added, usedBy}
 use Rattle.xmlschema.specs.Taking.{TakenAt, ReadAt, typeItemOf, typeLength}
-use Rattle.xmlschema.specs.declared.elements.Element.{Element}
-use Rattle.xmlschema.specs.declared.elements.Element.the-variants as element
+use Rattle.elements.specs.Elements.{elementOf}
+use Rattle.elements.specs.declared.Element.{Element}
+use Rattle.elements.specs.declared.Element.the-variants as element
 use Rattle.xmlschema.specs.declared.items.Entry.{Entry}
-use Rattle.xmlschema.specs.declared.numbers.Number.{Number}
-use Rattle.xmlschema.specs.declared.numbers.Number.the-variants as number
+use Rattle.numbers.specs.Numbers.{numberOf, parsed}
+use Rattle.numbers.specs.declared.Number.{Number}
+use Rattle.numbers.specs.declared.Number.the-variants as number
 use Rattle.xmlschema.specs.declared.items.Head.{Head}
 use Rattle.xmlschema.specs.declared.state.Place.{Place}
 use Rattle.xmlschema.specs.declared.state.Current.{Current}

@@ -18,14 +18,14 @@ use Rattle.saxlite.specs.Entities.{decoded, DecodedInto}
 use Rattle.saxlite.specs.Attributes.{rawLength}
 use Rattle.saxlite.specs.Event.{valueIn}
 use Rattle.saxlite.proofs.Decoding.{decoded-fits, decoded-length}
-use Rattle.xmlschema.specs.Numbers.{numberOf, parsed}
 use Rattle.xmlschema.specs.Builder.{orEmpty, isGiven, plainItem}
 use Rattle.xmlschema.specs.Store.{itemOf}
 use Rattle.xmlschema.specs.Layout.{Alike, Steady}
 use Rattle.xmlschema.specs.Taking.{TakenAt, ReadAt, Made, typeItemOf, typeLength}
 use Rattle.xmlschema.specs.declared.items.Entry.{Entry}
-use Rattle.xmlschema.specs.declared.numbers.Number.{Number}
-use Rattle.xmlschema.specs.declared.numbers.Number.the-variants as number
+use Rattle.numbers.specs.Numbers.{numberOf, parsed}
+use Rattle.numbers.specs.declared.Number.{Number}
+use Rattle.numbers.specs.declared.Number.the-variants as number
 use Rattle.xmlschema.specs.declared.take.Taken.{Taken}
 use Rattle.xmlschema.proofs.Alikes.{alike-self, alike-sets, alike-wider, alike-lower, alike-trans}
 

@@ -11,11 +11,11 @@ use Rattle.texts.specs.Text.{ascii, same}
 use Rattle.texts.specs.Trim.{trimmed}
 use Rattle.refusals.specs.declared.Refusal.{Refusal}
 use Rattle.refusals.specs.declared.Refusal.the-variants.{WrongClose, BadNumber, MisplacedField, TooDeep, TooManyItems}
+use Rattle.numbers.specs.Numbers.{numberOf}
 use Rattle.xmlschema.specs.Schema.{Item, Schema, itemAt, under, last, aType, aMember, aRef, aComposite, anEnum, aValue, aMessage, aGroup, aField}
-use Rattle.xmlschema.specs.Numbers.{numberOf}
-use Rattle.xmlschema.specs.Elements.{elementOf}
-use Rattle.xmlschema.specs.declared.elements.Element.{Element}
-use Rattle.xmlschema.specs.declared.elements.Element.the-variants as element
+use Rattle.elements.specs.Elements.{elementOf}
+use Rattle.elements.specs.declared.Element.{Element}
+use Rattle.elements.specs.declared.Element.the-variants as element
 use Rattle.xmlschema.specs.declared.state.Limits.{Limits}
 
 -- the current composite, enum, message and group, by position among the items; each may be none

@@ -1,8 +1,6 @@
--- The model of a schema, and how a document is read into it. A customer reads Schema, Numbers, Elements, Builder and Whole; the
+-- The model of a schema, and how a document is read into it. A customer reads Schema, Builder and Whole; the
 -- others say how the model lies in its buffers.
 pub mod Schema
-pub mod Numbers
-pub mod Elements
 pub mod Builder
 pub mod Whole
 pub mod Search

@@ -9,8 +9,8 @@ use Rattle.saxlite.specs.declared.tag.Noted.{Noted}
 use Rattle.saxlite.specs.Attributes.{rawLength}
 use Rattle.saxlite.specs.Event.{valueIn}
 use Rattle.xmlschema.specs.Schema.{Item}
-use Rattle.xmlschema.specs.Numbers.{numberOf, parsed}
-use Rattle.xmlschema.specs.declared.numbers.Number.{Number}
+use Rattle.numbers.specs.Numbers.{numberOf, parsed}
+use Rattle.numbers.specs.declared.Number.{Number}
 use Rattle.xmlschema.specs.Builder.{orEmpty, isGiven}
 use Rattle.xmlschema.specs.Store.{itemOf}
 use Rattle.xmlschema.specs.Layout.{Alike, Steady}

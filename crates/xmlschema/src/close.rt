@@ -1,6 +1,4 @@
 // What closing an element and collecting text make of the builder.
-use crate::elements::Element;
-use crate::elements::element_of;
 use crate::items::Entry;
 use crate::items::Position;
 use crate::items::VALUE;
@@ -14,6 +12,8 @@ use crate::state::Place;
 use crate::state::State;
 use crate::state::Stepped;
 use crate::state::Verdict;
+use elements::Element;
+use elements::element_of;
 use refusals::Refusal;
 use saxlite::entities::Decoded;
 use saxlite::entities::decode;

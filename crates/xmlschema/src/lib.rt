@@ -7,9 +7,7 @@
 // stands for (specs/Schema.antt, `schemaOf` of specs/Store.antt).
 pub mod build;
 pub mod close;
-pub mod elements;
 pub mod items;
-pub mod numbers;
 pub mod open;
 pub mod stack;
 pub mod state;

@@ -2,14 +2,11 @@
 //
 // Each `requires` is met by the driver: the state is kept, and the tag's texts have room. Each
 // promise is one equation with the definition of the same name in specs/Builder.antt.
-use crate::elements::Element;
-use crate::elements::element_of;
 use crate::items;
 use crate::items::Entry;
 use crate::items::Head;
 use crate::items::entry_at;
 use crate::items::put_entry;
-use crate::numbers::Number;
 use crate::stack::push;
 use crate::stack::top_name;
 use crate::state::Current;
@@ -27,6 +24,9 @@ use crate::take::take_value;
 use crate::take::type_attributes;
 use crate::take::type_entry;
 use crate::take::typed_entry;
+use elements::Element;
+use elements::element_of;
+use numbers::Number;
 use refusals::Refusal;
 use saxlite::tag::Found;
 use saxlite::tag::Noted;

@@ -1,7 +1,7 @@
 // Attribute values taken into the text buffer, from its top downwards; numbers read on the way.
 use crate::items::Entry;
-use crate::numbers::Number;
-use crate::numbers::number_of;
+use numbers::Number;
+use numbers::number_of;
 use saxlite::entities::Decoded;
 use saxlite::entities::decode;
 use saxlite::tag::Found;

@@ -8,59 +8,59 @@ use Rattle.printing.proofs.put_byte.Reads as put-byte-reads
 use Rattle.printing.proofs.put_bytes.Reads as put-bytes-reads
 use Rattle.escaping.proofs.hex_digit.Reads as hex-digit-reads
 
--- src/lib.rt:97:32
+-- src/lib.rt:99:32
 slice-aggregate-put-bytes : tie.Need-slice-aggregate-put-bytes
 slice-aggregate-put-bytes c = search laws
 
--- src/lib.rt:97:9
+-- src/lib.rt:99:9
 put-bytes-requires : tie.Need-put-bytes-requires
 put-bytes-requires c κs = search laws
 
--- src/lib.rt:99:34
+-- src/lib.rt:101:34
 hex-digit-requires : tie.Need-hex-digit-requires
 hex-digit-requires c κs = search laws
 
--- src/lib.rt:99:13
+-- src/lib.rt:101:13
 put-byte-requires : tie.Need-put-byte-requires
 put-byte-requires c κs = search laws
 
--- src/lib.rt:100:9
+-- src/lib.rt:102:9
 put-byte-requires-2 : tie.Need-put-byte-requires-2
 put-byte-requires-2 c κs = search laws
 
--- src/lib.rt:100:9
+-- src/lib.rt:102:9
 same-length : tie.Need-same-length
 same-length c = search laws
 
--- src/lib.rt:100:9
+-- src/lib.rt:102:9
 returns : tie.Need-returns
 returns c = search laws
 
--- src/lib.rt:102:30
+-- src/lib.rt:104:30
 hex-digit-requires-2 : tie.Need-hex-digit-requires-2
 hex-digit-requires-2 c κs = search laws
 
--- src/lib.rt:102:9
+-- src/lib.rt:104:9
 put-byte-requires-3 : tie.Need-put-byte-requires-3
 put-byte-requires-3 c κs = search laws
 
--- src/lib.rt:103:30
+-- src/lib.rt:105:30
 hex-digit-requires-3 : tie.Need-hex-digit-requires-3
 hex-digit-requires-3 c κs = search laws
 
--- src/lib.rt:103:9
+-- src/lib.rt:105:9
 put-byte-requires-4 : tie.Need-put-byte-requires-4
 put-byte-requires-4 c κs = search laws
 
--- src/lib.rt:104:5
+-- src/lib.rt:106:5
 put-byte-requires-5 : tie.Need-put-byte-requires-5
 put-byte-requires-5 c κs = search laws
 
--- src/lib.rt:93:1
+-- src/lib.rt:95:1
 same-length-2 : tie.Need-same-length-2
 same-length-2 c = search laws
 
--- src/lib.rt:93:1
+-- src/lib.rt:95:1
 returns-2 : tie.Need-returns-2
 returns-2 c =
     let at-put-byte5 = c .before .before in

@@ -6,7 +6,7 @@ use Rattle.xmlschema.proofs.close.on_close.Lts as lts
 use Rattle.texts.proofs.equal.Reads as equal-reads
 use Rattle.texts.proofs.part.Reads as part-reads
 use Rattle.xmlschema.proofs.close.close_by.Reads as close-by-reads
-use Rattle.xmlschema.proofs.elements.element_of.Reads as element-of-reads
+use Rattle.elements.proofs.element_of.Reads as element-of-reads
 use Rattle.xmlschema.proofs.stack.pop.Reads as pop-reads
 use Rattle.xmlschema.proofs.stack.top_name.Reads as top-name-reads
 

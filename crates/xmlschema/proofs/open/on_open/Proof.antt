@@ -5,7 +5,7 @@ use Rattle.xmlschema.proofs.open.on_open.Reads as reads
 use Rattle.xmlschema.proofs.open.on_open.Lts as lts
 use Rattle.texts.proofs.equal.Reads as equal-reads
 use Rattle.texts.proofs.part.Reads as part-reads
-use Rattle.xmlschema.proofs.elements.element_of.Reads as element-of-reads
+use Rattle.elements.proofs.element_of.Reads as element-of-reads
 use Rattle.xmlschema.proofs.open.open_by.Reads as open-by-reads
 use Rattle.xmlschema.proofs.open.refuse.Reads as refuse-reads
 use Rattle.xmlschema.proofs.stack.push.Reads as push-reads

@@ -5,8 +5,8 @@ use mathlib.Core.Option.{Option, none, some}
 use Prim.Native.Nat.{ℕ, _+_, _-_, _*_}
 use lib.Dec.{eqb, leb}
 use Rattle.texts.specs.Choice.{pick, _and_}
-use Rattle.xmlschema.specs.declared.numbers.Number.{Number}
-use Rattle.xmlschema.specs.declared.numbers.Number.the-variants.{Value, Bad}
+use Rattle.numbers.specs.declared.Number.{Number}
+use Rattle.numbers.specs.declared.Number.the-variants.{Value, Bad}
 
 -- '0' to '9'
 unfoldable pub isDigit : ℕ → Bool

@@ -3,8 +3,8 @@ use mathlib.Core.List.{List}
 use Prim.Native.Nat.{ℕ}
 use Rattle.texts.specs.Choice.{pick}
 use Rattle.texts.specs.Text.{ascii, same}
-use Rattle.xmlschema.specs.declared.elements.Element.{Element}
-use Rattle.xmlschema.specs.declared.elements.Element.the-variants.{MessageSchema, «Type», Ref, Composite, Enum, ValidValue, Message, Group, Field, Other}
+use Rattle.elements.specs.declared.Element.{Element}
+use Rattle.elements.specs.declared.Element.the-variants.{MessageSchema, «Type», Ref, Composite, Enum, ValidValue, Message, Group, Field, Other}
 
 -- the second half of the list
 unfoldable pub otherElementOf : List ℕ → Element

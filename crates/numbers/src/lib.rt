@@ -1,8 +1,11 @@
 // Numbers of attributes.
+//
+// `number_of` promises `numberOf` of specs/Numbers.antt for every text: empty is 0; else an optional `+` and
+// digits, at most 4294967295.
 use texts::part;
 ghost use mathlib.Core.Path.{_≡_};
 ghost use mathlib.Core.Option.{some};
-ghost use Rattle.xmlschema.specs.Numbers.{digitsOf, numberOf, parsed};
+ghost use Rattle.numbers.specs.Numbers.{digitsOf, numberOf, parsed};
 
 pub enum Number {
     Value(u32),

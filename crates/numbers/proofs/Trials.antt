@@ -2,7 +2,7 @@
 use mathlib.Core.Path.{_≡_, refl}
 use mathlib.Core.Option.{none, some}
 use Rattle.texts.specs.Text.{ascii}
-use Rattle.xmlschema.specs.Numbers.{isDigit, allDigits, valueFrom, boundedFrom, digitsOf, unsigned, numberOf}
+use Rattle.numbers.specs.Numbers.{isDigit, allDigits, valueFrom, boundedFrom, digitsOf, unsigned, numberOf}
 
 pub trials :
     (numberOf none ≡ some 0)

@@ -12,9 +12,9 @@ use lib.Seq.{drop-cons, take-all}
 use borrow.Author.Tests.{le-leb, lt-leb, eq-eqb, ne-eqb}
 use Rattle.texts.specs.Choice.{pick, _and_}
 use Rattle.texts.specs.Text.{piece}
-use Rattle.xmlschema.specs.Numbers.{isDigit, allDigits, valueFrom, boundedFrom, digitsOf, unsigned, numberOf, parsed}
-use Rattle.xmlschema.specs.declared.numbers.Number.{Number}
-use Rattle.xmlschema.specs.declared.numbers.Number.the-variants.{Value, Bad}
+use Rattle.numbers.specs.Numbers.{isDigit, allDigits, valueFrom, boundedFrom, digitsOf, unsigned, numberOf, parsed}
+use Rattle.numbers.specs.declared.Number.{Number}
+use Rattle.numbers.specs.declared.Number.the-variants.{Value, Bad}
 
 -- ---- a digit
 

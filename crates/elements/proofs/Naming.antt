@@ -1,13 +1,13 @@
 -- Laws of the elements' names: a, b, .. are what the comparisons say, in their order.
 use mathlib.Core.Path.{_≡_, refl, sym, _∙_}
 use mathlib.Core.Bool.{Bool, true, false}
-use mathlib.Core.List.{List, []}
+use mathlib.Core.List.{List}
 use Prim.Native.Nat.{ℕ}
 use Rattle.texts.specs.Choice.{pick}
 use Rattle.texts.specs.Text.{ascii, same}
-use Rattle.xmlschema.specs.Elements.{elementOf, otherElementOf}
-use Rattle.xmlschema.specs.declared.elements.Element.{Element}
-use Rattle.xmlschema.specs.declared.elements.Element.the-variants.{MessageSchema, «Type», Ref, Composite, Enum, ValidValue, Message, Group, Field, Other}
+use Rattle.elements.specs.Elements.{elementOf, otherElementOf}
+use Rattle.elements.specs.declared.Element.{Element}
+use Rattle.elements.specs.declared.Element.the-variants.{MessageSchema, «Type», Ref, Composite, Enum, ValidValue, Message, Group, Field, Other}
 
 module _ (name : List ℕ) {a : Bool} (ea : a ≡ same name (ascii "messageSchema")) where
   pub is-schema : a ≡ true → MessageSchema ≡ elementOf name
@@ -61,8 +61,3 @@ module _ (name : List ℕ) {a : Bool} (ea : a ≡ same name (ascii "validValue")
         pub is-other : d ≡ false → Other ≡ otherElementOf name
         unfolding otherElementOf
         is-other t = rw (← ea, fa, ← eb, fb, ← ec, fc, ← ed, t)
-
--- the name that an empty stack gives
-pub element-none : elementOf [] ≡ Other
-unfolding elementOf otherElementOf same
-element-none = refl

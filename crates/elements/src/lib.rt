@@ -1,7 +1,9 @@
 // The elements that the builder knows.
+//
+// `element_of` promises `elementOf` of specs/Elements.antt for every name.
 use texts::equal;
 ghost use mathlib.Core.Path.{_≡_};
-ghost use Rattle.xmlschema.specs.Elements.{elementOf, otherElementOf};
+ghost use Rattle.elements.specs.Elements.{elementOf, otherElementOf};
 
 pub enum Element {
     MessageSchema,

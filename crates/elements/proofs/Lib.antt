@@ -1,0 +1,3 @@
+-- The laws of the elements' names.
+pub mod Naming
+pub mod Laws

@@ -1,0 +1,2 @@
+-- What a numeric attribute's text says.
+pub mod Numbers
