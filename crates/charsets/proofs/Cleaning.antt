@@ -1,23 +1,26 @@
--- Laws of the charset test: the cleaned encoding is compared with a name, both from the front.
+-- Laws of the charset test: punctuation, one byte and eight at once; the letters that are left; the names.
 use mathlib.Core.Path.{_≡_, refl, sym, ap, _∙_}
 use mathlib.Core.Bool.{Bool, true, false}
-use mathlib.Core.List.{List, [], _∷_, _++_}
+use mathlib.Core.List.{List, [], _∷_, _++_, append-assoc, append-nil}
 use Prim.Native.Nat.{ℕ, suc, _+_, _≤_, _<_}
 use native.Mathlib.Numerals.{add-one}
 use native.Mathlib.Omega.{arith}
-use lib.Dec.{leb}
-use lib.ListN.{length, drop, getD, drop-of-length-le}
-use lib.Seq.{drop-cons}
-use borrow.Author.Tests.{eq-eqb, ne-eqb}
-use Rattle.texts.specs.Choice.{_or_}
-use Rattle.texts.specs.Text.{same}
+use lib.Bits.{bitAnd, bitOr, or-add-and, and-le-l, and-le-r}
+use lib.Dec.{eqb, leb, T}
+use lib.ListN.{length, take, drop, getD, set, length-append, length-set, drop-of-length-le}
+use lib.Seq.{drop-cons, take-suc, take-set-le, length-take-le, getD-set-same}
+use borrow.Author.Tests.{eq-eqb, ne-eqb, leb-true}
+use Rattle.texts.specs.Choice.{pick, _or_, _and_}
+use Rattle.texts.specs.Text.{piece}
 use Rattle.texts.specs.Lists.{isEmpty, among}
 use Rattle.texts.specs.Trim.{trimmed}
 use Rattle.texts.proofs.Among.{among-append}
-use Rattle.texts.proofs.Choosing.{by-test}
+use Rattle.texts.proofs.Choosing.{by-test, is-true, and-left, and-right}
+use Rattle.texts.proofs.Comparing.{same-lengths}
 use Rattle.names.specs.Letters.{lowered}
-use Rattle.charsets.specs.Charset.{isPunctuation, cleaned, compatible}
-use Rattle.charsets.specs.Names.{ansiNames, isoNames, otherNames}
+use Rattle.charsets.specs.Charset.{isPunctuation, cleaned, charsets, compatible}
+use Rattle.charsets.specs.Names.{ansiNames, isoNames, otherNames, isName}
+use Rattle.charsets.specs.Letters.{Marks, Passed, Letters}
 
 -- ---- a byte
 
@@ -46,7 +49,33 @@ module _ (b : ℕ) where
   unfolding isPunctuation
   mark-none h u d c s = rw (ne-eqb b 45 h, ne-eqb b 95 u, ne-eqb b 46 d, ne-eqb b 58 c, ne-eqb b 32 s)
 
--- ---- one name
+module _ (a b : ℕ) where
+  pub one-yes : a ≡ b → _≡_ {A = ℕ} 1 (pick (eqb a b) 1 0)
+  one-yes e = rw (eq-eqb a b e)
+
+  pub one-no : (a ≡ b → ⊥) → _≡_ {A = ℕ} 0 (pick (eqb a b) 1 0)
+  one-no n = rw (ne-eqb a b n)
+
+pub marks : (b : ℕ) {v w x y z : ℕ} → v ≡ pick (eqb b 45) 1 0 → w ≡ pick (eqb b 95) 1 0 → x ≡ pick (eqb b 46) 1 0 → y ≡ pick (eqb b 58) 1 0 → z ≡ pick (eqb b 32) 1 0
+    → Marks b (bitOr (bitOr (bitOr (bitOr v w) x) y) z)
+unfolding isPunctuation
+marks b {v} {w} {x} {y} {z} ev ew ex ey ez =
+    record {
+      is = λ h.
+          by-test (eqb b 45) (λ t. rw t) (λ f.
+          by-test (eqb b 95) (λ t. rw (f, t)) (λ g.
+          by-test (eqb b 46) (λ t. rw (f, g, t)) (λ k.
+          by-test (eqb b 58) (λ t. rw (f, g, k, t)) (λ l.
+          by-test (eqb b 32) (λ t. rw (f, g, k, l, t)) (λ m.
+          let v₀ : v ≡ 0 = ev ∙ rw f in
+          let w₀ : w ≡ 0 = ew ∙ rw g in
+          let x₀ : x ≡ 0 = ex ∙ rw k in
+          let y₀ : y ≡ 0 = ey ∙ rw l in
+          let z₀ : z ≡ 0 = ez ∙ rw m in
+          absurd (omega (arith, or-add-and v w, or-add-and (bitOr v w) x, or-add-and (bitOr (bitOr v w) x) y, or-add-and (bitOr (bitOr (bitOr v w) x) y) z)))))));
+    }
+
+-- ---- punctuation is passed
 
 clean-mark : (b : ℕ) (s : List ℕ) → isPunctuation b ≡ true → cleaned (b ∷ s) ≡ cleaned s
 unfolding cleaned
@@ -56,83 +85,137 @@ clean-kept : (b : ℕ) (s : List ℕ) → isPunctuation b ≡ false → cleaned 
 unfolding cleaned
 clean-kept b s t = rw t
 
-same-yes : (x y : ℕ) (xs ys : List ℕ) → x ≡ y → same (x ∷ xs) (y ∷ ys) ≡ same xs ys
-unfolding same
-same-yes x y xs ys e = rw (eq-eqb x y e, same)
+clean-on : (s : List ℕ) (i : ℕ) → i < length s → isPunctuation (getD s i 0) ≡ true → cleaned (drop (i + 1) s) ≡ cleaned (drop i s)
+clean-on s i h t = rw (add-one, drop-cons s i 0) (sym (clean-mark (getD s i 0) (drop (suc i) s) t))
 
-same-no : (x y : ℕ) (xs ys : List ℕ) → (x ≡ y → ⊥) → same (x ∷ xs) (y ∷ ys) ≡ false
-unfolding same
-same-no x y xs ys e = rw (ne-eqb x y e, same)
+and-both : (a b : ℕ) → 1 ≤ bitAnd a b → (1 ≤ a) × (1 ≤ b)
+and-both a b h = (omega (arith, and-le-l a b), omega (arith, and-le-r a b))
 
--- a loop that compares the cleaned s with the name w stands at i in s and at j in w
-pub record Cleaning (s w : List ℕ) (i j : ℕ) : Type 0 where
-  pub rest : same (cleaned (drop i s)) (drop j w) ≡ same (cleaned s) w
-  pub behind : j ≤ i
+module _ (s : List ℕ) (i : ℕ) (h : i + 8 ≤ length s) where
+  next : (k : ℕ) → k < 8 → {m : ℕ} → Marks (getD s (i + k) 0) m → 1 ≤ m → cleaned (drop (i + suc k) s) ≡ cleaned (drop (i + k) s)
+  next k l m b =
+      let e : i + k + 1 ≡ i + suc k = omega arith in
+      rw e at (clean-on s (i + k) (omega arith) (m .is b))
 
-pub cleaning-start : {s w : List ℕ} → Cleaning s w 0 0
-cleaning-start = record { rest = refl; behind = omega arith }
+  pub eight-passed : {a b c d e f g j : ℕ}
+      → Marks (getD s i 0) a → Marks (getD s (i + 1) 0) b → Marks (getD s (i + 2) 0) c → Marks (getD s (i + 3) 0) d
+      → Marks (getD s (i + 4) 0) e → Marks (getD s (i + 5) 0) f → Marks (getD s (i + 6) 0) g → Marks (getD s (i + 7) 0) j
+      → bitAnd (bitAnd (bitAnd (bitAnd a b) (bitAnd c d)) (bitAnd e f)) (bitAnd g j) ≡ 1 → cleaned (drop (i + 8) s) ≡ cleaned (drop i s)
+  eight-passed {a} {b} {c} {d} {e} {f} {g} {j} ma mb mc md me mf mg mj all =
+      let most = and-both (bitAnd (bitAnd (bitAnd a b) (bitAnd c d)) (bitAnd e f)) (bitAnd g j) (omega arith) in
+      let more = and-both (bitAnd (bitAnd a b) (bitAnd c d)) (bitAnd e f) (most .0) in
+      let some = and-both (bitAnd a b) (bitAnd c d) (more .0) in
+      let ab = and-both a b (some .0) in
+      let cd = and-both c d (some .1) in
+      let ef = and-both e f (more .1) in
+      let gj = and-both g j (most .1) in
+      next 7 (omega arith) mj (gj .1) ∙ next 6 (omega arith) mg (gj .0) ∙ next 5 (omega arith) mf (ef .1) ∙ next 4 (omega arith) me (ef .0)
+      ∙ next 3 (omega arith) md (cd .1) ∙ next 2 (omega arith) mc (cd .0) ∙ next 1 (omega arith) mb (ab .1) ∙ clean-on s i (omega arith) (ma .is (ab .0))
 
-module _ {s w : List ℕ} {i j : ℕ} (inv : Cleaning s w i j) where
+pub passed-start : {s : List ℕ} {from : ℕ} → from ≤ length s → Passed s from from
+passed-start h = record { rest = refl; within = h; on = omega arith }
+
+pub passed-on : {s : List ℕ} {from i : ℕ} → Passed s from i → i + 8 ≤ length s → {b : Bool} → (b ≡ true → cleaned (drop (i + 8) s) ≡ cleaned (drop i s)) → b ≡ true → Passed s from (i + 8)
+passed-on p h e t = record { rest = e t ∙ p .rest; within = h; on = omega (arith, p .on) }
+
+-- ---- the letters
+
+-- a loop that cleans s stands at i, and the first n of out are the letters before it
+pub record Cleaning (s out : List ℕ) (i n : ℕ) : Type 0 where
+  pub rest : take n out ++ cleaned (drop i s) ≡ cleaned s
+  pub few : n ≤ 13
+  pub room : 13 ≤ length out
+
+pub cleaning-start : {s out : List ℕ} → 13 ≤ length out → Cleaning s out 0 0
+cleaning-start h = record { rest = refl; few = omega arith; room = h }
+
+module _ {s out : List ℕ} {i n : ℕ} (inv : Cleaning s out i n) where
   module _ (h : i < length s) {t : Bool} (e : t ≡ isPunctuation (getD s i 0)) where
-    pub cleaning-mark : t ≡ true → Cleaning s w (i + 1) j
-    cleaning-mark v =
-        let q : cleaned (drop i s) ≡ cleaned (drop (i + 1) s) = rw (add-one, drop-cons s i 0) (clean-mark (getD s i 0) (drop (suc i) s) (sym e ∙ v)) in
-        record { rest = ap (λ (l : List ℕ). same l (drop j w)) (sym q) ∙ inv .rest; behind = omega (arith, inv .behind) }
+    pub cleaning-mark : t ≡ true → {r : ℕ} → Passed s (i + 1) r → Cleaning s out r n
+    cleaning-mark v p = record { rest = ap (λ l. take n out ++ l) (p .rest ∙ clean-on s i h (sym e ∙ v)) ∙ inv .rest; few = inv .few; room = inv .room }
 
     module _ (v : t ≡ false) where
-      kept : cleaned (drop i s) ≡ lowered (getD s i 0) ∷ cleaned (drop (suc i) s)
-      kept = rw (drop-cons s i 0) (clean-kept (getD s i 0) (drop (suc i) s) (sym e ∙ v))
+      kept : take n out ++ (lowered (getD s i 0) ∷ cleaned (drop (suc i) s)) ≡ cleaned s
+      kept = ap (λ l. take n out ++ l) (sym (rw (drop-cons s i 0) (clean-kept (getD s i 0) (drop (suc i) s) (sym e ∙ v)))) ∙ inv .rest
 
-      pub cleaning-short : length w ≤ j → false ≡ same (cleaned s) w
-      unfolding same
-      cleaning-short k = rw (← (inv .rest), kept, drop-of-length-le w k)
+      pub cleaning-more : 13 ≤ n → Letters s out 14
+      cleaning-more k =
+          let a = length-take-le n out (omega (arith, inv .few, inv .room)) in
+          let l = sym (ap length kept) ∙ length-append (take n out) (lowered (getD s i 0) ∷ cleaned (drop (suc i) s)) in
+          record { all = λ z. absurd (omega arith); more = λ z. omega arith }
 
-      module _ (k : j < length w) {x : ℕ} (ex : x ≡ lowered (getD s i 0)) where
-        pub cleaning-no : (x ≡ getD w j 0 → ⊥) → false ≡ same (cleaned s) w
-        cleaning-no n = sym (ap (λ (l : List ℕ). same l (drop j w)) (kept ∙ ap (λ y. y ∷ cleaned (drop (suc i) s)) (sym ex)) ∙ ap (same (x ∷ cleaned (drop (suc i) s))) (drop-cons w j 0 k) ∙ same-no x (getD w j 0) _ _ n) ∙ inv .rest
+      pub cleaning-on : n < 13 → {x : ℕ} → x ≡ lowered (getD s i 0) → Cleaning s (set out n x) (i + 1) (n + 1)
+      cleaning-on k {x} f =
+          let b : n < length out = omega (arith, inv .room) in
+          let z : length (set out n x) ≡ length out = length-set out n x in
+          let a : take (suc n) (set out n x) ≡ take n out ++ (x ∷ []) = take-suc (set out n x) n 0 (omega arith) ∙ rw (take-set-le n out n x (omega arith), getD-set-same out n x 0 b) in
+          record {
+            rest = rw (add-one, add-one, a, append-assoc, f) kept;
+            few = omega arith;
+            room = omega (arith, inv .room);
+          }
 
-        pub cleaning-on : x ≡ getD w j 0 → Cleaning s w (i + 1) (j + 1)
-        cleaning-on y =
-            record {
-              rest = rw (add-one, add-one) (sym (same-yes x (getD w j 0) (cleaned (drop (suc i) s)) (drop (suc j) w) y) ∙ ap (same (x ∷ cleaned (drop (suc i) s))) (sym (drop-cons w j 0 k)) ∙ ap (λ (l : List ℕ). same l (drop j w)) (sym (kept ∙ ap (λ y. y ∷ cleaned (drop (suc i) s)) (sym ex))) ∙ inv .rest);
-              behind = omega (arith, inv .behind);
-            }
-
-  pub cleaning-fits : i < length s → j < length w → j + 1 ≤ length s
-  cleaning-fits h k = omega (arith, inv .behind)
-
-  pub cleaning-end : length s ≤ i → leb (length w) j ≡ same (cleaned s) w
-  unfolding cleaned same
+  pub cleaning-end : length s ≤ i → Letters s out n
+  unfolding cleaned
   cleaning-end h =
-      by-test (leb (length w) j)
-      (λ t. let k = borrow.Author.Tests.leb-true (length w) j t in rw (← (inv .rest), drop-of-length-le s h, drop-of-length-le w k, t))
-      (λ t. let k = borrow.Author.Tests.leb-false (length w) j t in rw (← (inv .rest), drop-of-length-le s h, drop-cons w j 0 k, t))
+      record {
+        all = λ z. sym (append-nil (take n out)) ∙ (rw (drop-of-length-le s h) at (inv .rest));
+        more = λ z. absurd (omega (arith, inv .few));
+      }
 
-same-none : (w : List ℕ) → same w [] ≡ isEmpty w
-unfolding same
-same-none [] = refl
-same-none (x ∷ w) = refl
+-- ---- the names
+
+pub name-empty : (w : List ℕ) → length w ≡ 0 → true ≡ isName w
+unfolding isName
+name-empty [] h = refl
+name-empty (b ∷ w) h = absurd (omega arith)
+
+module _ (w : List ℕ) (h : length w ≡ 0 → ⊥) {b : Bool} (eb : b ≡ among w ansiNames) where
+  filled : (w : List ℕ) → (length w ≡ 0 → ⊥) → isEmpty w ≡ false
+  filled [] h = absurd (h refl)
+  filled (x ∷ w) h = refl
+
+  parts : isName w ≡ (among w ansiNames or (among w isoNames or among w otherNames))
+  unfolding isName
+  parts =
+      rw (filled w h)
+      (among-append w ansiNames (isoNames ++ otherNames) ∙ ap (λ (x : Bool). among w ansiNames or x) (among-append w isoNames otherNames))
+
+  pub name-ansi : b ≡ true → true ≡ isName w
+  name-ansi t = rw (parts, ← eb, t)
+
+  module _ (fb : b ≡ false) {c : Bool} (ec : c ≡ among w isoNames) where
+    pub name-iso : c ≡ true → true ≡ isName w
+    name-iso t = rw (parts, ← eb, fb, ← ec, t)
+
+    pub name-other : c ≡ false → {d : Bool} → d ≡ among w otherNames → d ≡ isName w
+    name-other t g = rw (parts, ← eb, fb, ← ec, t) g
 
 -- ---- the test
 
-module _ (s : List ℕ) {w : List ℕ} (f : w ≡ trimmed s) {a : Bool} (ea : a ≡ same (cleaned w) []) where
-  pub compatible-empty : a ≡ true → true ≡ compatible s
-  unfolding compatible
-  compatible-empty t = rw (← f, ← same-none (cleaned w), ← ea, t)
+fit : List (List ℕ) → Bool
+fit [] = true
+fit (v ∷ l) = leb (length v) 13 and fit l
 
-  module _ (fa : a ≡ false) {b : Bool} (eb : b ≡ among (cleaned w) ansiNames) where
-    parts : compatible s ≡ (among (cleaned w) ansiNames or (among (cleaned w) isoNames or among (cleaned w) otherNames))
-    unfolding compatible
-    parts =
-        rw (← f, ← same-none (cleaned w), ← ea, fa)
-        (among-append (cleaned w) ansiNames (isoNames ++ otherNames) ∙ ap (λ (x : Bool). among (cleaned w) ansiNames or x) (among-append (cleaned w) isoNames otherNames))
+none-long : (w : List ℕ) (l : List (List ℕ)) → T (fit l) → 13 < length w → among w l ≡ false
+unfolding among fit
+none-long w [] t h = refl
+none-long w (v ∷ l) t h =
+    let q = leb-true (length v) 13 (is-true _ (and-left (leb (length v) 13) (fit l) t)) in
+    rw (← same-lengths w v (λ e. omega arith)) (none-long w l (and-right (leb (length v) 13) (fit l) t) h)
 
-    pub compatible-ansi : b ≡ true → true ≡ compatible s
-    compatible-ansi t = rw (parts, ← eb, t)
+long-none : (w : List ℕ) → 13 < length w → isName w ≡ false
+unfolding isName fit
+long-none [] h = absurd (omega arith)
+long-none (b ∷ w) h = none-long (b ∷ w) charsets tt h
 
-    module _ (fb : b ≡ false) {c : Bool} (ec : c ≡ among (cleaned w) isoNames) where
-      pub compatible-iso : c ≡ true → true ≡ compatible s
-      compatible-iso t = rw (parts, ← eb, fb, ← ec, t)
+module _ (s : List ℕ) {w out : List ℕ} {n : ℕ} (e : w ≡ trimmed s) (l : Letters w out n) where
+  named : compatible s ≡ isName (cleaned w)
+  unfolding compatible isName
+  named = rw e
 
-      pub compatible-other : c ≡ false → {d : Bool} → d ≡ among (cleaned w) otherNames → d ≡ compatible s
-      compatible-other t g = rw (parts, ← eb, fb, ← ec, t) g
+  pub compatible-long : 13 < n → false ≡ compatible s
+  compatible-long h = sym (named ∙ long-none (cleaned w) (l .more h))
+
+  pub compatible-short : n ≤ 13 → {v : List ℕ} → v ≡ piece out 0 n → {r : Bool} → r ≡ isName v → r ≡ compatible s
+  compatible-short h f g = g ∙ ap isName (f ∙ l .all h) ∙ sym named

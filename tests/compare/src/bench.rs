@@ -81,6 +81,13 @@ pub fn hard() -> Vec<(&'static str, String)> {
                 "-".repeat(32_000)
             ),
         ),
+        (
+            "one long encoding that ends in a letter",
+            format!(
+                "<composite><type primitiveType='char' characterEncoding='{}x'/></composite>",
+                "-".repeat(32_000)
+            ),
+        ),
         ("one long tag of attributes", most("<field ", |k| format!("a{k}='' "), "/>", 9_999)),
         ("one long tag of one attribute", most("<field ", |_| "a=''".into(), "/>", 9_999)),
         ("empty closes", "</>".repeat(10_922)),
