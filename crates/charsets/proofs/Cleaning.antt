@@ -5,11 +5,11 @@ use mathlib.Core.List.{List, [], _∷_, _++_, append-assoc, append-nil}
 use Prim.Native.Nat.{ℕ, suc, _+_, _≤_, _<_}
 use native.Mathlib.Numerals.{add-one}
 use native.Mathlib.Omega.{arith}
-use lib.Bits.{bitAnd, bitOr, or-add-and, and-le-l, and-le-r}
+use lib.Bits.{bitAnd, bitOr, and-le-l, and-le-r}
 use lib.Dec.{eqb, leb, T}
 use lib.ListN.{length, take, drop, getD, set, length-append, length-set, drop-of-length-le}
 use lib.Seq.{drop-cons, take-suc, take-set-le, length-take-le, getD-set-same}
-use borrow.Author.Tests.{eq-eqb, ne-eqb, leb-true}
+use borrow.Author.Tests.{eq-eqb, ne-eqb, eqb-true, leb-true}
 use Rattle.texts.specs.Choice.{pick, _or_, _and_}
 use Rattle.texts.specs.Text.{piece}
 use Rattle.texts.specs.Lists.{isEmpty, among}
@@ -20,34 +20,9 @@ use Rattle.texts.proofs.Comparing.{same-lengths}
 use Rattle.names.specs.Letters.{lowered}
 use Rattle.charsets.specs.Charset.{isPunctuation, cleaned, charsets, compatible}
 use Rattle.charsets.specs.Names.{ansiNames, isoNames, otherNames, isName}
-use Rattle.charsets.specs.Letters.{Marks, Passed, Letters}
+use Rattle.charsets.specs.Letters.{Passed, Letters}
 
 -- ---- a byte
-
-module _ (b : ℕ) where
-  pub mark-hyphen : b ≡ 45 → true ≡ isPunctuation b
-  unfolding isPunctuation
-  mark-hyphen e = rw e
-
-  pub mark-underscore : b ≡ 95 → true ≡ isPunctuation b
-  unfolding isPunctuation
-  mark-underscore e = rw e
-
-  pub mark-dot : b ≡ 46 → true ≡ isPunctuation b
-  unfolding isPunctuation
-  mark-dot e = rw e
-
-  pub mark-colon : b ≡ 58 → true ≡ isPunctuation b
-  unfolding isPunctuation
-  mark-colon e = rw e
-
-  pub mark-space : b ≡ 32 → true ≡ isPunctuation b
-  unfolding isPunctuation
-  mark-space e = rw e
-
-  pub mark-none : (b ≡ 45 → ⊥) → (b ≡ 95 → ⊥) → (b ≡ 46 → ⊥) → (b ≡ 58 → ⊥) → (b ≡ 32 → ⊥) → false ≡ isPunctuation b
-  unfolding isPunctuation
-  mark-none h u d c s = rw (ne-eqb b 45 h, ne-eqb b 95 u, ne-eqb b 46 d, ne-eqb b 58 c, ne-eqb b 32 s)
 
 module _ (a b : ℕ) where
   pub one-yes : a ≡ b → _≡_ {A = ℕ} 1 (pick (eqb a b) 1 0)
@@ -57,23 +32,23 @@ module _ (a b : ℕ) where
   one-no n = rw (ne-eqb a b n)
 
 pub marks : (b : ℕ) {v w x y z : ℕ} → v ≡ pick (eqb b 45) 1 0 → w ≡ pick (eqb b 95) 1 0 → x ≡ pick (eqb b 46) 1 0 → y ≡ pick (eqb b 58) 1 0 → z ≡ pick (eqb b 32) 1 0
-    → Marks b (bitOr (bitOr (bitOr (bitOr v w) x) y) z)
+    → bitOr (bitOr (bitOr (bitOr v w) x) y) z ≡ pick (isPunctuation b) 1 0
 unfolding isPunctuation
-marks b {v} {w} {x} {y} {z} ev ew ex ey ez =
-    record {
-      is = λ h.
-          by-test (eqb b 45) (λ t. rw t) (λ f.
-          by-test (eqb b 95) (λ t. rw (f, t)) (λ g.
-          by-test (eqb b 46) (λ t. rw (f, g, t)) (λ k.
-          by-test (eqb b 58) (λ t. rw (f, g, k, t)) (λ l.
-          by-test (eqb b 32) (λ t. rw (f, g, k, l, t)) (λ m.
-          let v₀ : v ≡ 0 = ev ∙ rw f in
-          let w₀ : w ≡ 0 = ew ∙ rw g in
-          let x₀ : x ≡ 0 = ex ∙ rw k in
-          let y₀ : y ≡ 0 = ey ∙ rw l in
-          let z₀ : z ≡ 0 = ez ∙ rw m in
-          absurd (omega (arith, or-add-and v w, or-add-and (bitOr v w) x, or-add-and (bitOr (bitOr v w) x) y, or-add-and (bitOr (bitOr (bitOr v w) x) y) z)))))));
-    }
+marks b ev ew ex ey ez =
+    rw (ev, ew, ex, ey, ez)
+    (by-test (eqb b 45) (λ t. rw (eqb-true b 45 t)) (λ f.
+    by-test (eqb b 95) (λ t. rw (eqb-true b 95 t)) (λ g.
+    by-test (eqb b 46) (λ t. rw (eqb-true b 46 t)) (λ k.
+    by-test (eqb b 58) (λ t. rw (eqb-true b 58 t)) (λ l.
+    by-test (eqb b 32) (λ t. rw (eqb-true b 32 t)) (λ m.
+    rw (f, g, k, l, m)))))))
+
+module _ (b : ℕ) {m : ℕ} (e : m ≡ pick (isPunctuation b) 1 0) where
+  marked : 1 ≤ m → isPunctuation b ≡ true
+  marked h = by-test (isPunctuation b) (λ t. t) (λ f. absurd (let z : m ≡ 0 = e ∙ rw f in omega arith))
+
+  unmarked : (m ≡ 1 → ⊥) → isPunctuation b ≡ false
+  unmarked h = by-test (isPunctuation b) (λ t. absurd (h (e ∙ rw t))) (λ f. f)
 
 -- ---- punctuation is passed
 
@@ -92,14 +67,14 @@ and-both : (a b : ℕ) → 1 ≤ bitAnd a b → (1 ≤ a) × (1 ≤ b)
 and-both a b h = (omega (arith, and-le-l a b), omega (arith, and-le-r a b))
 
 module _ (s : List ℕ) (i : ℕ) (h : i + 8 ≤ length s) where
-  next : (k : ℕ) → k < 8 → {m : ℕ} → Marks (getD s (i + k) 0) m → 1 ≤ m → cleaned (drop (i + suc k) s) ≡ cleaned (drop (i + k) s)
+  next : (k : ℕ) → k < 8 → {m : ℕ} → m ≡ pick (isPunctuation (getD s (i + k) 0)) 1 0 → 1 ≤ m → cleaned (drop (i + suc k) s) ≡ cleaned (drop (i + k) s)
   next k l m b =
       let e : i + k + 1 ≡ i + suc k = omega arith in
-      rw e at (clean-on s (i + k) (omega arith) (m .is b))
+      rw e at (clean-on s (i + k) (omega arith) (marked (getD s (i + k) 0) m b))
 
   pub eight-passed : {a b c d e f g j : ℕ}
-      → Marks (getD s i 0) a → Marks (getD s (i + 1) 0) b → Marks (getD s (i + 2) 0) c → Marks (getD s (i + 3) 0) d
-      → Marks (getD s (i + 4) 0) e → Marks (getD s (i + 5) 0) f → Marks (getD s (i + 6) 0) g → Marks (getD s (i + 7) 0) j
+      → a ≡ pick (isPunctuation (getD s i 0)) 1 0 → b ≡ pick (isPunctuation (getD s (i + 1) 0)) 1 0 → c ≡ pick (isPunctuation (getD s (i + 2) 0)) 1 0 → d ≡ pick (isPunctuation (getD s (i + 3) 0)) 1 0
+      → e ≡ pick (isPunctuation (getD s (i + 4) 0)) 1 0 → f ≡ pick (isPunctuation (getD s (i + 5) 0)) 1 0 → g ≡ pick (isPunctuation (getD s (i + 6) 0)) 1 0 → j ≡ pick (isPunctuation (getD s (i + 7) 0)) 1 0
       → bitAnd (bitAnd (bitAnd (bitAnd a b) (bitAnd c d)) (bitAnd e f)) (bitAnd g j) ≡ 1 → cleaned (drop (i + 8) s) ≡ cleaned (drop i s)
   eight-passed {a} {b} {c} {d} {e} {f} {g} {j} ma mb mc md me mf mg mj all =
       let most = and-both (bitAnd (bitAnd (bitAnd a b) (bitAnd c d)) (bitAnd e f)) (bitAnd g j) (omega arith) in
@@ -110,7 +85,7 @@ module _ (s : List ℕ) (i : ℕ) (h : i + 8 ≤ length s) where
       let ef = and-both e f (more .1) in
       let gj = and-both g j (most .1) in
       next 7 (omega arith) mj (gj .1) ∙ next 6 (omega arith) mg (gj .0) ∙ next 5 (omega arith) mf (ef .1) ∙ next 4 (omega arith) me (ef .0)
-      ∙ next 3 (omega arith) md (cd .1) ∙ next 2 (omega arith) mc (cd .0) ∙ next 1 (omega arith) mb (ab .1) ∙ clean-on s i (omega arith) (ma .is (ab .0))
+      ∙ next 3 (omega arith) md (cd .1) ∙ next 2 (omega arith) mc (cd .0) ∙ next 1 (omega arith) mb (ab .1) ∙ clean-on s i (omega arith) (marked (getD s i 0) ma (ab .0))
 
 pub passed-start : {s : List ℕ} {from : ℕ} → from ≤ length s → Passed s from from
 passed-start h = record { rest = refl; within = h; on = omega arith }
@@ -130,13 +105,13 @@ pub cleaning-start : {s out : List ℕ} → 13 ≤ length out → Cleaning s out
 cleaning-start h = record { rest = refl; few = omega arith; room = h }
 
 module _ {s out : List ℕ} {i n : ℕ} (inv : Cleaning s out i n) where
-  module _ (h : i < length s) {t : Bool} (e : t ≡ isPunctuation (getD s i 0)) where
-    pub cleaning-mark : t ≡ true → {r : ℕ} → Passed s (i + 1) r → Cleaning s out r n
-    cleaning-mark v p = record { rest = ap (λ l. take n out ++ l) (p .rest ∙ clean-on s i h (sym e ∙ v)) ∙ inv .rest; few = inv .few; room = inv .room }
+  module _ (h : i < length s) {m : ℕ} (e : m ≡ pick (isPunctuation (getD s i 0)) 1 0) where
+    pub cleaning-mark : m ≡ 1 → {r : ℕ} → Passed s (i + 1) r → Cleaning s out r n
+    cleaning-mark v p = record { rest = ap (λ l. take n out ++ l) (p .rest ∙ clean-on s i h (marked (getD s i 0) e (omega arith))) ∙ inv .rest; few = inv .few; room = inv .room }
 
-    module _ (v : t ≡ false) where
+    module _ (v : m ≡ 1 → ⊥) where
       kept : take n out ++ (lowered (getD s i 0) ∷ cleaned (drop (suc i) s)) ≡ cleaned s
-      kept = ap (λ l. take n out ++ l) (sym (rw (drop-cons s i 0) (clean-kept (getD s i 0) (drop (suc i) s) (sym e ∙ v)))) ∙ inv .rest
+      kept = ap (λ l. take n out ++ l) (sym (rw (drop-cons s i 0) (clean-kept (getD s i 0) (drop (suc i) s) (unmarked (getD s i 0) e v)))) ∙ inv .rest
 
       pub cleaning-more : 13 ≤ n → Letters s out 14
       cleaning-more k =

@@ -1,14 +1,9 @@
 -- What the code says of the text while it is cleaned. Internal.
 use mathlib.Core.Path.{_≡_}
-use mathlib.Core.Bool.{true}
 use mathlib.Core.List.{List}
 use Prim.Native.Nat.{ℕ, _≤_, _<_}
 use lib.ListN.{length, take, drop}
-use Rattle.charsets.specs.Charset.{isPunctuation, cleaned}
-
--- r is 0 where b is no punctuation
-pub record Marks (b r : ℕ) : Type 0 where
-  pub is : 1 ≤ r → isPunctuation b ≡ true
+use Rattle.charsets.specs.Charset.{cleaned}
 
 -- from `from` to r there is nothing but punctuation
 pub record Passed (s : List ℕ) (from r : ℕ) : Type 0 where

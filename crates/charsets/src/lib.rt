@@ -18,25 +18,12 @@ ghost use Rattle.texts.specs.Lists.{among};
 ghost use Rattle.classes.specs.Table.{IsTable};
 ghost use Rattle.charsets.specs.Charset.{isPunctuation, cleaned, compatible};
 ghost use Rattle.charsets.specs.Names.{ansiNames, isoNames, otherNames, isName};
-ghost use Rattle.charsets.specs.Letters.{Marks, Passed, Letters};
+ghost use Rattle.charsets.specs.Letters.{Passed, Letters};
 
 // How many letters the longest name has.
 const LONGEST: usize = 13;
 
 // ---- punctuation: '-', '_', '.', ':' and the space
-
-fn is_punctuation(b: u8) -> bool
-    ensures { λ r. ⌜ r ≡ isPunctuation b ⌝ }
-{
-    match b {
-        b'-' => true,
-        b'_' => true,
-        b'.' => true,
-        b':' => true,
-        b' ' => true,
-        _ => false,
-    }
-}
 
 fn one_if(a: u8, b: u8) -> u8
     ensures { λ r. ⌜ r ≡ pick (eqb a b) 1 0 ⌝ }
@@ -46,7 +33,7 @@ fn one_if(a: u8, b: u8) -> u8
 
 // 1 for punctuation, else 0: without a branch, so that eight are marked at once.
 fn mark(b: u8) -> u8
-    ensures { λ r. ⌜ Marks b r ⌝ }
+    ensures { λ r. ⌜ r ≡ pick (isPunctuation b) 1 0 ⌝ }
 {
     one_if(b, b'-') | one_if(b, b'_') | one_if(b, b'.') | one_if(b, b':') | one_if(b, b' ')
 }
@@ -90,7 +77,7 @@ fn clean(out: &mut [u8], s: &[u8], t: &[u8; 256]) -> usize
     let mut i = 0;
     let mut n = 0;
     while i < s.len() {
-        if is_punctuation(s[i]) {
+        if mark(s[i]) == 1 {
             i = past_eights(s, i + 1);
         } else {
             if LONGEST <= n {

@@ -1,13 +1,13 @@
 use mathlib.Core.Path.{_≡_}
 use Prim.Native.Nat.{_-_}
 use lib.ListN.{length}
-use Rattle.charsets.proofs.Cleaning.{Cleaning}
+use Rattle.charsets.proofs.Cleaning.{Cleaning, cleaning-on}
 use Rattle.charsets.proofs.Laws.{laws}
 use Rattle.charsets.proofs.clean.Statement.{statement}
 use Rattle.charsets.proofs.clean.Tie as tie
 use Rattle.charsets.proofs.clean.Reads as reads
 use Rattle.charsets.proofs.clean.Lts as lts
-use Rattle.charsets.proofs.is_punctuation.Reads as is-punctuation-reads
+use Rattle.charsets.proofs.mark.Reads as mark-reads
 use Rattle.charsets.proofs.past_eights.Reads as past-eights-reads
 use Rattle.names.proofs.convert.lower_in.Reads as lower-in-reads
 
@@ -17,79 +17,83 @@ Inv-loop out₀ s t i₀ n₀ out i n = Cleaning s out i n × (length out ≡ le
 abbrev μ-loop : tie.MeasureT-loop
 μ-loop out₀ s t i₀ n₀ out i n = length s - i
 
--- src/lib.rt:92:5
+-- src/lib.rt:79:5
 loop-holds : tie.Need-loop-holds Inv-loop μ-loop
 loop-holds c = search laws
 
--- src/lib.rt:93:27
-shared-slice-read-is-punctuation : tie.Need-shared-slice-read-is-punctuation Inv-loop μ-loop
-shared-slice-read-is-punctuation c = search laws
+-- src/lib.rt:80:17
+shared-slice-read-mark : tie.Need-shared-slice-read-mark Inv-loop μ-loop
+shared-slice-read-mark c = search laws
 
--- src/lib.rt:93:12
-is-punctuation-requires : tie.Need-is-punctuation-requires Inv-loop μ-loop
-is-punctuation-requires c κs = search laws
+-- src/lib.rt:80:12
+mark-requires : tie.Need-mark-requires Inv-loop μ-loop
+mark-requires c κs = search laws
 
--- src/lib.rt:94:32
+-- src/lib.rt:81:32
 add-past-eights : tie.Need-add-past-eights Inv-loop μ-loop
 add-past-eights c = search laws
 
--- src/lib.rt:94:13
+-- src/lib.rt:81:13
 past-eights-requires : tie.Need-past-eights-requires Inv-loop μ-loop
 past-eights-requires c κs = search laws
 
--- src/lib.rt:92:5
+-- src/lib.rt:79:5
 loop-less : tie.Need-loop-less Inv-loop μ-loop
 loop-less c = search laws
 
--- src/lib.rt:92:5
+-- src/lib.rt:79:5
 loop-again : tie.Need-loop-again Inv-loop μ-loop
 loop-again c = search laws
 
--- src/lib.rt:97:24
+-- src/lib.rt:84:24
 add-result : tie.Need-add-result Inv-loop μ-loop
 add-result c = search laws
 
--- src/lib.rt:97:17
+-- src/lib.rt:84:17
 same-length : tie.Need-same-length Inv-loop μ-loop
 same-length c = search laws
 
--- src/lib.rt:97:17
+-- src/lib.rt:84:17
 returns : tie.Need-returns Inv-loop μ-loop
 returns c = search laws
 
--- src/lib.rt:99:34
+-- src/lib.rt:86:34
 shared-slice-read-lower-in : tie.Need-shared-slice-read-lower-in Inv-loop μ-loop
 shared-slice-read-lower-in c = search laws
 
--- src/lib.rt:99:22
+-- src/lib.rt:86:22
 lower-in-requires : tie.Need-lower-in-requires Inv-loop μ-loop
 lower-in-requires c κs = search laws
 
--- src/lib.rt:99:13
+-- src/lib.rt:86:13
 slice-write-out : tie.Need-slice-write-out Inv-loop μ-loop
 slice-write-out c = search laws
 
--- src/lib.rt:100:13
+-- src/lib.rt:87:13
 add-i : tie.Need-add-i Inv-loop μ-loop
 add-i c = search laws
 
--- src/lib.rt:101:13
+-- src/lib.rt:88:13
 add-n : tie.Need-add-n Inv-loop μ-loop
 add-n c = search laws
 
--- src/lib.rt:92:5
+-- src/lib.rt:79:5
 loop-less-2 : tie.Need-loop-less-2 Inv-loop μ-loop
 loop-less-2 c = search laws
 
--- src/lib.rt:92:5
+-- src/lib.rt:79:5
 loop-again-2 : tie.Need-loop-again-2 Inv-loop μ-loop
-loop-again-2 c = search laws
+loop-again-2 c =
+    let els = c .before .before in
+    let m = els .before .before in
+    let l = m .before .before in
+    (cleaning-on (l .before .loop .inv .0) (l .loop-test .taken) (m .mark .ensures) (els .before .if1 .left) (els .if2 .left) (c .lower-in .ensures), search laws)
 
--- src/lib.rt:86:1
+-- src/lib.rt:73:1
 same-length-2 : tie.Need-same-length-2 Inv-loop μ-loop
 same-length-2 c = search laws
 
--- src/lib.rt:86:1
+-- src/lib.rt:73:1
 returns-2 : tie.Need-returns-2 Inv-loop μ-loop
 returns-2 c = search laws
 
@@ -100,8 +104,8 @@ clean-spec =
     Inv-loop
     μ-loop
     loop-holds
-    shared-slice-read-is-punctuation
-    is-punctuation-requires
+    shared-slice-read-mark
+    mark-requires
     add-past-eights
     past-eights-requires
     loop-less
