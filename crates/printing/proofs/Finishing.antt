@@ -19,12 +19,12 @@ unfolding past
 past-le at [] = omega arith
 past-le at (b ∷ t) = omega (arith, past-le (next at) t)
 
-past-below : (at : ℕ) (t : List ℕ) → past at t < last → past at t ≡ at + length t
+pub past-below : (at : ℕ) (t : List ℕ) → past at t < last → past at t ≡ at + length t
 unfolding past
 past-below at [] h = omega arith
 past-below at (b ∷ t) h = omega (arith, past-below (next at) t h)
 
-laid-sets : (out : List ℕ) (at : ℕ) (t : List ℕ) → at + length t ≤ last → laid out at t ≡ sets out at t
+pub laid-sets : (out : List ℕ) (at : ℕ) (t : List ℕ) → at + length t ≤ last → laid out at t ≡ sets out at t
 unfolding laid
 laid-sets out at [] h = refl
 laid-sets out at (b ∷ t) h =

@@ -5,4 +5,5 @@ pub mod Decimals
 pub mod Finishing
 pub mod Repeating
 pub mod Passing
+pub mod Again
 pub mod Laws

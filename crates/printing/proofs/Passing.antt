@@ -33,7 +33,7 @@ module _ (at n : ℕ) (z : n ≡ 0 → ⊥) where
 
 pub ruleset skipping = (skipped-none, skipped-far, skipped-on, skipped-last, needs)
 
-past-skipped : (at : ℕ) (t : List ℕ) → past at t ≡ skipped at (length t)
+pub past-skipped : (at : ℕ) (t : List ℕ) → past at t ≡ skipped at (length t)
 unfolding past skipped
 past-skipped at [] = refl
 past-skipped at (b ∷ []) = refl

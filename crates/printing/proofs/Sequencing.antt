@@ -28,6 +28,13 @@ pub _▸_ : {o : List ℕ} {at : ℕ} {o′ : List ℕ} {r : ℕ} {o″ : List �
     → Printed o at o′ r a → Printed o′ r o″ r′ b → Printed o at o″ r′ (a ++ b)
 p ▸ q = record { is = rw (laid-append, ← p .is, ← p .to) (q .is); to = rw (past-append, ← p .to) (q .to) }
 
+-- and taken apart again: the first text, and the second after it
+pub first-part : {o : List ℕ} {at : ℕ} {a : List ℕ} → Printed o at (laid o at a) (past at a) a
+first-part = record { is = refl; to = refl }
+
+pub second-part : {o : List ℕ} {at : ℕ} {o′ : List ℕ} {r : ℕ} (a b : List ℕ) → Printed o at o′ r (a ++ b) → Printed (laid o at a) (past at a) o′ r b
+second-part a b p = record { is = p .is ∙ laid-append _ _ a b; to = p .to ∙ past-append _ a b }
+
 length-laid : (out : List ℕ) (at : ℕ) (t : List ℕ) → length (laid out at t) ≡ length out
 unfolding laid
 length-laid out at [] = refl

@@ -1,8 +1,8 @@
 // Printing into a lent slice: one body measures and writes.
 //
 // Each function prints a text from a position on: it writes where the position lies in the slice,
-// and always counts on, so that printing into an empty slice measures. None asks anything of its
-// caller. The contract, `Printed` of specs/Printed.antt, gives every byte of the slice and the next
+// and always counts on, so that printing into an empty slice measures. None but `put_again` asks anything
+// of its caller. The contract, `Printed` of specs/Printed.antt, gives every byte of the slice and the next
 // position; texts printed one after the other compose by `▸` of proofs/Sequencing.antt; and
 // proofs/Finishing.antt has "measure, then write", the law that every public entry ends with.
 ghost use mathlib.Core.Path.{_≡_};
@@ -10,6 +10,7 @@ ghost use mathlib.Core.List.{[], _∷_};
 ghost use Prim.Native.Nat.{_+_, _≤_};
 ghost use lib.ListN.{length};
 ghost use Rattle.texts.specs.Choice.{pick};
+ghost use Rattle.texts.specs.Text.{piece};
 ghost use Rattle.printing.specs.Printed.{Printed, next, skipped};
 ghost use Rattle.printing.specs.Decimal.{decimal};
 
@@ -91,6 +92,19 @@ pub fn put_bytes(out: &mut [u8], at: usize, s: &[u8]) -> usize
         return copy(out, at, s);
     }
     put_each(out, at, s)
+}
+
+// Prints again the `n` bytes at `from`, which stand before `at`, where all of them fit: a loop inside the slice.
+pub fn put_again(out: &mut [u8], at: usize, from: usize, n: usize) -> usize
+    requires { ⌜ (from + n ≤ at) × (at + n ≤ length (now out)) ⌝ }
+    ensures { λ r. ⌜ Printed (now (out .entry)) at (now (out .exit)) r (piece (now (out .entry)) from n) ⌝ }
+{
+    let mut i = 0;
+    while i < n {
+        out[at + i] = out[from + i];
+        i += 1;
+    }
+    at + n
 }
 
 // Prints a number in decimal.

@@ -1,8 +1,8 @@
 -- Laws of the parts of the source: w, u, .. are what the calls return.
 use mathlib.Core.Path.{_≡_, refl, sym, ap, subst, _∙_}
 use mathlib.Core.Bool.{Bool, true, false, not}
-use mathlib.Core.List.{List, [], _∷_, _++_}
-use Prim.Native.Nat.{ℕ, suc, _+_}
+use mathlib.Core.List.{List, [], _∷_, _++_, append-assoc}
+use Prim.Native.Nat.{ℕ, suc, _+_, _<_, _^_}
 use native.Mathlib.Nat.{add-zero}
 use native.Mathlib.Omega.{arith}
 use lib.Dec.{eqb}
@@ -11,8 +11,10 @@ use Rattle.texts.specs.Choice.{pick, _and_}
 use Rattle.texts.specs.Text.{ascii, same}
 use Rattle.texts.specs.Lists.{each, numbered}
 use Rattle.printing.specs.Decimal.{decimal}
-use Rattle.printing.specs.Printed.{Printed}
+use Rattle.printing.specs.Printed.{skipped, Printed}
+use Rattle.printing.specs.Standing.{Standing}
 use Rattle.printing.proofs.Sequencing.{blank, _▸_}
+use Rattle.printing.proofs.Again.{standing-within}
 use Rattle.names.specs.Conversions.{camelToSnake, camelToScreamingSnake, prefixOf, singularPascal}
 use Rattle.xmlschema.specs.Schema.{Item, Schema, noItem, itemAt, positionsFrom, allOf, under, aMember, aRef, aComposite, aValue, aGroup, aField}
 use Rattle.xmltoproto.specs.Types.{formOf, builtIn, asNamed, protoOf, protoBy, Meaning, meaning}
@@ -48,6 +50,12 @@ module _ {o : List ℕ} {at : ℕ} {o₁ : List ℕ} {r₁ : ℕ} where
       → Printed o at o₁ r₁ (ascii "  " ++ prefixOf name ++ camelToScreamingSnake w ++ ascii " = " ++ u ++ ascii ";\n") → Printed o at o₁ r₁ (valueText name it)
   unfolding valueText
   value-printed name it ew eu p = rw (← ew, ← eu) p
+
+  -- the prefix of a value stands after its two spaces
+  pub value-standing : (name : List ℕ) (it : Item) {q : ℕ} → length o < 2 ^ 63 → q ≡ skipped at 2 → Printed o at o₁ r₁ (valueText name it) → Standing (prefixOf name) o₁ q r₁
+  unfolding valueText
+  value-standing name it l e p =
+      standing-within (ascii "  ") (prefixOf name) (camelToScreamingSnake (it .name) ++ (ascii " = " ++ (it .second ++ ascii ";\n"))) l e (simp append-assoc at p)
 
   pub enum-printed : (s : Schema) (e : ℕ) {w : List ℕ} → w ≡ itemAt s e .name
       → Printed o at o₁ r₁ (ascii "enum " ++ w ++ ascii " {\n" ++ each (λ v. valueText w (itemAt s v)) (under aValue e s) ++ ascii "}\n\n") → Printed o at o₁ r₁ (enumText s e)

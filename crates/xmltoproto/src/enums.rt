@@ -3,6 +3,7 @@ use crate::view::name_at;
 use crate::view::second_at;
 use index::child;
 use names::convert::put_screaming;
+use printing::put_again;
 use printing::put_byte;
 use printing::put_bytes;
 use printing::skip;
@@ -15,6 +16,7 @@ use xmlschema::items::next_of;
 ghost use mathlib.Core.Path.{_≡_};
 ghost use Rattle.texts.specs.Lists.{each};
 ghost use Rattle.printing.specs.Printed.{Printed, past};
+ghost use Rattle.printing.specs.Standing.{Standing};
 ghost use Rattle.names.specs.Conversions.{prefixOf};
 ghost use Rattle.xmlschema.specs.Schema.{itemAt, under, allOf, anEnum, aValue};
 ghost use Rattle.index.specs.Index.{Indexed};
@@ -28,18 +30,24 @@ fn put_prefix(out: &mut [u8], at: usize, name: &[u8]) -> usize
     put_byte(out, p, b'_')
 }
 
-// The prefix again, of which the length is known: where none of it fits, as when measuring, the name is not walked.
-fn put_known_prefix(out: &mut [u8], at: usize, name: &[u8], width: usize) -> usize
-    requires { ⌜ width ≡ past 0 (prefixOf (now name)) ⌝ }
+// The prefix again, of which the length is known, and where it stands: the name is walked only where neither helps,
+// for the first value and at the end of the output.
+fn put_known_prefix(out: &mut [u8], at: usize, name: &[u8], width: usize, stood: usize) -> usize
+    requires { ⌜ (width ≡ past 0 (prefixOf (now name))) × Standing (prefixOf (now name)) (now out) stood at ⌝ }
     ensures { λ r. ⌜ Printed (now (out .entry)) at (now (out .exit)) r (prefixOf (now (name .entry))) ⌝ }
 {
     if out.len() <= at {
         return skip(at, width);
     }
+    if stood < out.len() {
+        if width <= out.len() - at {
+            return put_again(out, at, stood, width);
+        }
+    }
     put_prefix(out, at, name)
 }
 
-// A value of the enum `name`, whose prefix has the length `width`.
+// A value of the enum `name`, whose prefix has the length `width` and stands at `stood`.
 fn put_value(
     out: &mut [u8],
     at: usize,
@@ -48,13 +56,14 @@ fn put_value(
     text: &[u8],
     name: &[u8],
     width: usize,
+    stood: usize,
     i: u32,
 ) -> usize
-    requires { ⌜ width ≡ past 0 (prefixOf (now name)) ⌝ }
+    requires { ⌜ (width ≡ past 0 (prefixOf (now name))) × Standing (prefixOf (now name)) (now out) stood at ⌝ }
     ensures { λ r. ⌜ Printed (now (out .entry)) at (now (out .exit)) r (valueText (now (name .entry)) (itemAt (schemaOf m (now (rec .entry)) (now (text .entry))) i)) ⌝ }
 {
     let p = put_bytes(out, at, b"  ");
-    let p = put_known_prefix(out, p, name, width);
+    let p = put_known_prefix(out, p, name, width, stood);
     let p = put_screaming(out, p, name_at(m, rec, text, i));
     let p = put_bytes(out, p, b" = ");
     let p = put_bytes(out, p, second_at(m, rec, text, i));
@@ -77,12 +86,15 @@ fn put_values(
     let mut none = [0u8; 0];
     let width = put_prefix(&mut none, 0, name);
     let n = count(m, rec, text);
+    let mut stood = out.len();
     let mut p = at;
     let mut from = 0;
     while from < n {
         match child(m, rec, text, ix, VALUE, e, from) {
             Position::At(i) => {
-                p = put_value(out, p, m, rec, text, name, width, i);
+                let stands = skip(p, 2);
+                p = put_value(out, p, m, rec, text, name, width, stood, i);
+                stood = stands;
                 from = i + 1;
             }
             Position::Nothing => {

@@ -1,5 +1,7 @@
+use native.Mathlib.Omega.{arith}
 use Rattle.xmltoproto.proofs.Sources.{value-printed}
 use Rattle.printing.proofs.Sequencing.{_▸_, length-printed}
+use Rattle.printing.proofs.Again.{standing-kept}
 use Rattle.xmltoproto.proofs.Laws.{lines as laws}
 use Rattle.xmltoproto.proofs.enums.put_value.Statement.{statement}
 use Rattle.xmltoproto.proofs.enums.put_value.Tie as tie
@@ -11,51 +13,54 @@ use Rattle.xmltoproto.proofs.enums.put_known_prefix.Reads as put-known-
 use Rattle.xmltoproto.proofs.view.name_at.Reads as name-at-reads
 use Rattle.xmltoproto.proofs.view.second_at.Reads as second-at-reads
 
--- src/enums.rt:40:32
+-- src/enums.rt:65:32
 slice-aggregate-put-bytes : tie.Need-slice-aggregate-put-bytes
 slice-aggregate-put-bytes c = search laws
 
--- src/enums.rt:40:9
+-- src/enums.rt:65:9
 put-bytes-requires : tie.Need-put-bytes-requires
 put-bytes-requires c κs = search laws
 
--- src/enums.rt:41:9
+-- src/enums.rt:66:9
 put-known-prefix-requires : tie.Need-put-known-prefix-requires
-put-known-prefix-requires c κs = search laws
+put-known-prefix-requires c κs =
+    let at-put-bytes = c .before .before .before in
+    let start = at-put-bytes .before .before .before .before .before .before .before in
+    (start .pre .0, standing-kept (omega arith) (start .pre .1) (at-put-bytes .put-bytes .ensures))
 
--- src/enums.rt:42:35
+-- src/enums.rt:67:35
 name-at-requires : tie.Need-name-at-requires
 name-at-requires c κs = search laws
 
--- src/enums.rt:42:9
+-- src/enums.rt:67:9
 put-screaming-requires : tie.Need-put-screaming-requires
 put-screaming-requires c κs = search laws
 
--- src/enums.rt:43:31
+-- src/enums.rt:68:31
 slice-aggregate-put-bytes-2 : tie.Need-slice-aggregate-put-bytes-2
 slice-aggregate-put-bytes-2 c = search laws
 
--- src/enums.rt:43:9
+-- src/enums.rt:68:9
 put-bytes-requires-2 : tie.Need-put-bytes-requires-2
 put-bytes-requires-2 c κs = search laws
 
--- src/enums.rt:44:31
+-- src/enums.rt:69:31
 second-at-requires : tie.Need-second-at-requires
 second-at-requires c κs = search laws
 
--- src/enums.rt:44:9
+-- src/enums.rt:69:9
 put-bytes-requires-3 : tie.Need-put-bytes-requires-3
 put-bytes-requires-3 c κs = search laws
 
--- src/enums.rt:45:23
+-- src/enums.rt:70:23
 slice-aggregate-put-bytes-3 : tie.Need-slice-aggregate-put-bytes-3
 slice-aggregate-put-bytes-3 c = search laws
 
--- src/enums.rt:45:5
+-- src/enums.rt:70:5
 put-bytes-requires-4 : tie.Need-put-bytes-requires-4
 put-bytes-requires-4 c κs = search laws
 
--- src/enums.rt:29:1
+-- src/enums.rt:51:1
 returns : tie.Need-returns
 returns c =
     let at-put-bytes4 = c .before .before in
@@ -68,7 +73,7 @@ returns c =
     let at-put-bytes = at-put-known-prefix .before .before .before .before in
     value-printed _ _ (at-name-at .name-at .ensures) (at-second-at .second-at .ensures) ((at-put-bytes .put-bytes .ensures) ▸ (at-put-known-prefix .put-known-prefix .ensures) ▸ (at-put-screaming .put-screaming .ensures) ▸ (at-put-bytes2 .put-bytes2 .ensures) ▸ (at-put-bytes3 .put-bytes3 .ensures) ▸ (at-put-bytes4 .put-bytes4 .ensures))
 
--- src/enums.rt:29:1
+-- src/enums.rt:51:1
 same-length : tie.Need-same-length
 same-length c = length-printed (returns c)
 
