@@ -4,16 +4,18 @@ use mathlib.Core.Bool.{Bool, true, false}
 use mathlib.Core.List.{List, []}
 use Prim.Native.Nat.{ℕ, _+_, _*_, _-_, _≤_, _<_}
 use native.Mathlib.Omega.{arith}
-use lib.ListN.{length, getD, replicate, length-replicate, getD-replicate, List·getD-eq-default}
+use lib.ListN.{length, getD, set, length-set, replicate, length-replicate, getD-replicate, List·getD-eq-default}
+use lib.Seq.{getD-set-same, getD-set-other}
 use Rattle.xmlschema.proofs.Records.{by-less}
 use Rattle.xmlschema.specs.Schema.{Item, Schema, itemAt}
 use Rattle.xmlschema.specs.Store.{itemOf, schemaOf}
 use Rattle.xmlschema.specs.declared.items.Entry.{Entry}
 use Rattle.xmlschema.specs.declared.items.Model.{Model}
-use Rattle.index.specs.Index.{code, fronted, hashFrom, HashOf, declares, Linked, Chained, Blank, Linking, Naming, Indexed}
+use Rattle.index.specs.Declarations.{declarationOf, numberOf}
+use Rattle.index.specs.Index.{code, fronted, hashFrom, HashOf, declares, Linked, Chained, Resolved, Blank, Linking, Naming, Resolving, Indexed}
 use Rattle.index.proofs.Fronting.{fronted-length, fronted-other}
 use Rattle.index.proofs.Linking.{linked-start, linked-on, linked-off, linked-frame}
-use Rattle.index.proofs.Chaining.{chained-start, chained-on, chained-off}
+use Rattle.index.proofs.Chaining.{chained-start, chained-on, chained-off, chained-frame}
 
 -- ---- the item that the code reads
 
@@ -29,13 +31,16 @@ module _ (m : Model) (rec : List ℕ) (i : ℕ) (e : Entry) (f : (t : List ℕ) 
   pub name-is : {w : List ℕ} → w ≡ itemOf text e .name → w ≡ itemAt (schemaOf m rec text) i .name
   name-is q = q ∙ ap (λ (x : Item). x .name) (f text)
 
+  pub second-is : {w : List ℕ} → w ≡ itemOf text e .second → w ≡ itemAt (schemaOf m rec text) i .second
+  second-is q = q ∙ ap (λ (x : Item). x .second) (f text)
+
 -- ---- an array of zeros
 
-pub blank-zeros : Blank (replicate 13312 0)
+pub blank-zeros : Blank (replicate 14336 0)
 blank-zeros =
     record {
-      long = let e = length-replicate {A = ℕ} 13312 0 in omega arith;
-      zero = λ k. by-less k 13312 (λ l. getD-replicate 13312 k 0 0 l) (λ l. let e = length-replicate {A = ℕ} 13312 0 in let h : length {A = ℕ} (replicate 13312 0) ≤ k = omega arith in List·getD-eq-default (replicate 13312 0) 0 h);
+      long = let e = length-replicate {A = ℕ} 14336 0 in omega arith;
+      zero = λ k. by-less k 14336 (λ l. getD-replicate 14336 k 0 0 l) (λ l. let e = length-replicate {A = ℕ} 14336 0 in let h : length {A = ℕ} (replicate 14336 0) ≤ k = omega arith in List·getD-eq-default (replicate 14336 0) 0 h);
     }
 
 -- ---- links
@@ -97,10 +102,43 @@ module _ (m : Model) (rec text : List ℕ) (i : ℕ) (e : Entry) (f : (t : List 
         chained = rw (q, z) on;
       }
 
--- ---- both
+-- ---- type names
 
-pub indexed-built : (s : Schema) (ix : List ℕ) → Naming s (length (s .items)) ix → Indexed s ix
-indexed-built s ix c = record { long = c .long; links = λ _. c .linked; names = λ _. c .chained }
+pub resolving-start : (s : Schema) (ix : List ℕ) → Naming s (length (s .items)) ix → Resolving s 0 ix
+resolving-start s ix c = record { long = c .long; linked = c .linked; chained = c .chained; resolved = record { is = λ j l k. absurd (omega arith) } }
+
+pub resolving-end : (s : Schema) (ix : List ℕ) {i n : ℕ} → Resolving s i ix → i ≤ n → n ≡ length (s .items) → n ≤ i → Resolving s (length (s .items)) ix
+resolving-end s ix {i} {n} c a e b = let q : i ≡ length (s .items) = omega arith in rw q at c
+
+pub resolving-chained : (s : Schema) (ix : List ℕ) {i : ℕ} → Resolving s i ix → Chained s (length (s .items)) ix
+resolving-chained s ix c = c .chained
+
+module _ (m : Model) (rec text : List ℕ) (i : ℕ) (e : Entry) (f : (t : List ℕ) → itemOf t e ≡ itemAt (schemaOf m rec t) i) (ix : List ℕ) (c : Resolving (schemaOf m rec text) i ix) where
+  pub resolve-off : (e .kind ≡ 9 → ⊥) → Resolving (schemaOf m rec text) (i + 1) ix
+  resolve-off n =
+      record {
+        long = c .long;
+        linked = c .linked;
+        chained = c .chained;
+        resolved = record { is = λ j l k. by-less j i (λ b. c .resolved .is j b k) (λ b. let q : j ≡ i = omega arith in absurd (n (kind-is m rec i e f text ∙ (rw q at k)))) };
+      }
+
+  pub resolve-on : length (schemaOf m rec text .items) ≤ 1024 → i < length (schemaOf m rec text .items) → {w : List ℕ} → w ≡ itemOf text e .second → {d : ℕ} → d ≡ numberOf (declarationOf (schemaOf m rec text) w) → {ix′ : List ℕ} → ix′ ≡ set ix (13312 + i) d → Resolving (schemaOf m rec text) (i + 1) ix′
+  resolve-on most h {w} ew {d} ed {ix′} q =
+      record {
+        long = rw (q, length-set) (c .long);
+        linked = linked-frame (schemaOf m rec text) 0 ix ix′ most (λ k l. rw q (getD-set-other ix (13312 + i) k d 0 (λ x. omega arith))) (c .linked);
+        chained = chained-frame (schemaOf m rec text) (length (schemaOf m rec text .items)) ix ix′ most (λ k l. rw q (getD-set-other ix (13312 + i) k d 0 (λ x. omega arith))) (c .chained);
+        resolved = record { is = λ j l k. by-less j i (λ b. rw q (getD-set-other ix (13312 + i) (13312 + j) d 0 (λ x. omega arith) ∙ c .resolved .is j b k)) (λ b. let z : j ≡ i = omega arith in rw (z, q) (here ∙ ed ∙ ap (λ x. numberOf (declarationOf (schemaOf m rec text) x)) (second-is m rec i e f text ew))) };
+      }
+    where
+      here : getD (set ix (13312 + i) d) (13312 + i) 0 ≡ d
+      here = let l = c .long in getD-set-same ix (13312 + i) d 0 (omega arith)
+
+-- ---- all
+
+pub indexed-built : (s : Schema) (ix : List ℕ) → Resolving s (length (s .items)) ix → Indexed s ix
+indexed-built s ix c = record { long = c .long; links = λ _. c .linked; types = λ _. c .resolved }
 
 pub indexed-not : (s : Schema) (ix : List ℕ) → Blank ix → {n : ℕ} → n ≡ length (s .items) → 1024 < n → Indexed s ix
-indexed-not s ix b e h = record { long = b .long; links = λ most. absurd (omega arith); names = λ most. absurd (omega arith) }
+indexed-not s ix b e h = record { long = b .long; links = λ most. absurd (omega arith); types = λ most. absurd (omega arith) }

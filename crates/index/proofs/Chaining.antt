@@ -88,7 +88,7 @@ is-hashed : (it : Item) → declares (it .kind) ≡ true → hashed (hashFrom 0 
 unfolding hashed
 is-hashed it d = rw (d, eq-eqb (hashFrom 0 (it .name)) (hashFrom 0 (it .name)) refl)
 
-hashed-as : (it : Item) (b : ℕ) → hashed b it ≡ true → (declares (it .kind) ≡ true) × (hashFrom 0 (it .name) ≡ b)
+pub hashed-as : (it : Item) (b : ℕ) → hashed b it ≡ true → (declares (it .kind) ≡ true) × (hashFrom 0 (it .name) ≡ b)
 unfolding hashed
 hashed-as it b t = let e = both-true (declares (it .kind)) (eqb (hashFrom 0 (it .name)) b) t in (e .0, eqb-true (hashFrom 0 (it .name)) b (e .1))
 
@@ -104,7 +104,7 @@ module _ (s : Schema) (ix : List ℕ) (n : ℕ) (c : Chained s n ix) (h : n < le
   unfolding lastHashed
   head-new d = last-yes (hashed (hashFrom 0 (itemAt s n .name))) s n h (is-hashed (itemAt s n) d)
 
-  module _ (big : 13312 ≤ length ix) (most : length (s .items) ≤ 1024) (d : declares (itemAt s n .kind) ≡ true) (low : hashFrom 0 (itemAt s n .name) < 1024) where
+  module _ (big : 14336 ≤ length ix) (most : length (s .items) ≤ 1024) (d : declares (itemAt s n .kind) ≡ true) (low : hashFrom 0 (itemAt s n .name) < 1024) where
     chained-head : (b : ℕ) → b < 1024 → getD (fronted ix (11264 + hashFrom 0 (itemAt s n .name)) (12288 + n) n) (11264 + b) 0 ≡ code (lastHashed b (n + 1) s)
     chained-head b l =
         by-equal b (hashFrom 0 (itemAt s n .name))
@@ -133,3 +133,11 @@ module _ (s : Schema) (ix : List ℕ) (n : ℕ) (c : Chained s n ix) (h : n < le
             (λ m. c .chain j m b t)
             (λ m. let e : j ≡ n = omega arith in let d = hashed-as (itemAt s n) b (is-true (hashed b (itemAt s n)) (rw e at t)) .0 in absurd (let z : _≡_ {A = ℕ} 0 1 = cc in omega arith));
       }
+
+-- what stands behind them is no part of the chains
+pub chained-frame : (s : Schema) (n : ℕ) (ix ix′ : List ℕ) → n ≤ 1024 → ((k : ℕ) → k < 13312 → getD ix′ k 0 ≡ getD ix k 0) → Chained s n ix → Chained s n ix′
+chained-frame s n ix ix′ most f c =
+    record {
+      head = λ b l. f (11264 + b) (omega arith) ∙ c .head b l;
+      chain = λ j l b t. f (12288 + j) (omega arith) ∙ c .chain j l b t;
+    }

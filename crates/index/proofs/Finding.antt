@@ -8,19 +8,22 @@ use native.Mathlib.Nat.{suc-add}
 use native.Mathlib.Numerals.{add-one}
 use native.Mathlib.Omega.{arith}
 use lib.Dec.{eqb}
-use lib.ListN.{length, getD, drop, drop-of-length-le}
+use lib.ListN.{length, getD, drop, drop-of-length-le, List·getD-eq-default}
 use lib.Seq.{drop-cons}
 use borrow.Author.Tests.{eq-eqb, ne-eqb}
-use Rattle.texts.specs.Choice.{_and_, _or_}
-use Rattle.texts.specs.Text.{same}
-use Rattle.xmlschema.specs.Schema.{Item, Schema, itemAt, nextUnder, lastNamed}
+use Rattle.texts.specs.Choice.{_or_}
+use Rattle.xmlschema.specs.Schema.{Item, Schema, itemAt, noItem, nextUnder, lastNamed, aType, aComposite, anEnum}
+use Rattle.xmlschema.proofs.Records.{by-less}
 use Rattle.xmlschema.specs.Store.{itemOf, schemaOf, found}
 use Rattle.xmlschema.specs.declared.items.Entry.{Entry}
 use Rattle.xmlschema.specs.declared.items.Model.{Model}
 use Rattle.xmlschema.specs.declared.items.Position.{Position}
 use Rattle.xmlschema.specs.declared.items.Position.the-variants.{At, Nothing}
+use Rattle.index.specs.Declarations.{declarationOf, numberOf}
+use Rattle.index.specs.declared.Declaration.{Declaration}
+use Rattle.index.specs.declared.Declaration.the-variants as declaration
 use Rattle.index.specs.Index.{code, hashFrom, HashOf, declares, Indexed}
-use Rattle.index.proofs.Building.{kind-is, owner-is, name-is}
+use Rattle.index.proofs.Building.{kind-is, owner-is, second-is}
 
 -- ---- the hash: what is still to come is unchanged
 
@@ -64,6 +67,18 @@ pub position-none : {n : ℕ} → n ≤ 0 → (o : Option ℕ) → n ≡ code o 
 position-none h none e = refl
 position-none h (some i) e = absurd (omega arith)
 
+found-some : (o : Option ℕ) {i : ℕ} → found o ≡ At i → o ≡ some i
+found-some none e = absurd (let z : _≡_ {A = ℕ} 0 1 = cc in omega arith)
+found-some (some j) e = cc
+
+found-none : (o : Option ℕ) → found o ≡ Nothing → o ≡ none
+found-none none e = refl
+found-none (some j) e = absurd (let z : _≡_ {A = ℕ} 0 1 = cc in omega arith)
+
+-- past the last item there is no field
+inside : (s : Schema) (i : ℕ) → itemAt s i .kind ≡ 9 → i < length (s .items)
+inside s i k = by-less i (length (s .items)) (λ l. l) (λ l. absurd (let z : 0 ≡ 9 = rw (List·getD-eq-default (s .items) noItem l) at k in omega arith))
+
 -- ---- children
 
 pub under-any : {r : Position} (m : Model) (rec : List ℕ) (kind owner from : ℕ) → ((t : List ℕ) → r ≡ found (nextUnder kind owner from (schemaOf m rec t))) → (text : List ℕ) → r ≡ found (nextUnder kind owner from (schemaOf m rec text))
@@ -86,14 +101,48 @@ child-next m rec text ix x kind owner from most hk ho h en l e f ek eo g =
     g (nextUnder kind owner from (schemaOf m rec text))
     (child-on (schemaOf m rec text) ix x kind owner from most h (omega arith) (sym (kind-is m rec (from - 1) e f text) ∙ ek) (sym (owner-is m rec (from - 1) e f text) ∙ eo) hk ho)
 
--- ---- names
+-- ---- type names
 
-module _ (m : Model) (rec : List ℕ) (i : ℕ) (e : Entry) (f : (t : List ℕ) → itemOf t e ≡ itemAt (schemaOf m rec t) i) (text : List ℕ) (kind : ℕ) (name : List ℕ) where
-  pub named-yes : e .kind ≡ kind → {w : List ℕ} → w ≡ itemOf text e .name → {b : Bool} → b ≡ same w name → b ≡ (eqb (itemAt (schemaOf m rec text) i .kind) kind and same (itemAt (schemaOf m rec text) i .name) name)
-  named-yes ek {w} ew eb =
-      let k : itemAt (schemaOf m rec text) i .kind ≡ kind = sym (kind-is m rec i e f text) ∙ ek in
-      let n = name-is m rec i e f text ew in
-      rw (eq-eqb (itemAt (schemaOf m rec text) i .kind) kind k, ← n) eb
+pub declaration-nothing : {n : ℕ} → n ≡ 0 → (d : Declaration) → n ≡ numberOf d → declaration.Nothing ≡ d
+declaration-nothing h declaration.Nothing e = refl
+declaration-nothing h declaration.Named e = absurd (omega arith)
+declaration-nothing h (declaration.Typed i) e = absurd (omega arith)
 
-  pub named-no : (e .kind ≡ kind → ⊥) → false ≡ (eqb (itemAt (schemaOf m rec text) i .kind) kind and same (itemAt (schemaOf m rec text) i .name) name)
-  named-no n = rw (ne-eqb (itemAt (schemaOf m rec text) i .kind) kind (λ q. n (kind-is m rec i e f text ∙ q)))
+pub declaration-named : {n : ℕ} → n ≡ 1 → (d : Declaration) → n ≡ numberOf d → declaration.Named ≡ d
+declaration-named h declaration.Nothing e = absurd (omega arith)
+declaration-named h declaration.Named e = refl
+declaration-named h (declaration.Typed i) e = absurd (omega arith)
+
+pub declaration-typed : {n : ℕ} → (n ≡ 0 → ⊥) → (n ≡ 1 → ⊥) → (d : Declaration) → n ≡ numberOf d → declaration.Typed (n - 2) ≡ d
+declaration-typed a b declaration.Nothing e = absurd (a e)
+declaration-typed a b declaration.Named e = absurd (b e)
+declaration-typed {n} a b (declaration.Typed i) e = let z : n - 2 ≡ i = omega arith in rw z
+
+-- by the model's searches
+module _ (s : Schema) (name : List ℕ) {q : Position} (eq : q ≡ found (lastNamed anEnum name s)) where
+  pub searched-enum : {i : ℕ} → q ≡ At i → declaration.Named ≡ declarationOf s name
+  unfolding declarationOf
+  searched-enum {i} f = rw (found-some (lastNamed anEnum name s) (sym eq ∙ f))
+
+  module _ (nq : q ≡ Nothing) {r : Position} (er : r ≡ found (lastNamed aComposite name s)) where
+    pub searched-composite : {i : ℕ} → r ≡ At i → declaration.Named ≡ declarationOf s name
+    unfolding declarationOf
+    searched-composite {i} f = rw (found-none (lastNamed anEnum name s) (sym eq ∙ nq), found-some (lastNamed aComposite name s) (sym er ∙ f))
+
+    module _ (nr : r ≡ Nothing) {t : Position} (et : t ≡ found (lastNamed aType name s)) where
+      pub searched-type : {i : ℕ} → t ≡ At i → declaration.Typed i ≡ declarationOf s name
+      unfolding declarationOf
+      searched-type {i} f = rw (found-none (lastNamed anEnum name s) (sym eq ∙ nq), found-none (lastNamed aComposite name s) (sym er ∙ nr), found-some (lastNamed aType name s) (sym et ∙ f))
+
+      pub searched-none : t ≡ Nothing → declaration.Nothing ≡ declarationOf s name
+      unfolding declarationOf
+      searched-none f = rw (found-none (lastNamed anEnum name s) (sym eq ∙ nq), found-none (lastNamed aComposite name s) (sym er ∙ nr), found-none (lastNamed aType name s) (sym et ∙ f))
+
+module _ (m : Model) (rec : List ℕ) (i : ℕ) (e : Entry) (f : (t : List ℕ) → itemOf t e ≡ itemAt (schemaOf m rec t) i) (text : List ℕ) where
+  pub declared-searched : {w : List ℕ} → w ≡ itemOf text e .second → {r : Declaration} → r ≡ declarationOf (schemaOf m rec text) w → r ≡ declarationOf (schemaOf m rec text) (itemAt (schemaOf m rec text) i .second)
+  declared-searched ew er = er ∙ ap (declarationOf (schemaOf m rec text)) (second-is m rec i e f text ew)
+
+  pub declared-told : (ix : List ℕ) → Indexed (schemaOf m rec text) ix → e .kind ≡ 9 → {n : ℕ} → n ≡ length (schemaOf m rec text .items) → n ≤ 1024 → {w : ℕ} → w ≡ getD ix (13312 + i) 0 → {r : Declaration} → ((d : Declaration) → w ≡ numberOf d → r ≡ d) → r ≡ declarationOf (schemaOf m rec text) (itemAt (schemaOf m rec text) i .second)
+  declared-told ix x ek {n} en most ew g =
+      let k : itemAt (schemaOf m rec text) i .kind ≡ 9 = sym (kind-is m rec i e f text) ∙ ek in
+      g (declarationOf (schemaOf m rec text) (itemAt (schemaOf m rec text) i .second)) (ew ∙ x .types (omega arith) .is i (inside (schemaOf m rec text) i k) k)

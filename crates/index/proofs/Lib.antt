@@ -2,7 +2,7 @@
 pub mod Fronting
 pub mod Linking
 pub mod Chaining
-pub mod Seeking
 pub mod Building
+pub mod Seeking
 pub mod Finding
 pub mod Laws

@@ -1,25 +1,95 @@
--- Following a chain for the last declaration of a name.
+-- Following a chain for what a name is declared as.
 use mathlib.Core.Path.{_≡_, refl, sym, ap, _∙_}
 use mathlib.Core.Bool.{Bool, true, false}
 use mathlib.Core.Option.{Option, none, some}
 use mathlib.Core.List.{List}
 use Prim.Native.Nat.{ℕ, _+_, _-_, _≤_, _<_}
 use native.Mathlib.Omega.{arith}
-use lib.Dec.{T, eqb}
+use lib.Dec.{T, eqb, ltb}
 use lib.ListN.{length, getD}
 use lib.Seq.{take-length}
-use borrow.Author.Tests.{eqb-true, eq-eqb}
+use borrow.Author.Tests.{eqb-true, eq-eqb, ne-eqb, lt-ltb, le-ltb, ltb-false}
 use Rattle.texts.specs.Choice.{pick, _and_}
 use Rattle.texts.specs.Text.{same}
 use Rattle.texts.proofs.Choosing.{by-test, both-true}
 use Rattle.texts.proofs.Comparing.{same-equal}
-use Rattle.xmlschema.specs.Schema.{Item, Schema, itemAt, lastNamed}
+use Rattle.xmlschema.specs.Schema.{Item, Schema, itemAt, lastNamed, aType, aComposite, anEnum}
 use Rattle.xmlschema.proofs.Searching.{namedSo}
-use Rattle.xmlschema.specs.Store.{found}
-use Rattle.xmlschema.specs.declared.items.Position.{Position}
-use Rattle.xmlschema.specs.declared.items.Position.the-variants.{At, Nothing}
-use Rattle.index.specs.Index.{code, hashFrom, HashOf, declares, hashed, lastHashed, Indexed}
-use Rattle.index.proofs.Chaining.{lastBy, none-passes, some-passes, last-yes, last-no, code-none, code-some}
+use Rattle.xmlschema.specs.Store.{itemOf, schemaOf}
+use Rattle.xmlschema.specs.declared.items.Entry.{Entry}
+use Rattle.xmlschema.specs.declared.items.Model.{Model}
+use Rattle.index.specs.Declarations.{declaredBy, declarationOf, numberOf, keptBy}
+use Rattle.index.specs.Index.{code, hashFrom, HashOf, declares, hashed, lastHashed, Chained}
+use Rattle.index.proofs.Fronting.{by-equal}
+use Rattle.index.proofs.Building.{kind-is, name-is}
+use Rattle.index.proofs.Chaining.{lastBy, none-passes, some-passes, last-yes, last-no, code-none, code-some, hashed-as}
+
+-- ---- what is kept
+
+typeNumber : Option ℕ → ℕ
+typeNumber none = 0
+typeNumber (some i) = i + 2
+
+-- the number, where `kept` is kept and e, c, t are the last enum, composite and type of the name that are still to come
+pub chosen : ℕ → Option ℕ → Option ℕ → Option ℕ → ℕ
+chosen kept (some i) c t = 1
+chosen kept none (some i) t = 1
+chosen kept none none t = pick (ltb 0 kept) kept (typeNumber t)
+
+chosen-first : (e c t : Option ℕ) → chosen 0 e c t ≡ numberOf (declaredBy e c t)
+unfolding chosen typeNumber
+chosen-first (some i) c t = refl
+chosen-first none (some i) t = refl
+chosen-first none none (some i) = refl
+chosen-first none none none = refl
+
+chosen-last : (kept : ℕ) → chosen kept none none none ≡ kept
+unfolding chosen typeNumber
+chosen-last kept = by-test (ltb 0 kept) (λ t. rw t) (λ f. let l = ltb-false 0 kept f in let z : 0 ≡ kept = omega arith in rw f z)
+
+chosen-one : (e c t : Option ℕ) → chosen 1 e c t ≡ 1
+unfolding chosen
+chosen-one (some i) c t = refl
+chosen-one none (some i) t = refl
+chosen-one none none t = refl
+
+-- one item of each kind: b where it has the name
+module _ (kept j : ℕ) where
+  step-type : (b : Bool) (e c t : Option ℕ) → chosen kept e c (pick b (some j) t) ≡ chosen (pick (ltb 0 kept) kept (pick b (j + 2) 0)) e c t
+  unfolding chosen typeNumber
+  step-type b (some i) c t = refl
+  step-type b none (some i) t = refl
+  step-type b none none t = go b (ltb 0 kept) refl
+    where
+      go : (b w : Bool) → ltb 0 kept ≡ w → pick (ltb 0 kept) kept (typeNumber (pick b (some j) t)) ≡ pick (ltb 0 (pick (ltb 0 kept) kept (pick b (j + 2) 0))) (pick (ltb 0 kept) kept (pick b (j + 2) 0)) (typeNumber t)
+      go b true f = rw (f, f)
+      go true false f = rw (f, lt-ltb 0 (j + 2) (omega arith))
+      go false false f = rw f
+
+  step-composite : (b : Bool) (e c t : Option ℕ) → chosen kept e (pick b (some j) c) t ≡ chosen (pick b 1 kept) e c t
+  unfolding chosen
+  step-composite false e c t = refl
+  step-composite true (some i) c t = refl
+  step-composite true none c t = sym (chosen-one none c t)
+
+  step-enum : (b : Bool) (e c t : Option ℕ) → chosen kept (pick b (some j) e) c t ≡ chosen (pick b 1 kept) e c t
+  unfolding chosen
+  step-enum false e c t = refl
+  step-enum true e c t = sym (chosen-one e c t)
+
+  step-any : (k : ℕ) → declares k ≡ true → (b : Bool) (e c t : Option ℕ)
+      → chosen kept (pick (eqb k anEnum and b) (some j) e) (pick (eqb k aComposite and b) (some j) c) (pick (eqb k aType and b) (some j) t) ≡ chosen (pick (eqb k aType) (pick (ltb 0 kept) kept (pick b (j + 2) 0)) (pick b 1 kept)) e c t
+  unfolding declares
+  step-any k d b e c t =
+      by-equal k aType
+      (λ q. rw q (step-type b e c t))
+      (λ n. by-equal k aComposite
+      (λ q. rw q (step-composite b e c t))
+      (λ m. by-equal k anEnum
+      (λ q. rw q (step-enum b e c t))
+      (λ l. absurd (let f : false ≡ true = rw (ne-eqb k aType n, ne-eqb k aComposite m, ne-eqb k anEnum l) at d in let z : _≡_ {A = ℕ} 0 1 = cc in omega arith))))
+
+-- ---- along the chain
 
 -- what is named so is hashed so
 narrow : (kind : ℕ) (name : List ℕ) → declares kind ≡ true → (it : Item) → namedSo kind name it ≡ true → hashed (hashFrom 0 name) it ≡ true
@@ -30,67 +100,105 @@ narrow kind name d it t =
     let n : it .name ≡ name = same-equal (it .name) name (e .1) in
     rw (k, n, d, eq-eqb (hashFrom 0 name) (hashFrom 0 name) refl)
 
--- p leads to the last of the first n items that may be named so, and none behind them is
-pub record Seeking (kind : ℕ) (name : List ℕ) (s : Schema) (p : ℕ) : Type 0 where
+last-step : (q : Item → Bool) (s : Schema) (j : ℕ) → j < length (s .items) → lastBy q (j + 1) s ≡ pick (q (itemAt s j)) (some j) (lastBy q j s)
+last-step q s j h = by-test (q (itemAt s j)) (λ t. rw t (last-yes q s j h t)) (λ f. rw f (last-no q s j h f))
+
+-- p leads to the last of the first n items that may be named so, and `kept` is what those behind them say
+pub record Seeking (name : List ℕ) (s : Schema) (p kept : ℕ) : Type 0 where
   pub n : ℕ
   pub within : n ≤ length (s .items)
   pub leads : p ≡ code (lastHashed (hashFrom 0 name) n s)
-  pub same : lastBy (namedSo kind name) n s ≡ lastNamed kind name s
+  pub same : chosen kept (lastBy (namedSo anEnum name) n s) (lastBy (namedSo aComposite name) n s) (lastBy (namedSo aType name) n s) ≡ numberOf (declarationOf s name)
 
-pub seeking-start : (kind : ℕ) (name : List ℕ) (s : Schema) (ix : List ℕ) → Indexed s ix → length (s .items) ≤ 1024 → {b : ℕ} → HashOf name b → {p : ℕ} → p ≡ getD ix (11264 + b) 0 → Seeking kind name s p
-unfolding lastNamed
-seeking-start kind name s ix x most {b} eb {p} ep =
+pub seeking-start : (name : List ℕ) (s : Schema) (ix : List ℕ) → Chained s (length (s .items)) ix → {b : ℕ} → HashOf name b → {p : ℕ} → p ≡ getD ix (11264 + b) 0 → Seeking name s p 0
+unfolding declarationOf lastNamed
+seeking-start name s ix x {b} eb {p} ep =
     record {
       n = length (s .items);
       within = omega arith;
-      leads = ep ∙ x .names most .head b (eb .low) ∙ ap (λ y. code (lastHashed y (length (s .items)) s)) (eb .is);
-      same = rw (take-length (s .items));
+      leads = ep ∙ x .head b (eb .low) ∙ ap (λ y. code (lastHashed y (length (s .items)) s)) (eb .is);
+      same = rw (take-length (s .items)) (chosen-first (lastNamed anEnum name s) (lastNamed aComposite name s) (lastNamed aType name s));
     }
 
-module _ (kind : ℕ) (name : List ℕ) (s : Schema) (d : declares kind ≡ true) {p : ℕ} (k : Seeking kind name s p) where
-  pub seeking-none : p ≤ 0 → Nothing ≡ found (lastNamed kind name s)
-  unfolding lastHashed
-  seeking-none h =
-      let e : lastHashed (hashFrom 0 name) (k .n) s ≡ none = code-none (lastHashed (hashFrom 0 name) (k .n) s) (let z : p ≡ 0 = omega arith in sym (k .leads) ∙ z) in
-      ap found (sym (none-passes (namedSo kind name) (hashed (hashFrom 0 name)) s (narrow kind name d) (k .n) (k .within) e) ∙ k .same)
+module _ (name : List ℕ) (s : Schema) {p kept : ℕ} (k : Seeking name s p kept) where
+  pub seeking-none : p ≤ 0 → kept ≡ numberOf (declarationOf s name)
+  unfolding lastHashed declares
+  seeking-none h = sym (chosen-last kept) ∙ (rw (gone anEnum refl, gone aComposite refl, gone aType refl) at (k .same))
+    where
+      gone : (kind : ℕ) → declares kind ≡ true → lastBy (namedSo kind name) (k .n) s ≡ none
+      gone kind d = none-passes (namedSo kind name) (hashed (hashFrom 0 name)) s (narrow kind name d) (k .n) (k .within) (code-none (lastHashed (hashFrom 0 name) (k .n) s) (let z : p ≡ 0 = omega arith in sym (k .leads) ∙ z))
 
   module _ (h : 0 < p) where
-    passed : (p - 1 < k .n) × (hashed (hashFrom 0 name) (itemAt s (p - 1)) ≡ true) × (lastBy (namedSo kind name) (k .n) s ≡ lastBy (namedSo kind name) (p - 1 + 1) s)
+    passed : (kind : ℕ) → declares kind ≡ true → (p - 1 < k .n) × (hashed (hashFrom 0 name) (itemAt s (p - 1)) ≡ true) × (lastBy (namedSo kind name) (k .n) s ≡ lastBy (namedSo kind name) (p - 1 + 1) s)
     unfolding lastHashed
-    passed = some-passes (namedSo kind name) (hashed (hashFrom 0 name)) s (narrow kind name d) (k .n) (k .within) (p - 1) (code-some (lastHashed (hashFrom 0 name) (k .n) s) p h (k .leads))
+    passed kind d = some-passes (namedSo kind name) (hashed (hashFrom 0 name)) s (narrow kind name d) (k .n) (k .within) (p - 1) (code-some (lastHashed (hashFrom 0 name) (k .n) s) p h (k .leads))
 
     pub seeking-low : p - 1 < length (s .items)
-    seeking-low = let l = passed .0 in let w = k .within in omega arith
+    unfolding declares
+    seeking-low = let l = passed aType refl .0 in let w = k .within in omega arith
 
-    pub seeking-found : {b : Bool} → b ≡ namedSo kind name (itemAt s (p - 1)) → b ≡ true → At (p - 1) ≡ found (lastNamed kind name s)
-    seeking-found e t = ap found (sym (last-yes (namedSo kind name) s (p - 1) seeking-low (sym e ∙ t)) ∙ sym (passed .2) ∙ k .same)
+    pub seeking-few : length (s .items) ≤ 1024 → p - 1 < 1024
+    seeking-few most = let l = seeking-low in omega arith
 
-    module _ (ix : List ℕ) (x : Indexed s ix) (most : length (s .items) ≤ 1024) {q : ℕ} (eq : q ≡ getD ix (12288 + (p - 1)) 0) where
+    turned : (kind : ℕ) → declares kind ≡ true → lastBy (namedSo kind name) (k .n) s ≡ pick (namedSo kind name (itemAt s (p - 1))) (some (p - 1)) (lastBy (namedSo kind name) (p - 1) s)
+    turned kind d = passed kind d .2 ∙ last-step (namedSo kind name) s (p - 1) seeking-low
+
+    declaring : declares (itemAt s (p - 1) .kind) ≡ true
+    unfolding declares
+    declaring = hashed-as (itemAt s (p - 1)) (hashFrom 0 name) (passed aType refl .1) .0
+
+    module _ {r : ℕ} (er : r ≡ keptBy (itemAt s (p - 1)) (p - 1) name kept) where
+      kept-same : chosen r (lastBy (namedSo anEnum name) (p - 1) s) (lastBy (namedSo aComposite name) (p - 1) s) (lastBy (namedSo aType name) (p - 1) s) ≡ numberOf (declarationOf s name)
+      unfolding declares
+      kept-same =
+          rw er
+          (sym (step-any kept (p - 1) (itemAt s (p - 1) .kind) declaring (same (itemAt s (p - 1) .name) name) (lastBy (namedSo anEnum name) (p - 1) s) (lastBy (namedSo aComposite name) (p - 1) s) (lastBy (namedSo aType name) (p - 1) s))
+          ∙ (rw (turned anEnum refl, turned aComposite refl, turned aType refl) at (k .same)))
+
+      pub seeking-found : r ≡ 1 → r ≡ numberOf (declarationOf s name)
+      seeking-found e = rw e (sym (chosen-one (lastBy (namedSo anEnum name) (p - 1) s) (lastBy (namedSo aComposite name) (p - 1) s) (lastBy (namedSo aType name) (p - 1) s)) ∙ (rw e at kept-same))
+
+    module _ (ix : List ℕ) (x : Chained s (length (s .items)) ix) {q : ℕ} (eq : q ≡ getD ix (12288 + (p - 1)) 0) where
       next-leads : q ≡ code (lastHashed (hashFrom 0 name) (p - 1) s)
-      next-leads = eq ∙ x .names most .chain (p - 1) seeking-low (hashFrom 0 name) (rw (passed .1) tt)
+      unfolding declares
+      next-leads = eq ∙ x .chain (p - 1) seeking-low (hashFrom 0 name) (rw (passed aType refl .1) tt)
 
-      pub seeking-on : {b : Bool} → b ≡ namedSo kind name (itemAt s (p - 1)) → b ≡ false → Seeking kind name s q
-      seeking-on e f =
-          record {
-            n = p - 1;
-            within = let l = seeking-low in omega arith;
-            leads = next-leads;
-            same = sym (last-no (namedSo kind name) s (p - 1) seeking-low (sym e ∙ f)) ∙ sym (passed .2) ∙ k .same;
-          }
+      pub seeking-on : {r : ℕ} → r ≡ keptBy (itemAt s (p - 1)) (p - 1) name kept → Seeking name s q r
+      seeking-on er = record { n = p - 1; within = let l = seeking-low in omega arith; leads = next-leads; same = kept-same er }
 
       pub seeking-less : q < p
-      unfolding lastHashed
+      unfolding lastHashed declares
       seeking-less = below (lastHashed (hashFrom 0 name) (p - 1) s) refl next-leads
         where
           below : (o : Option ℕ) → lastHashed (hashFrom 0 name) (p - 1) s ≡ o → q ≡ code o → q < p
           below none f e = omega arith
           below (some i) f e =
-              let l : i < p - 1 = some-passes (namedSo kind name) (hashed (hashFrom 0 name)) s (narrow kind name d) (p - 1) (let w = seeking-low in omega arith) i f .0 in
+              let l : i < p - 1 = some-passes (namedSo aType name) (hashed (hashFrom 0 name)) s (narrow aType name refl) (p - 1) (let w = seeking-low in omega arith) i f .0 in
               omega arith
 
--- what `named` hands on
-pub least : (s : Schema) {n : ℕ} → n ≡ length (s .items) → n ≤ 1024 → length (s .items) ≤ 1024
-least s e h = omega arith
+-- ---- what is kept, by the tests of an item
 
-pub declaring : (kind : ℕ) {b : Bool} → b ≡ declares kind → b ≡ true → declares kind ≡ true
-declaring kind e t = sym e ∙ t
+module _ (m : Model) (rec : List ℕ) (i : ℕ) (e : Entry) (f : (t : List ℕ) → itemOf t e ≡ itemAt (schemaOf m rec t) i) (text name : List ℕ) (kept : ℕ) where
+  module _ (ek : e .kind ≡ 1) where
+    typed : eqb (itemAt (schemaOf m rec text) i .kind) aType ≡ true
+    typed = eq-eqb (itemAt (schemaOf m rec text) i .kind) aType (sym (kind-is m rec i e f text) ∙ ek)
+
+    pub kept-so-far : 0 < kept → kept ≡ keptBy (itemAt (schemaOf m rec text) i) i name kept
+    kept-so-far h = rw (typed, lt-ltb 0 kept h)
+
+    module _ (h : kept ≤ 0) {w : List ℕ} (ew : w ≡ itemOf text e .name) {b : Bool} (eb : b ≡ same w name) where
+      pub kept-type : b ≡ true → i + 2 ≡ keptBy (itemAt (schemaOf m rec text) i) i name kept
+      kept-type t = rw (typed, le-ltb 0 kept h, ← (name-is m rec i e f text ew), ← eb, t)
+
+      pub kept-no-type : b ≡ false → 0 ≡ keptBy (itemAt (schemaOf m rec text) i) i name kept
+      kept-no-type t = rw (typed, le-ltb 0 kept h, ← (name-is m rec i e f text ew), ← eb, t)
+
+  module _ (nk : e .kind ≡ 1 → ⊥) {w : List ℕ} (ew : w ≡ itemOf text e .name) {b : Bool} (eb : b ≡ same w name) where
+    other : eqb (itemAt (schemaOf m rec text) i .kind) aType ≡ false
+    other = ne-eqb (itemAt (schemaOf m rec text) i .kind) aType (λ q. nk (kind-is m rec i e f text ∙ q))
+
+    pub kept-named : b ≡ true → 1 ≡ keptBy (itemAt (schemaOf m rec text) i) i name kept
+    kept-named t = rw (other, ← (name-is m rec i e f text ew), ← eb, t)
+
+    pub kept-other : b ≡ false → kept ≡ keptBy (itemAt (schemaOf m rec text) i) i name kept
+    kept-other t = rw (other, ← (name-is m rec i e f text ew), ← eb, t)

@@ -1,6 +1,7 @@
 -- An index over a schema's items: for each owner and kind the first item, for each item the next of its kind and
--- owner, and for each short hash of a name the declarations that have it, the last first. Internal: what is promised
--- to the crates above is the model's own searches (`nextUnder`, `lastNamed`).
+-- owner, for each short hash of a name the declarations that have it, the last first, and for each field what its type
+-- name is declared as. Internal: what is promised to the crates above is the model's own searches (`nextUnder`,
+-- `lastNamed`).
 use mathlib.Core.Path.{_≡_}
 use mathlib.Core.Bool.{Bool}
 use mathlib.Core.List.{List, [], _∷_}
@@ -9,7 +10,8 @@ use Prim.Native.Nat.{ℕ, zero, suc, _+_, _*_, _%_, _≤_, _<_}
 use lib.Dec.{T, eqb}
 use lib.ListN.{length, getD, take, set}
 use Rattle.texts.specs.Choice.{_and_, _or_}
-use Rattle.xmlschema.specs.Schema.{Item, Schema, itemAt, positionsFrom, last, nextUnder, aType, aComposite, anEnum}
+use Rattle.xmlschema.specs.Schema.{Item, Schema, itemAt, positionsFrom, last, nextUnder, aType, aComposite, anEnum, aField}
+use Rattle.index.specs.Declarations.{declarationOf, numberOf}
 
 -- a position as the index holds it
 abbrev pub code : Option ℕ → ℕ
@@ -53,28 +55,40 @@ pub record Chained (s : Schema) (n : ℕ) (ix : List ℕ) : Type 0 where
   pub head : (b : ℕ) → b < 1024 → getD ix (11264 + b) 0 ≡ code (lastHashed b n s)
   pub chain : (j : ℕ) → j < n → (b : ℕ) → T (hashed b (itemAt s j)) → getD ix (12288 + j) 0 ≡ code (lastHashed b j s)
 
--- ---- both, where there are as many items as a schema may have
+-- ---- type names: what the one of each field is declared as
+
+pub record Resolved (s : Schema) (n : ℕ) (ix : List ℕ) : Type 0 where
+  pub is : (j : ℕ) → j < n → itemAt s j .kind ≡ aField → getD ix (13312 + j) 0 ≡ numberOf (declarationOf s (itemAt s j .second))
+
+-- ---- all, where there are as many items as a schema may have
 
 pub record Indexed (s : Schema) (ix : List ℕ) : Type 0 where
-  pub long : 13312 ≤ length ix
+  pub long : 14336 ≤ length ix
   pub links : length (s .items) ≤ 1024 → Linked s 0 ix
-  pub names : length (s .items) ≤ 1024 → Chained s (length (s .items)) ix
+  pub types : length (s .items) ≤ 1024 → Resolved s (length (s .items)) ix
 
 -- ---- while it is built
 
 -- an array of zeros
 pub record Blank (ix : List ℕ) : Type 0 where
-  pub long : 13312 ≤ length ix
+  pub long : 14336 ≤ length ix
   pub zero : (k : ℕ) → getD ix k 0 ≡ 0
 
 -- the items from i on are linked, and there are no names yet
 pub record Linking (s : Schema) (i : ℕ) (ix : List ℕ) : Type 0 where
-  pub long : 13312 ≤ length ix
+  pub long : 14336 ≤ length ix
   pub linked : Linked s i ix
   pub zero : (k : ℕ) → 11264 ≤ k → getD ix k 0 ≡ 0
 
 -- all items are linked, and the first n have their names in the chains
 pub record Naming (s : Schema) (n : ℕ) (ix : List ℕ) : Type 0 where
-  pub long : 13312 ≤ length ix
+  pub long : 14336 ≤ length ix
   pub linked : Linked s 0 ix
   pub chained : Chained s n ix
+
+-- all names are in the chains, and the type names of the first n items are resolved
+pub record Resolving (s : Schema) (n : ℕ) (ix : List ℕ) : Type 0 where
+  pub long : 14336 ≤ length ix
+  pub linked : Linked s 0 ix
+  pub chained : Chained s (length (s .items)) ix
+  pub resolved : Resolved s n ix

@@ -1,2 +1,3 @@
 -- What the index holds.
+pub mod Declarations
 pub mod Index

@@ -1,11 +1,12 @@
 // An index over a model, for its searches: children by links, declarations by chains of a short hash.
 //
-// `build` fills a lent array from any model in one pass each; `child` and `named` then promise what the model's
-// own `next_under` and `last_named` promise, without walking all items. Nothing is asked of the model: where it has
-// more than 1,024 items, which no document gives, the model's searches answer.
+// `build` fills a lent array from any model in one pass each; `child` then promises what the model's own `next_under`
+// promises, and `declared` what its `last_named` says of a field's type name, without walking all items. Nothing is
+// asked of the model: where it has more than 1,024 items, which no document gives, the model's searches answer.
 use texts::equal;
 use xmlschema::items::COMPOSITE;
 use xmlschema::items::ENUM;
+use xmlschema::items::FIELD;
 use xmlschema::items::Model;
 use xmlschema::items::Position;
 use xmlschema::items::TYPE;
@@ -14,22 +15,21 @@ use xmlschema::items::item;
 use xmlschema::items::last_named;
 use xmlschema::items::name_of;
 use xmlschema::items::next_under;
+use xmlschema::items::second_of;
 ghost use mathlib.Core.Path.{_≡_};
-ghost use mathlib.Core.Bool.{true};
 ghost use mathlib.Core.Option.{Option};
 ghost use Prim.Native.Nat.{ℕ, _+_, _≤_, _<_};
-ghost use lib.Dec.{eqb};
-ghost use lib.ListN.{length, getD};
-ghost use Rattle.texts.specs.Choice.{_and_};
-ghost use Rattle.texts.specs.Text.{same};
-ghost use Rattle.xmlschema.specs.Schema.{itemAt, nextUnder, lastNamed};
+ghost use lib.ListN.{length, getD, set};
+ghost use Rattle.xmlschema.specs.Schema.{itemAt, nextUnder};
 ghost use Rattle.xmlschema.specs.Store.{schemaOf, found};
-ghost use Rattle.index.specs.Index.{code, fronted, HashOf, declares, Blank, Linking, Naming, Indexed};
+ghost use Rattle.index.specs.Index.{code, fronted, HashOf, declares, Chained, Blank, Linking, Naming, Resolving, Indexed};
+ghost use Rattle.index.specs.Declarations.{declarationOf, numberOf, keptBy};
+ghost use Rattle.index.specs.declared.Declaration.{Declaration};
 
 // How many numbers the index takes: the first item of each of 10 kinds under each of 1,024 owners, the
-// next item after each of 1,024, the last declaration of each of 1,024 hashes, and the one before each of
-// 1,024 items with the same hash.
-pub const SIZE: usize = 13312;
+// next item after each of 1,024, the last declaration of each of 1,024 hashes, the one before each of
+// 1,024 items with the same hash, and what the type name of each of 1,024 is declared as.
+pub const SIZE: usize = 14336;
 
 // Where these parts begin; the first begins at 0.
 const NEXT: usize = 10240;
@@ -37,6 +37,8 @@ const NEXT: usize = 10240;
 const HEADS: usize = 11264;
 
 const CHAIN: usize = 12288;
+
+const RESOLVED: usize = 13312;
 
 // As many items as the index holds, and a schema may have.
 const MOST: u32 = 1024;
@@ -47,8 +49,8 @@ fn wide(b: u8) -> usize
     b as usize
 }
 
-// The hash of a name, for `named`.
-pub fn hash_of(name: &[u8]) -> usize
+// The hash of a name.
+fn hash_of(name: &[u8]) -> usize
     ensures { λ r. ⌜ HashOf (now (name .entry)) r ⌝ }
 {
     let mut h: usize = 0;
@@ -68,6 +70,13 @@ fn put_front(ix: &mut [u16], head: usize, at: usize, i: u32)
     ix[at] = ix[head];
     let n = i + 1;
     ix[head] = n as u16;
+}
+
+fn put_number(ix: &mut [u16], at: usize, n: u32)
+    requires { ⌜ (at < length (now ix)) × (n < 1026) ⌝ }
+    ensures { λ r. ⌜ now (ix .exit) ≡ set (now (ix .entry)) at n ⌝ }
+{
+    ix[at] = n as u16;
 }
 
 // ---- building
@@ -137,6 +146,82 @@ fn put_names(m: Model, rec: &[u32], text: &[u8], ix: &mut [u16])
     }
 }
 
+fn number(n: u16) -> u32
+    ensures { λ r. ⌜ r ≡ n ⌝ }
+{
+    n as u32
+}
+
+// A number of the index, and 0 past its end.
+fn word(ix: &[u16], k: usize) -> u32
+    ensures { λ r. ⌜ r ≡ getD (now (ix .entry)) k 0 ⌝ }
+{
+    if k < ix.len() { number(ix[k]) } else { 0 }
+}
+
+// What is kept of a chain, from its head to the item at `i`: 0 or a declaration's number.
+fn kept_at(m: Model, rec: &[u32], text: &[u8], i: u32, name: &[u8], kept: u32) -> u32
+    requires { ⌜ (i < 1024) × (kept < 1026) ⌝ }
+    ensures { λ r. ⌜ (r ≡ keptBy (itemAt (schemaOf m (now (rec .entry)) (now (text .entry))) i) i (now (name .entry)) kept) × (r < 1026) ⌝ }
+{
+    let e = item(m, rec, i);
+    if e.kind == TYPE {
+        if 0 < kept {
+            return kept;
+        }
+        if equal(name_of(e, text), name) {
+            return i + 2;
+        }
+        return 0;
+    }
+    if equal(name_of(e, text), name) {
+        return 1;
+    }
+    kept
+}
+
+// Along the chain of the name's hash: an enum or composite ends it, the first type is kept.
+fn resolved(m: Model, rec: &[u32], text: &[u8], ix: &[u16], name: &[u8]) -> u32
+    requires { ⌜ Chained (schemaOf m (now rec) (now text)) (length (schemaOf m (now rec) (now text) .items)) (now ix) × (length (schemaOf m (now rec) (now text) .items) ≤ 1024) ⌝ }
+    ensures { λ r. ⌜ (r ≡ numberOf (declarationOf (schemaOf m (now (rec .entry)) (now (text .entry))) (now (name .entry)))) × (r < 1026) ⌝ }
+{
+    let mut kept = 0;
+    let mut p = word(ix, HEADS + hash_of(name));
+    while 0 < p {
+        let i = p - 1;
+        kept = kept_at(m, rec, text, i, name, kept);
+        if kept == 1 {
+            return kept;
+        }
+        p = word(ix, CHAIN + i as usize);
+    }
+    kept
+}
+
+fn resolve_item(m: Model, rec: &[u32], text: &[u8], i: u32, ix: &mut [u16])
+    requires { ⌜ Resolving (schemaOf m (now rec) (now text)) i (now ix) × (i < length (schemaOf m (now rec) (now text) .items)) × (length (schemaOf m (now rec) (now text) .items) ≤ 1024) ⌝ }
+    ensures { λ r. ⌜ Resolving (schemaOf m (now (rec .entry)) (now (text .entry))) (i + 1) (now (ix .exit)) ⌝ }
+{
+    let e = item(m, rec, i);
+    if e.kind == FIELD {
+        let d = resolved(m, rec, text, ix, second_of(e, text));
+        let at = RESOLVED + i as usize;
+        put_number(ix, at, d);
+    }
+}
+
+fn put_resolved(m: Model, rec: &[u32], text: &[u8], ix: &mut [u16])
+    requires { ⌜ Naming (schemaOf m (now rec) (now text)) (length (schemaOf m (now rec) (now text) .items)) (now ix) × (length (schemaOf m (now rec) (now text) .items) ≤ 1024) ⌝ }
+    ensures { λ r. ⌜ Resolving (schemaOf m (now (rec .entry)) (now (text .entry))) (length (schemaOf m (now (rec .entry)) (now (text .entry)) .items)) (now (ix .exit)) ⌝ }
+{
+    let n = count(m, rec, text);
+    let mut i = 0;
+    while i < n {
+        resolve_item(m, rec, text, i, ix);
+        i += 1;
+    }
+}
+
 // The index of a model, into an array of zeros.
 pub fn build(m: Model, rec: &[u32], text: &[u8], ix: &mut [u16])
     requires { ⌜ Blank (now ix) ⌝ }
@@ -145,6 +230,7 @@ pub fn build(m: Model, rec: &[u32], text: &[u8], ix: &mut [u16])
     if count(m, rec, text) <= MOST {
         put_links(m, rec, text, ix);
         put_names(m, rec, text, ix);
+        put_resolved(m, rec, text, ix);
     }
 }
 
@@ -215,71 +301,52 @@ pub fn child(
     next_child(m, rec, text, ix, kind, owner, from)
 }
 
-fn is_named(m: Model, rec: &[u32], text: &[u8], i: u32, kind: u32, name: &[u8]) -> bool
-    ensures { λ r. ⌜ r ≡ (eqb (itemAt (schemaOf m (now (rec .entry)) (now (text .entry))) i .kind) kind and same (itemAt (schemaOf m (now (rec .entry)) (now (text .entry))) i .name) (now (name .entry))) ⌝ }
+// What a name is declared as: an enum or composite, the type at a position, or nothing.
+pub enum Declaration {
+    Named,
+    Typed(u32),
+    Nothing,
+}
+
+// A declaration as the index holds it.
+fn numbered(n: u32) -> Declaration
+    ensures { λ r. ⌜ ((d : Declaration) → n ≡ numberOf d → r ≡ d) ⌝ }
+{
+    if n == 0 {
+        return Declaration::Nothing;
+    }
+    if n == 1 {
+        return Declaration::Named;
+    }
+    Declaration::Typed(n - 2)
+}
+
+// What a name is declared as, by the model's searches.
+pub fn declaration_in(m: Model, rec: &[u32], text: &[u8], name: &[u8]) -> Declaration
+    ensures { λ r. ⌜ r ≡ declarationOf (schemaOf m (now (rec .entry)) (now (text .entry))) (now (name .entry)) ⌝ }
+{
+    match last_named(m, rec, text, ENUM, name) {
+        Position::At(_) => Declaration::Named,
+        Position::Nothing => match last_named(m, rec, text, COMPOSITE, name) {
+            Position::At(_) => Declaration::Named,
+            Position::Nothing => match last_named(m, rec, text, TYPE, name) {
+                Position::At(i) => Declaration::Typed(i),
+                Position::Nothing => Declaration::Nothing,
+            },
+        },
+    }
+}
+
+// What the type name of the item at `i` is declared as.
+pub fn declared(m: Model, rec: &[u32], text: &[u8], ix: &[u16], i: u32) -> Declaration
+    requires { ⌜ Indexed (schemaOf m (now rec) (now text)) (now ix) ⌝ }
+    ensures { λ r. ⌜ r ≡ declarationOf (schemaOf m (now (rec .entry)) (now (text .entry))) (itemAt (schemaOf m (now (rec .entry)) (now (text .entry))) i .second) ⌝ }
 {
     let e = item(m, rec, i);
-    if e.kind == kind {
-        return equal(name_of(e, text), name);
-    }
-    false
-}
-
-fn number(n: u16) -> u32
-    ensures { λ r. ⌜ r ≡ n ⌝ }
-{
-    n as u32
-}
-
-// A number of the index, and 0 past its end.
-fn word(ix: &[u16], k: usize) -> u32
-    ensures { λ r. ⌜ r ≡ getD (now (ix .entry)) k 0 ⌝ }
-{
-    if k < ix.len() { number(ix[k]) } else { 0 }
-}
-
-// Along the chain of the name's hash.
-fn chained(
-    m: Model,
-    rec: &[u32],
-    text: &[u8],
-    ix: &[u16],
-    kind: u32,
-    name: &[u8],
-    hash: usize,
-) -> Position
-    requires { ⌜ Indexed (schemaOf m (now rec) (now text)) (now ix) × (length (schemaOf m (now rec) (now text) .items) ≤ 1024) × (declares kind ≡ true) × HashOf (now name) hash ⌝ }
-    ensures { λ r. ⌜ r ≡ found (lastNamed kind (now (name .entry)) (schemaOf m (now (rec .entry)) (now (text .entry)))) ⌝ }
-{
-    let mut p = word(ix, HEADS + hash);
-    while 0 < p {
-        let i = p - 1;
-        if is_named(m, rec, text, i, kind, name) {
-            return Position::At(i);
+    if e.kind == FIELD {
+        if count(m, rec, text) <= MOST {
+            return numbered(word(ix, RESOLVED + i as usize));
         }
-        p = word(ix, CHAIN + i as usize);
     }
-    Position::Nothing
-}
-
-// The last declaration of a kind with a name, whose hash is handed over.
-pub fn named(
-    m: Model,
-    rec: &[u32],
-    text: &[u8],
-    ix: &[u16],
-    kind: u32,
-    name: &[u8],
-    hash: usize,
-) -> Position
-    requires { ⌜ Indexed (schemaOf m (now rec) (now text)) (now ix) × HashOf (now name) hash ⌝ }
-    ensures { λ r. ⌜ r ≡ found (lastNamed kind (now (name .entry)) (schemaOf m (now (rec .entry)) (now (text .entry)))) ⌝ }
-{
-    if MOST < count(m, rec, text) {
-        return last_named(m, rec, text, kind, name);
-    }
-    if is_declaring(kind) {
-        return chained(m, rec, text, ix, kind, name, hash);
-    }
-    last_named(m, rec, text, kind, name)
+    declaration_in(m, rec, text, second_of(e, text))
 }

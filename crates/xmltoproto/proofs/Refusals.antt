@@ -44,9 +44,9 @@ module _ (s : Schema) (c : ℕ) {a : Bool} (ea : a ≡ isPrinted (itemAt s c)) w
 
 -- ---- messages
 
-module _ (s : Schema) (it : Item) {u : List ℕ} (eu : u ≡ it .second) (q : Sense) (h : meaningIn s u q ≡ meaning s u) where
-  of-sense : isArrayType (meaningIn s u q) ≡ isArrayType (meaning s (it .second))
-  of-sense = ap isArrayType h ∙ ap (λ (x : List ℕ). isArrayType (meaning s x)) eu
+module _ (s : Schema) (it : Item) (q : Sense) (h : meaningIn s (it .second) q ≡ meaning s (it .second)) where
+  of-sense : isArrayType (meaningIn s (it .second) q) ≡ isArrayType (meaning s (it .second))
+  of-sense = ap isArrayType h
 
   pub field-array-declared : q ≡ sense.Declared → false ≡ isArrayType (meaning s (it .second))
   field-array-declared f = rw f at of-sense

@@ -83,13 +83,13 @@ module _ {o : List ℕ} {at : ℕ} {o′ : List ℕ} {r : ℕ} where
     unfolding refText asNamed
     ref-printed eu d = rw (← ew, ← eu) d
 
-  module _ (s : Schema) (ind : List ℕ) (it : Item) {u w : List ℕ} {k : ℕ} (eu : u ≡ it .second) (ew : w ≡ it .name) (ek : k ≡ it .number) (q : Sense) (h : meaningIn s u q ≡ meaning s u) where
+  module _ (s : Schema) (ind : List ℕ) (it : Item) {u w : List ℕ} {k : ℕ} (eu : u ≡ it .second) (ew : w ≡ it .name) (ek : k ≡ it .number) (q : Sense) (h : meaningIn s (it .second) q ≡ meaning s (it .second)) where
     by-meaning : Printed o at o′ r (line ind (protoBy u (meaningIn s u q)) (camelToSnake w) k) → Printed o at o′ r (fieldText s ind it)
     unfolding fieldText
     by-meaning d =
         let e : line ind (protoBy u (meaningIn s u q)) (camelToSnake w) k ≡ line ind (protoBy (it .second) (meaning s (it .second))) (camelToSnake (it .name)) (it .number) =
-        ap (λ (x : Meaning). line ind (protoBy u x) (camelToSnake w) k) h
-        ∙ ap (λ (x : List ℕ). line ind (protoBy x (meaning s x)) (camelToSnake w) k) eu
+        ap (λ (x : List ℕ). line ind (protoBy x (meaningIn s x q)) (camelToSnake w) k) eu
+        ∙ ap (λ (x : Meaning). line ind (protoBy (it .second) x) (camelToSnake w) k) h
         ∙ ap (λ (x : List ℕ). line ind (protoBy (it .second) (meaning s (it .second))) (camelToSnake x) k) ew
         ∙ ap (λ (x : ℕ). line ind (protoBy (it .second) (meaning s (it .second))) (camelToSnake (it .name)) x) ek in
         subst (λ (x : List ℕ). Printed o at o′ r x) e d

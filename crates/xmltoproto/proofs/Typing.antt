@@ -1,21 +1,21 @@
 -- Laws of how a type prints and of what a type name stands for.
-use mathlib.Core.Path.{_≡_, refl, sym, _∙_}
+use mathlib.Core.Path.{_≡_, refl, sym, ap, _∙_}
 use mathlib.Core.Bool.{Bool, true, false, not}
 use mathlib.Core.List.{List, [], _∷_, _++_}
 use mathlib.Core.Option.{Option, none, some}
 use Prim.Native.Nat.{ℕ, _≤_, _<_}
 use native.Mathlib.Omega.{arith}
 use borrow.Author.Tests.{lt-ltb, le-ltb}
-use Rattle.texts.specs.Choice.{_or_}
+use Rattle.texts.specs.Choice.{pick, _or_}
 use Rattle.texts.specs.Text.{ascii, same}
 use Rattle.texts.specs.Lists.{isSome, among}
 use Rattle.texts.proofs.Among.{among-append}
 use Rattle.charsets.specs.Charset.{compatible}
-use Rattle.xmlschema.specs.Schema.{Schema, lastNamed, aType, aComposite, anEnum}
-use Rattle.xmlschema.specs.Store.{found}
-use Rattle.xmlschema.specs.declared.items.Position.{Position}
-use Rattle.xmlschema.specs.declared.items.Position.the-variants.{At, Nothing}
-use Rattle.xmltoproto.specs.Types.{builtIns, chars, isChar, isByte, isRaw, isArray, asNamed, ofLength, narrow, asPrimitive, protoOf, isDeclared, typeOr, meaning}
+use Rattle.xmlschema.specs.Schema.{Schema, itemAt, lastNamed, aType, aComposite, anEnum}
+use Rattle.index.specs.Declarations.{declaredBy, declarationOf}
+use Rattle.index.specs.declared.Declaration.{Declaration}
+use Rattle.index.specs.declared.Declaration.the-variants as declaration
+use Rattle.xmltoproto.specs.Types.{builtIns, chars, isChar, isByte, isRaw, isArray, asNamed, ofLength, narrow, asPrimitive, protoOf, Meaning, declared, typed, formOf, isDeclared, typeOr, meaning}
 use Rattle.xmltoproto.specs.Names.{signedNames, unsignedNames, otherPrimitives}
 use Rattle.xmltoproto.specs.Shapes.{form, protoIn, meaningIn}
 use Rattle.xmltoproto.specs.declared.types.Shape.{Shape}
@@ -109,36 +109,6 @@ module _ (p : List ℕ) (n : ℕ) (e : List ℕ) {a : Bool} (ea : a ≡ same p (
 
 -- ---- a type name
 
-module _ (s : Schema) (name : List ℕ) {q : Position} (eq : q ≡ found (lastNamed anEnum name s)) where
-  pub declared-enum : {i : ℕ} → q ≡ At i → true ≡ isDeclared s name
-  unfolding isDeclared
-  declared-enum f = go (lastNamed anEnum name s) (sym eq ∙ f)
-    where
-      go : {i : ℕ} (o : Option ℕ) → found o ≡ At i → true ≡ (isSome o or isSome (lastNamed aComposite name s))
-      go none g = absurd (let z : _≡_ {A = ℕ} 0 1 = cc in omega arith)
-      go (some j) g = refl
-
-  module _ (nq : q ≡ Nothing) {r : Position} (er : r ≡ found (lastNamed aComposite name s)) where
-    pub declared-composite : {i : ℕ} → r ≡ At i → true ≡ isDeclared s name
-    unfolding isDeclared
-    declared-composite f = go (lastNamed anEnum name s) (lastNamed aComposite name s) (sym er ∙ f)
-      where
-        go : {i : ℕ} (o : Option ℕ) (u : Option ℕ) → found u ≡ At i → true ≡ (isSome o or isSome u)
-        go none none g = absurd (let z : _≡_ {A = ℕ} 0 1 = cc in omega arith)
-        go (some k) none g = refl
-        go none (some j) g = refl
-        go (some k) (some j) g = refl
-
-    pub declared-not : r ≡ Nothing → false ≡ isDeclared s name
-    unfolding isDeclared
-    declared-not f = go (lastNamed anEnum name s) (lastNamed aComposite name s) (sym eq ∙ nq) (sym er ∙ f)
-      where
-        go : (o : Option ℕ) (u : Option ℕ) → found o ≡ Nothing → found u ≡ Nothing → false ≡ (isSome o or isSome u)
-        go none none g h = refl
-        go (some k) none g h = absurd (let z : _≡_ {A = ℕ} 0 1 = cc in omega arith)
-        go none (some j) g h = absurd (let z : _≡_ {A = ℕ} 0 1 = cc in omega arith)
-        go (some k) (some j) g h = absurd (let z : _≡_ {A = ℕ} 0 1 = cc in omega arith)
-
 module _ (w : List ℕ) {a : Bool} (ea : a ≡ among w signedNames) where
   pub built-signed : a ≡ true → true ≡ among w builtIns
   built-signed t = rw (among-append w signedNames (unsignedNames ++ otherPrimitives), ← ea, t)
@@ -150,32 +120,41 @@ module _ (w : List ℕ) {a : Bool} (ea : a ≡ among w signedNames) where
     pub built-other : b ≡ false → {c : Bool} → c ≡ among w otherPrimitives → c ≡ among w builtIns
     built-other t g = rw (among-append w signedNames (unsignedNames ++ otherPrimitives), ← ea, fa, among-append w unsignedNames otherPrimitives, ← eb, t) g
 
-module _ (s : Schema) (name : List ℕ) {a : Bool} (ea : a ≡ isDeclared s name) where
-  pub sense-declared : a ≡ true → meaningIn s name sense.Declared ≡ meaning s name
-  unfolding meaning
-  sense-declared t = rw (← ea, t)
+-- by what it is declared as
+abbrev declaredSo : Schema → List ℕ → Declaration → Meaning
+declaredSo s name declaration.Named = declared
+declaredSo s name (declaration.Typed i) = typed (formOf (itemAt s i))
+declaredSo s name declaration.Nothing = typeOr s name none
 
-  module _ (fa : a ≡ false) {q : Position} (eq : q ≡ found (lastNamed aType name s)) where
-    pub sense-typed : {i : ℕ} → q ≡ At i → meaningIn s name (sense.Typed i) ≡ meaning s name
-    unfolding meaning
-    sense-typed {i} f = rw (← ea, fa) (go (lastNamed aType name s) (sym eq ∙ f))
-      where
-        go : (o : Option ℕ) → found o ≡ At i → meaningIn s name (sense.Typed i) ≡ typeOr s name o
-        go none g = absurd (let z : _≡_ {A = ℕ} 0 1 = cc in omega arith)
-        go (some j) g = let e : i ≡ j = cc in rw e
+declared-means : (s : Schema) (name : List ℕ) → declaredSo s name (declarationOf s name) ≡ meaning s name
+unfolding meaning isDeclared declarationOf
+declared-means s name = go (lastNamed anEnum name s) (lastNamed aComposite name s) (lastNamed aType name s)
+  where
+    go : (e c t : Option ℕ) → declaredSo s name (declaredBy e c t) ≡ pick (isSome e or isSome c) declared (typeOr s name t)
+    go (some i) c t = refl
+    go none (some i) t = refl
+    go none none (some i) = refl
+    go none none none = refl
 
-    module _ (nq : q ≡ Nothing) where
-      absent : meaning s name ≡ typeOr s name none
-      unfolding meaning
-      absent = rw (← ea, fa) (go (lastNamed aType name s) (sym eq ∙ nq))
-        where
-          go : (o : Option ℕ) → found o ≡ Nothing → typeOr s name o ≡ typeOr s name none
-          go none g = refl
-          go (some j) g = absurd (let z : _≡_ {A = ℕ} 0 1 = cc in omega arith)
+module _ (s : Schema) (name : List ℕ) {d : Declaration} (ed : d ≡ declarationOf s name) where
+  means : declaredSo s name d ≡ meaning s name
+  means = ap (declaredSo s name) ed ∙ declared-means s name
 
-      module _ {b : Bool} (eb : b ≡ among name builtIns) where
-        pub sense-built-in : b ≡ true → meaningIn s name sense.BuiltIn ≡ meaning s name
-        sense-built-in t = rw (absent, ← eb, t)
+  pub sense-declared : d ≡ declaration.Named → meaningIn s name sense.Declared ≡ meaning s name
+  sense-declared f = rw f at means
 
-        pub sense-unknown : b ≡ false → meaningIn s name sense.Unknown ≡ meaning s name
-        sense-unknown t = rw (absent, ← eb, t)
+  pub sense-typed : {i : ℕ} → d ≡ declaration.Typed i → meaningIn s name (sense.Typed i) ≡ meaning s name
+  sense-typed f = rw f at means
+
+  module _ (f : d ≡ declaration.Nothing) {w : List ℕ} (ew : w ≡ name) {b : Bool} (eb : b ≡ among w builtIns) where
+    absent : typeOr s name none ≡ meaning s name
+    absent = rw f at means
+
+    told : among name builtIns ≡ b
+    told = ap (λ x. among x builtIns) (sym ew) ∙ sym eb
+
+    pub sense-built-in : b ≡ true → meaningIn s name sense.BuiltIn ≡ meaning s name
+    sense-built-in t = rw (told, t) at absent
+
+    pub sense-unknown : b ≡ false → meaningIn s name sense.Unknown ≡ meaning s name
+    sense-unknown t = rw (told, t) at absent

@@ -103,7 +103,7 @@ fn is_field_array(m: Model, rec: &[u32], text: &[u8], ix: &[u16], i: u32) -> boo
     requires { ⌜ Indexed (schemaOf m (now rec) (now text)) (now ix) ⌝ }
     ensures { λ r. ⌜ r ≡ isArrayType (meaning (schemaOf m (now (rec .entry)) (now (text .entry))) (itemAt (schemaOf m (now (rec .entry)) (now (text .entry))) i .second)) ⌝ }
 {
-    match sense_in(m, rec, text, ix, second_at(m, rec, text, i)) {
+    match sense_in(m, rec, text, ix, i) {
         Sense::Declared => false,
         Sense::Typed(t) => is_member_array(m, rec, text, t),
         Sense::BuiltIn => false,

@@ -44,7 +44,7 @@ fn put_field(
     let type_name = second_at(m, rec, text, i);
     let name = name_at(m, rec, text, i);
     let number = number_at(m, rec, text, i);
-    match sense_in(m, rec, text, ix, type_name) {
+    match sense_in(m, rec, text, ix, i) {
         Sense::Declared => put_line(out, at, indent, Shape::Plain, type_name, b"", name, number),
         Sense::Typed(t) => put_typed(out, at, m, rec, text, indent, t, name, number),
         Sense::BuiltIn => {

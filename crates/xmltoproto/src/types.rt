@@ -1,20 +1,18 @@
 // How a type prints, and what a field's type name stands for.
+use crate::view::second_at;
 use charsets::is_compatible;
-use index::hash_of;
-use index::named;
+use index::Declaration;
+use index::declared;
 use texts::equal;
-use xmlschema::items::COMPOSITE;
-use xmlschema::items::ENUM;
 use xmlschema::items::Model;
-use xmlschema::items::Position;
-use xmlschema::items::TYPE;
 ghost use mathlib.Core.Path.{_≡_};
 ghost use mathlib.Core.List.{List, []};
 ghost use Prim.Native.Nat.{ℕ};
 ghost use Rattle.texts.specs.Lists.{among};
-ghost use Rattle.index.specs.Index.{HashOf, Indexed};
+ghost use Rattle.index.specs.Index.{Indexed};
+ghost use Rattle.xmlschema.specs.Schema.{itemAt};
 ghost use Rattle.xmlschema.specs.Store.{schemaOf};
-ghost use Rattle.xmltoproto.specs.Types.{builtIns, chars, isByte, isRaw, isArray, asPrimitive, protoOf, isDeclared, meaning};
+ghost use Rattle.xmltoproto.specs.Types.{builtIns, chars, isByte, isRaw, isArray, asPrimitive, protoOf, meaning};
 ghost use Rattle.xmltoproto.specs.Shapes.{form, protoIn, meaningIn};
 ghost use Rattle.xmltoproto.specs.Names.{signedNames, unsignedNames, otherPrimitives};
 
@@ -167,32 +165,16 @@ pub fn is_built_in(name: &[u8]) -> bool
     is_other_primitive(name)
 }
 
-fn is_declared_in(m: Model, rec: &[u32], text: &[u8], ix: &[u16], name: &[u8], hash: usize) -> bool
-    requires { ⌜ Indexed (schemaOf m (now rec) (now text)) (now ix) × HashOf (now name) hash ⌝ }
-    ensures { λ r. ⌜ r ≡ isDeclared (schemaOf m (now (rec .entry)) (now (text .entry))) (now (name .entry)) ⌝ }
-{
-    match named(m, rec, text, ix, ENUM, name, hash) {
-        Position::At(_) => true,
-        Position::Nothing => match named(m, rec, text, ix, COMPOSITE, name, hash) {
-            Position::At(_) => true,
-            Position::Nothing => false,
-        },
-    }
-}
-
 // Enums, composites, types: the last declaration of the name wins; a built-in where there is none.
-pub fn sense_in(m: Model, rec: &[u32], text: &[u8], ix: &[u16], name: &[u8]) -> Sense
+pub fn sense_in(m: Model, rec: &[u32], text: &[u8], ix: &[u16], i: u32) -> Sense
     requires { ⌜ Indexed (schemaOf m (now rec) (now text)) (now ix) ⌝ }
-    ensures { λ r. ⌜ meaningIn (schemaOf m (now (rec .entry)) (now (text .entry))) (now (name .entry)) r ≡ meaning (schemaOf m (now (rec .entry)) (now (text .entry))) (now (name .entry)) ⌝ }
+    ensures { λ r. ⌜ meaningIn (schemaOf m (now (rec .entry)) (now (text .entry))) (itemAt (schemaOf m (now (rec .entry)) (now (text .entry))) i .second) r ≡ meaning (schemaOf m (now (rec .entry)) (now (text .entry))) (itemAt (schemaOf m (now (rec .entry)) (now (text .entry))) i .second) ⌝ }
 {
-    let hash = hash_of(name);
-    if is_declared_in(m, rec, text, ix, name, hash) {
-        return Sense::Declared;
-    }
-    match named(m, rec, text, ix, TYPE, name, hash) {
-        Position::At(i) => Sense::Typed(i),
-        Position::Nothing => {
-            if is_built_in(name) {
+    match declared(m, rec, text, ix, i) {
+        Declaration::Named => Sense::Declared,
+        Declaration::Typed(t) => Sense::Typed(t),
+        Declaration::Nothing => {
+            if is_built_in(second_at(m, rec, text, i)) {
                 return Sense::BuiltIn;
             }
             Sense::Unknown
