@@ -12,10 +12,10 @@ use Rattle.xmlschema.specs.Store.{itemOf, schemaOf}
 use Rattle.xmlschema.specs.declared.items.Entry.{Entry}
 use Rattle.xmlschema.specs.declared.items.Model.{Model}
 use Rattle.index.specs.Declarations.{declarationOf, numberOf}
-use Rattle.index.specs.Index.{code, fronted, hashFrom, HashOf, declares, Linked, Chained, Resolved, Blank, Linking, Naming, Resolving, Indexed}
+use Rattle.index.specs.Index.{code, fronted, hash, HashOf, declares, Linked, Chained, Resolved, Blank, Linking, Naming, Resolving, Indexed}
 use Rattle.index.proofs.Fronting.{fronted-length, fronted-other}
 use Rattle.index.proofs.Linking.{linked-start, linked-on, linked-off, linked-frame}
-use Rattle.index.proofs.Chaining.{chained-start, chained-on, chained-off, chained-frame}
+use Rattle.index.proofs.Chaining.{chained-start, chained-on, chained-off, chained-aside}
 
 -- ---- the item that the code reads
 
@@ -36,11 +36,11 @@ module _ (m : Model) (rec : List ℕ) (i : ℕ) (e : Entry) (f : (t : List ℕ) 
 
 -- ---- an array of zeros
 
-pub blank-zeros : Blank (replicate 14336 0)
+pub blank-zeros : Blank (replicate 13312 0)
 blank-zeros =
     record {
-      long = let e = length-replicate {A = ℕ} 14336 0 in omega arith;
-      zero = λ k. by-less k 14336 (λ l. getD-replicate 14336 k 0 0 l) (λ l. let e = length-replicate {A = ℕ} 14336 0 in let h : length {A = ℕ} (replicate 14336 0) ≤ k = omega arith in List·getD-eq-default (replicate 14336 0) 0 h);
+      long = let e = length-replicate {A = ℕ} 13312 0 in omega arith;
+      zero = λ k. by-less k 13312 (λ l. getD-replicate 13312 k 0 0 l) (λ l. let e = length-replicate {A = ℕ} 13312 0 in let h : length {A = ℕ} (replicate 13312 0) ≤ k = omega arith in List·getD-eq-default (replicate 13312 0) 0 h);
     }
 
 -- ---- links
@@ -93,7 +93,7 @@ module _ (m : Model) (rec text : List ℕ) (i : ℕ) (e : Entry) (f : (t : List 
 
   pub name-on : b ≡ true → length (schemaOf m rec text .items) ≤ 1024 → {w : List ℕ} → w ≡ itemOf text e .name → {k : ℕ} → HashOf w k → {ix′ : List ℕ} → ix′ ≡ fronted ix (11264 + k) (12288 + i) i → Naming (schemaOf m rec text) (i + 1) ix′
   name-on t most {w} ew {k} ek {ix′} q =
-      let z : k ≡ hashFrom 0 (itemAt (schemaOf m rec text) i .name) = ek .is ∙ ap (hashFrom 0) (name-is m rec i e f text ew) in
+      let z : k ≡ hash (itemAt (schemaOf m rec text) i .name) = ek .is ∙ ap hash (name-is m rec i e f text ew) in
       let low : k < 1024 = ek .low in
       let on = chained-on (schemaOf m rec text) ix i (c .chained) h (c .long) most (told ∙ t) (rw (← z) low) in
       record {
@@ -113,6 +113,10 @@ resolving-end s ix {i} {n} c a e b = let q : i ≡ length (s .items) = omega ari
 pub resolving-chained : (s : Schema) (ix : List ℕ) {i : ℕ} → Resolving s i ix → Chained s (length (s .items)) ix
 resolving-chained s ix c = c .chained
 
+field-aside : declares 9 ≡ false
+unfolding declares
+field-aside = refl
+
 module _ (m : Model) (rec text : List ℕ) (i : ℕ) (e : Entry) (f : (t : List ℕ) → itemOf t e ≡ itemAt (schemaOf m rec t) i) (ix : List ℕ) (c : Resolving (schemaOf m rec text) i ix) where
   pub resolve-off : (e .kind ≡ 9 → ⊥) → Resolving (schemaOf m rec text) (i + 1) ix
   resolve-off n =
@@ -123,17 +127,20 @@ module _ (m : Model) (rec text : List ℕ) (i : ℕ) (e : Entry) (f : (t : List 
         resolved = record { is = λ j l k. by-less j i (λ b. c .resolved .is j b k) (λ b. let q : j ≡ i = omega arith in absurd (n (kind-is m rec i e f text ∙ (rw q at k)))) };
       }
 
-  pub resolve-on : length (schemaOf m rec text .items) ≤ 1024 → i < length (schemaOf m rec text .items) → {w : List ℕ} → w ≡ itemOf text e .second → {d : ℕ} → d ≡ numberOf (declarationOf (schemaOf m rec text) w) → {ix′ : List ℕ} → ix′ ≡ set ix (13312 + i) d → Resolving (schemaOf m rec text) (i + 1) ix′
-  resolve-on most h {w} ew {d} ed {ix′} q =
+  pub resolve-on : e .kind ≡ 9 → length (schemaOf m rec text .items) ≤ 1024 → i < length (schemaOf m rec text .items) → {w : List ℕ} → w ≡ itemOf text e .second → {d : ℕ} → d ≡ numberOf (declarationOf (schemaOf m rec text) w) → {ix′ : List ℕ} → ix′ ≡ set ix (12288 + i) d → Resolving (schemaOf m rec text) (i + 1) ix′
+  resolve-on ek most h {w} ew {d} ed {ix′} q =
       record {
         long = rw (q, length-set) (c .long);
-        linked = linked-frame (schemaOf m rec text) 0 ix ix′ most (λ k l. rw q (getD-set-other ix (13312 + i) k d 0 (λ x. omega arith))) (c .linked);
-        chained = chained-frame (schemaOf m rec text) (length (schemaOf m rec text .items)) ix ix′ most (λ k l. rw q (getD-set-other ix (13312 + i) k d 0 (λ x. omega arith))) (c .chained);
-        resolved = record { is = λ j l k. by-less j i (λ b. rw q (getD-set-other ix (13312 + i) (13312 + j) d 0 (λ x. omega arith) ∙ c .resolved .is j b k)) (λ b. let z : j ≡ i = omega arith in rw (z, q) (here ∙ ed ∙ ap (λ x. numberOf (declarationOf (schemaOf m rec text) x)) (second-is m rec i e f text ew))) };
+        linked = linked-frame (schemaOf m rec text) 0 ix ix′ most (λ k l. rw q (getD-set-other ix (12288 + i) k d 0 (λ x. omega arith))) (c .linked);
+        chained = rw q (chained-aside (schemaOf m rec text) (length (schemaOf m rec text .items)) ix i d aside (c .chained));
+        resolved = record { is = λ j l k. by-less j i (λ b. rw q (getD-set-other ix (12288 + i) (12288 + j) d 0 (λ x. omega arith) ∙ c .resolved .is j b k)) (λ b. let z : j ≡ i = omega arith in rw (z, q) (here ∙ ed ∙ ap (λ x. numberOf (declarationOf (schemaOf m rec text) x)) (second-is m rec i e f text ew))) };
       }
     where
-      here : getD (set ix (13312 + i) d) (13312 + i) 0 ≡ d
-      here = let l = c .long in getD-set-same ix (13312 + i) d 0 (omega arith)
+      here : getD (set ix (12288 + i) d) (12288 + i) 0 ≡ d
+      here = let l = c .long in getD-set-same ix (12288 + i) d 0 (omega arith)
+
+      aside : declares (itemAt (schemaOf m rec text) i .kind) ≡ false
+      aside = ap declares (sym (kind-is m rec i e f text) ∙ ek) ∙ field-aside
 
 -- ---- all
 

@@ -7,8 +7,8 @@ use Prim.Native.Nat.{ℕ, zero, suc, _+_, _*_, _-_, _≤_, _<_}
 use native.Mathlib.Numerals.{add-one}
 use native.Mathlib.Omega.{arith}
 use lib.Dec.{T, eqb}
-use lib.ListN.{length, getD, take, length-take}
-use lib.Seq.{take-suc, length-take-le, take-length}
+use lib.ListN.{length, getD, set, take, length-take}
+use lib.Seq.{take-suc, length-take-le, take-length, getD-set-other}
 use borrow.Author.Tests.{eqb-true, eq-eqb}
 use Rattle.texts.specs.Choice.{pick, _and_}
 use Rattle.texts.specs.Text.{same}
@@ -16,7 +16,7 @@ use Rattle.texts.proofs.Choosing.{by-test, both-true, is-true}
 use Rattle.xmlschema.specs.Schema.{Item, Schema, itemAt, noItem, positionsFrom, last, lastNamed}
 use Rattle.xmlschema.proofs.Records.{by-less}
 use Rattle.xmlschema.proofs.Searching.{last-snoc, positions-snoc, append-none}
-use Rattle.index.specs.Index.{code, fronted, hashFrom, declares, hashed, lastHashed, Chained}
+use Rattle.index.specs.Index.{code, fronted, hash, declares, hashed, lastHashed, Chained}
 use Rattle.index.proofs.Fronting.{by-equal, fronted-head, fronted-at, fronted-other}
 
 -- ---- the last of the first n items that pass a test
@@ -84,44 +84,44 @@ chained-start s ix z =
       chain = λ j h b t. absurd (omega arith);
     }
 
-is-hashed : (it : Item) → declares (it .kind) ≡ true → hashed (hashFrom 0 (it .name)) it ≡ true
+is-hashed : (it : Item) → declares (it .kind) ≡ true → hashed (hash (it .name)) it ≡ true
 unfolding hashed
-is-hashed it d = rw (d, eq-eqb (hashFrom 0 (it .name)) (hashFrom 0 (it .name)) refl)
+is-hashed it d = rw (d, eq-eqb (hash (it .name)) (hash (it .name)) refl)
 
-pub hashed-as : (it : Item) (b : ℕ) → hashed b it ≡ true → (declares (it .kind) ≡ true) × (hashFrom 0 (it .name) ≡ b)
+pub hashed-as : (it : Item) (b : ℕ) → hashed b it ≡ true → (declares (it .kind) ≡ true) × (hash (it .name) ≡ b)
 unfolding hashed
-hashed-as it b t = let e = both-true (declares (it .kind)) (eqb (hashFrom 0 (it .name)) b) t in (e .0, eqb-true (hashFrom 0 (it .name)) b (e .1))
+hashed-as it b t = let e = both-true (declares (it .kind)) (eqb (hash (it .name)) b) t in (e .0, eqb-true (hash (it .name)) b (e .1))
 
 module _ (s : Schema) (ix : List ℕ) (n : ℕ) (c : Chained s n ix) (h : n < length (s .items)) where
-  unhashed : (b : ℕ) → (declares (itemAt s n .kind) ≡ true → hashFrom 0 (itemAt s n .name) ≡ b → ⊥) → hashed b (itemAt s n) ≡ false
+  unhashed : (b : ℕ) → (declares (itemAt s n .kind) ≡ true → hash (itemAt s n .name) ≡ b → ⊥) → hashed b (itemAt s n) ≡ false
   unhashed b f = by-test (hashed b (itemAt s n)) (λ t. let e = hashed-as (itemAt s n) b t in absurd (f (e .0) (e .1))) (λ g. g)
 
   head-kept : (b : ℕ) → b < 1024 → hashed b (itemAt s n) ≡ false → getD ix (11264 + b) 0 ≡ code (lastHashed b (n + 1) s)
   unfolding lastHashed
   head-kept b l f = c .head b l ∙ ap code (sym (last-no (hashed b) s n h f))
 
-  head-new : declares (itemAt s n .kind) ≡ true → lastHashed (hashFrom 0 (itemAt s n .name)) (n + 1) s ≡ some n
+  head-new : declares (itemAt s n .kind) ≡ true → lastHashed (hash (itemAt s n .name)) (n + 1) s ≡ some n
   unfolding lastHashed
-  head-new d = last-yes (hashed (hashFrom 0 (itemAt s n .name))) s n h (is-hashed (itemAt s n) d)
+  head-new d = last-yes (hashed (hash (itemAt s n .name))) s n h (is-hashed (itemAt s n) d)
 
-  module _ (big : 14336 ≤ length ix) (most : length (s .items) ≤ 1024) (d : declares (itemAt s n .kind) ≡ true) (low : hashFrom 0 (itemAt s n .name) < 1024) where
-    chained-head : (b : ℕ) → b < 1024 → getD (fronted ix (11264 + hashFrom 0 (itemAt s n .name)) (12288 + n) n) (11264 + b) 0 ≡ code (lastHashed b (n + 1) s)
+  module _ (big : 13312 ≤ length ix) (most : length (s .items) ≤ 1024) (d : declares (itemAt s n .kind) ≡ true) (low : hash (itemAt s n .name) < 1024) where
+    chained-head : (b : ℕ) → b < 1024 → getD (fronted ix (11264 + hash (itemAt s n .name)) (12288 + n) n) (11264 + b) 0 ≡ code (lastHashed b (n + 1) s)
     chained-head b l =
-        by-equal b (hashFrom 0 (itemAt s n .name))
-        (λ e. rw e (fronted-head ix (11264 + hashFrom 0 (itemAt s n .name)) (12288 + n) n (omega arith) ∙ ap code (sym (head-new d))))
-        (λ f. fronted-other ix (11264 + hashFrom 0 (itemAt s n .name)) (12288 + n) n (11264 + b) (λ e. f (omega arith)) (λ e. omega arith) ∙ head-kept b l (unhashed b (λ _ e. f (sym e))))
+        by-equal b (hash (itemAt s n .name))
+        (λ e. rw e (fronted-head ix (11264 + hash (itemAt s n .name)) (12288 + n) n (omega arith) ∙ ap code (sym (head-new d))))
+        (λ f. fronted-other ix (11264 + hash (itemAt s n .name)) (12288 + n) n (11264 + b) (λ e. f (omega arith)) (λ e. omega arith) ∙ head-kept b l (unhashed b (λ _ e. f (sym e))))
 
-    chained-this : (b : ℕ) → T (hashed b (itemAt s n)) → getD (fronted ix (11264 + hashFrom 0 (itemAt s n .name)) (12288 + n) n) (12288 + n) 0 ≡ code (lastHashed b n s)
+    chained-this : (b : ℕ) → T (hashed b (itemAt s n)) → getD (fronted ix (11264 + hash (itemAt s n .name)) (12288 + n) n) (12288 + n) 0 ≡ code (lastHashed b n s)
     chained-this b t =
         let e = hashed-as (itemAt s n) b (is-true (hashed b (itemAt s n)) t) .1 in
-        fronted-at ix (11264 + hashFrom 0 (itemAt s n .name)) (12288 + n) n (omega arith) (λ q. omega arith) ∙ c .head (hashFrom 0 (itemAt s n .name)) low ∙ ap (λ x. code (lastHashed x n s)) e
+        fronted-at ix (11264 + hash (itemAt s n .name)) (12288 + n) n (omega arith) (λ q. omega arith) ∙ c .head (hash (itemAt s n .name)) low ∙ ap (λ x. code (lastHashed x n s)) e
 
-    pub chained-on : Chained s (n + 1) (fronted ix (11264 + hashFrom 0 (itemAt s n .name)) (12288 + n) n)
+    pub chained-on : Chained s (n + 1) (fronted ix (11264 + hash (itemAt s n .name)) (12288 + n) n)
     chained-on =
         record {
           head = chained-head;
           chain = λ j l b t. by-less j n
-              (λ m. fronted-other ix (11264 + hashFrom 0 (itemAt s n .name)) (12288 + n) n (12288 + j) (λ e. omega arith) (λ e. omega arith) ∙ c .chain j m b t)
+              (λ m. fronted-other ix (11264 + hash (itemAt s n .name)) (12288 + n) n (12288 + j) (λ e. omega arith) (λ e. omega arith) ∙ c .chain j m b t)
               (λ m. let e : j ≡ n = omega arith in rw e (chained-this b (rw e at t)));
         }
 
@@ -134,10 +134,12 @@ module _ (s : Schema) (ix : List ℕ) (n : ℕ) (c : Chained s n ix) (h : n < le
             (λ m. let e : j ≡ n = omega arith in let d = hashed-as (itemAt s n) b (is-true (hashed b (itemAt s n)) (rw e at t)) .0 in absurd (let z : _≡_ {A = ℕ} 0 1 = cc in omega arith));
       }
 
--- what stands behind them is no part of the chains
-pub chained-frame : (s : Schema) (n : ℕ) (ix ix′ : List ℕ) → n ≤ 1024 → ((k : ℕ) → k < 13312 → getD ix′ k 0 ≡ getD ix k 0) → Chained s n ix → Chained s n ix′
-chained-frame s n ix ix′ most f c =
+-- the place of an item that declares nothing is no part of the chains
+pub chained-aside : (s : Schema) (n : ℕ) (ix : List ℕ) (i d : ℕ) → declares (itemAt s i .kind) ≡ false → Chained s n ix → Chained s n (set ix (12288 + i) d)
+chained-aside s n ix i d f c =
     record {
-      head = λ b l. f (11264 + b) (omega arith) ∙ c .head b l;
-      chain = λ j l b t. f (12288 + j) (omega arith) ∙ c .chain j l b t;
+      head = λ b l. getD-set-other ix (12288 + i) (11264 + b) d 0 (λ e. omega arith) ∙ c .head b l;
+      chain = λ j l b t. by-equal j i
+          (λ e. absurd (let q = hashed-as (itemAt s j) b (is-true (hashed b (itemAt s j)) t) .0 in let g = rw (sym e) at f in let z : _≡_ {A = ℕ} 0 1 = cc in omega arith))
+          (λ e. getD-set-other ix (12288 + i) (12288 + j) d 0 (λ q. e (omega arith)) ∙ c .chain j l b t);
     }

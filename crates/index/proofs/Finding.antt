@@ -22,25 +22,25 @@ use Rattle.xmlschema.specs.declared.items.Position.the-variants.{At, Nothing}
 use Rattle.index.specs.Declarations.{declarationOf, numberOf}
 use Rattle.index.specs.declared.Declaration.{Declaration}
 use Rattle.index.specs.declared.Declaration.the-variants as declaration
-use Rattle.index.specs.Index.{code, hashFrom, HashOf, declares, Indexed}
+use Rattle.index.specs.Index.{code, hashFrom, hash, HashOf, declares, Indexed}
 use Rattle.index.proofs.Building.{kind-is, owner-is, second-is}
 
 -- ---- the hash: what is still to come is unchanged
 
-pub record Hashing (s : List ℕ) (i h : ℕ) : Type 0 where
-  pub rest : hashFrom h (drop i s) ≡ hashFrom 0 s
-  pub low : h < 1024
+pub record Hashing (s : List ℕ) (i h g : ℕ) : Type 0 where
+  pub rest : hashFrom h g (drop i s) ≡ hash s
+  pub low : (h < 4294967296) × (g < 4294967296)
 
-pub hashing-start : {s : List ℕ} → Hashing s 0 0
-hashing-start = record { rest = refl; low = omega arith }
+pub hashing-start : {s : List ℕ} → Hashing s 0 0 0
+hashing-start = record { rest = refl; low = (omega arith, omega arith) }
 
-pub hashing-on : {s : List ℕ} {i h : ℕ} → Hashing s i h → i < length s → {w : ℕ} → (w ≡ getD s i 0) × (w < 256) → Hashing s (i + 1) ((h * 31 + w) % 1024)
+pub hashing-on : {s : List ℕ} {i h g : ℕ} → Hashing s i h g → i < length s → {w : ℕ} → (w ≡ getD s i 0) × (w < 256) → Hashing s (i + 1) g ((h * 65 + w) % 4294967296)
 unfolding hashFrom
-hashing-on {s} {i} {h} k l e = record { rest = rw (add-one, e .0) (rw (drop-cons s i 0) at (k .rest)); low = omega arith }
+hashing-on {s} {i} {h} {g} k l e = record { rest = rw (add-one, e .0) (rw (drop-cons s i 0) at (k .rest)); low = (k .low .1, omega arith) }
 
-pub hashing-end : {s : List ℕ} {i h : ℕ} → Hashing s i h → length s ≤ i → HashOf s h
+pub hashing-end : {s : List ℕ} {i h g : ℕ} → Hashing s i h g → length s ≤ i → HashOf s ((h * 37 + g) % 1021)
 unfolding hashFrom
-hashing-end {s} {i} {h} k l = record { is = rw (drop-of-length-le s l) at (k .rest); low = k .low }
+hashing-end {s} {i} {h} {g} k l = record { is = rw (drop-of-length-le s l) at (k .rest); low = omega arith }
 
 -- ---- kinds that declare
 
@@ -142,7 +142,7 @@ module _ (m : Model) (rec : List ℕ) (i : ℕ) (e : Entry) (f : (t : List ℕ) 
   pub declared-searched : {w : List ℕ} → w ≡ itemOf text e .second → {r : Declaration} → r ≡ declarationOf (schemaOf m rec text) w → r ≡ declarationOf (schemaOf m rec text) (itemAt (schemaOf m rec text) i .second)
   declared-searched ew er = er ∙ ap (declarationOf (schemaOf m rec text)) (second-is m rec i e f text ew)
 
-  pub declared-told : (ix : List ℕ) → Indexed (schemaOf m rec text) ix → e .kind ≡ 9 → {n : ℕ} → n ≡ length (schemaOf m rec text .items) → n ≤ 1024 → {w : ℕ} → w ≡ getD ix (13312 + i) 0 → {r : Declaration} → ((d : Declaration) → w ≡ numberOf d → r ≡ d) → r ≡ declarationOf (schemaOf m rec text) (itemAt (schemaOf m rec text) i .second)
+  pub declared-told : (ix : List ℕ) → Indexed (schemaOf m rec text) ix → e .kind ≡ 9 → {n : ℕ} → n ≡ length (schemaOf m rec text .items) → n ≤ 1024 → {w : ℕ} → w ≡ getD ix (12288 + i) 0 → {r : Declaration} → ((d : Declaration) → w ≡ numberOf d → r ≡ d) → r ≡ declarationOf (schemaOf m rec text) (itemAt (schemaOf m rec text) i .second)
   declared-told ix x ek {n} en most ew g =
       let k : itemAt (schemaOf m rec text) i .kind ≡ 9 = sym (kind-is m rec i e f text) ∙ ek in
       g (declarationOf (schemaOf m rec text) (itemAt (schemaOf m rec text) i .second)) (ew ∙ x .types (omega arith) .is i (inside (schemaOf m rec text) i k) k)

@@ -48,7 +48,7 @@ linked-start s ix z n h =
 
 module _ (s : Schema) (ix : List ℕ) (j : ℕ) (l : Linked s (j + 1) ix) (h : j < length (s .items)) where
   -- an item that has a place among the heads
-  module _ (big : 14336 ≤ length ix) (most : length (s .items) ≤ 1024) (hk : itemAt s j .kind < 10) (ho : itemAt s j .owner < 1024) where
+  module _ (big : 13312 ≤ length ix) (most : length (s .items) ≤ 1024) (hk : itemAt s j .kind < 10) (ho : itemAt s j .owner < 1024) where
     linked-first : (k o : ℕ) → k < 10 → o < 1024 → getD (fronted ix (10 * itemAt s j .owner + itemAt s j .kind) (10240 + j) j) (10 * o + k) 0 ≡ code (nextUnder k o j s)
     linked-first k o bk bo =
         by-equal k (itemAt s j .kind)

@@ -19,7 +19,7 @@ use Rattle.xmlschema.specs.Store.{itemOf, schemaOf}
 use Rattle.xmlschema.specs.declared.items.Entry.{Entry}
 use Rattle.xmlschema.specs.declared.items.Model.{Model}
 use Rattle.index.specs.Declarations.{declaredBy, declarationOf, numberOf, keptBy}
-use Rattle.index.specs.Index.{code, hashFrom, HashOf, declares, hashed, lastHashed, Chained}
+use Rattle.index.specs.Index.{code, hash, HashOf, declares, hashed, lastHashed, Chained}
 use Rattle.index.proofs.Fronting.{by-equal}
 use Rattle.index.proofs.Building.{kind-is, name-is}
 use Rattle.index.proofs.Chaining.{lastBy, none-passes, some-passes, last-yes, last-no, code-none, code-some, hashed-as}
@@ -92,13 +92,13 @@ module _ (kept j : ℕ) where
 -- ---- along the chain
 
 -- what is named so is hashed so
-narrow : (kind : ℕ) (name : List ℕ) → declares kind ≡ true → (it : Item) → namedSo kind name it ≡ true → hashed (hashFrom 0 name) it ≡ true
+narrow : (kind : ℕ) (name : List ℕ) → declares kind ≡ true → (it : Item) → namedSo kind name it ≡ true → hashed (hash name) it ≡ true
 unfolding hashed
 narrow kind name d it t =
     let e = both-true (eqb (it .kind) kind) (same (it .name) name) t in
     let k : it .kind ≡ kind = eqb-true (it .kind) kind (e .0) in
     let n : it .name ≡ name = same-equal (it .name) name (e .1) in
-    rw (k, n, d, eq-eqb (hashFrom 0 name) (hashFrom 0 name) refl)
+    rw (k, n, d, eq-eqb (hash name) (hash name) refl)
 
 last-step : (q : Item → Bool) (s : Schema) (j : ℕ) → j < length (s .items) → lastBy q (j + 1) s ≡ pick (q (itemAt s j)) (some j) (lastBy q j s)
 last-step q s j h = by-test (q (itemAt s j)) (λ t. rw t (last-yes q s j h t)) (λ f. rw f (last-no q s j h f))
@@ -107,7 +107,7 @@ last-step q s j h = by-test (q (itemAt s j)) (λ t. rw t (last-yes q s j h t)) (
 pub record Seeking (name : List ℕ) (s : Schema) (p kept : ℕ) : Type 0 where
   pub n : ℕ
   pub within : n ≤ length (s .items)
-  pub leads : p ≡ code (lastHashed (hashFrom 0 name) n s)
+  pub leads : p ≡ code (lastHashed (hash name) n s)
   pub same : chosen kept (lastBy (namedSo anEnum name) n s) (lastBy (namedSo aComposite name) n s) (lastBy (namedSo aType name) n s) ≡ numberOf (declarationOf s name)
 
 pub seeking-start : (name : List ℕ) (s : Schema) (ix : List ℕ) → Chained s (length (s .items)) ix → {b : ℕ} → HashOf name b → {p : ℕ} → p ≡ getD ix (11264 + b) 0 → Seeking name s p 0
@@ -126,12 +126,12 @@ module _ (name : List ℕ) (s : Schema) {p kept : ℕ} (k : Seeking name s p kep
   seeking-none h = sym (chosen-last kept) ∙ (rw (gone anEnum refl, gone aComposite refl, gone aType refl) at (k .same))
     where
       gone : (kind : ℕ) → declares kind ≡ true → lastBy (namedSo kind name) (k .n) s ≡ none
-      gone kind d = none-passes (namedSo kind name) (hashed (hashFrom 0 name)) s (narrow kind name d) (k .n) (k .within) (code-none (lastHashed (hashFrom 0 name) (k .n) s) (let z : p ≡ 0 = omega arith in sym (k .leads) ∙ z))
+      gone kind d = none-passes (namedSo kind name) (hashed (hash name)) s (narrow kind name d) (k .n) (k .within) (code-none (lastHashed (hash name) (k .n) s) (let z : p ≡ 0 = omega arith in sym (k .leads) ∙ z))
 
   module _ (h : 0 < p) where
-    passed : (kind : ℕ) → declares kind ≡ true → (p - 1 < k .n) × (hashed (hashFrom 0 name) (itemAt s (p - 1)) ≡ true) × (lastBy (namedSo kind name) (k .n) s ≡ lastBy (namedSo kind name) (p - 1 + 1) s)
+    passed : (kind : ℕ) → declares kind ≡ true → (p - 1 < k .n) × (hashed (hash name) (itemAt s (p - 1)) ≡ true) × (lastBy (namedSo kind name) (k .n) s ≡ lastBy (namedSo kind name) (p - 1 + 1) s)
     unfolding lastHashed
-    passed kind d = some-passes (namedSo kind name) (hashed (hashFrom 0 name)) s (narrow kind name d) (k .n) (k .within) (p - 1) (code-some (lastHashed (hashFrom 0 name) (k .n) s) p h (k .leads))
+    passed kind d = some-passes (namedSo kind name) (hashed (hash name)) s (narrow kind name d) (k .n) (k .within) (p - 1) (code-some (lastHashed (hash name) (k .n) s) p h (k .leads))
 
     pub seeking-low : p - 1 < length (s .items)
     unfolding declares
@@ -145,7 +145,7 @@ module _ (name : List ℕ) (s : Schema) {p kept : ℕ} (k : Seeking name s p kep
 
     declaring : declares (itemAt s (p - 1) .kind) ≡ true
     unfolding declares
-    declaring = hashed-as (itemAt s (p - 1)) (hashFrom 0 name) (passed aType refl .1) .0
+    declaring = hashed-as (itemAt s (p - 1)) (hash name) (passed aType refl .1) .0
 
     module _ {r : ℕ} (er : r ≡ keptBy (itemAt s (p - 1)) (p - 1) name kept) where
       kept-same : chosen r (lastBy (namedSo anEnum name) (p - 1) s) (lastBy (namedSo aComposite name) (p - 1) s) (lastBy (namedSo aType name) (p - 1) s) ≡ numberOf (declarationOf s name)
@@ -159,21 +159,21 @@ module _ (name : List ℕ) (s : Schema) {p kept : ℕ} (k : Seeking name s p kep
       seeking-found e = rw e (sym (chosen-one (lastBy (namedSo anEnum name) (p - 1) s) (lastBy (namedSo aComposite name) (p - 1) s) (lastBy (namedSo aType name) (p - 1) s)) ∙ (rw e at kept-same))
 
     module _ (ix : List ℕ) (x : Chained s (length (s .items)) ix) {q : ℕ} (eq : q ≡ getD ix (12288 + (p - 1)) 0) where
-      next-leads : q ≡ code (lastHashed (hashFrom 0 name) (p - 1) s)
+      next-leads : q ≡ code (lastHashed (hash name) (p - 1) s)
       unfolding declares
-      next-leads = eq ∙ x .chain (p - 1) seeking-low (hashFrom 0 name) (rw (passed aType refl .1) tt)
+      next-leads = eq ∙ x .chain (p - 1) seeking-low (hash name) (rw (passed aType refl .1) tt)
 
       pub seeking-on : {r : ℕ} → r ≡ keptBy (itemAt s (p - 1)) (p - 1) name kept → Seeking name s q r
       seeking-on er = record { n = p - 1; within = let l = seeking-low in omega arith; leads = next-leads; same = kept-same er }
 
       pub seeking-less : q < p
       unfolding lastHashed declares
-      seeking-less = below (lastHashed (hashFrom 0 name) (p - 1) s) refl next-leads
+      seeking-less = below (lastHashed (hash name) (p - 1) s) refl next-leads
         where
-          below : (o : Option ℕ) → lastHashed (hashFrom 0 name) (p - 1) s ≡ o → q ≡ code o → q < p
+          below : (o : Option ℕ) → lastHashed (hash name) (p - 1) s ≡ o → q ≡ code o → q < p
           below none f e = omega arith
           below (some i) f e =
-              let l : i < p - 1 = some-passes (namedSo aType name) (hashed (hashFrom 0 name)) s (narrow aType name refl) (p - 1) (let w = seeking-low in omega arith) i f .0 in
+              let l : i < p - 1 = some-passes (namedSo aType name) (hashed (hash name)) s (narrow aType name refl) (p - 1) (let w = seeking-low in omega arith) i f .0 in
               omega arith
 
 -- ---- what is kept, by the tests of an item

@@ -28,16 +28,19 @@ pub record Linked (s : Schema) (i : ℕ) (ix : List ℕ) : Type 0 where
   pub first : (k o : ℕ) → k < 10 → o < 1024 → getD ix (10 * o + k) 0 ≡ code (nextUnder k o i s)
   pub next : (j : ℕ) → i ≤ j → j < length (s .items) → itemAt s j .kind < 10 → itemAt s j .owner < 1024 → getD ix (10240 + j) 0 ≡ code (nextUnder (itemAt s j .kind) (itemAt s j .owner) (j + 1) s)
 
--- ---- names: 1,024 heads, then the next of each item
+-- ---- names: 1,024 heads, then the next of each item that declares
 
--- a short hash of a text
-unfoldable pub hashFrom : ℕ → List ℕ → ℕ
-hashFrom h [] = h
-hashFrom h (x ∷ xs) = hashFrom ((h * 31 + x) % 1024) xs
+-- a short hash of a text: two numbers take its bytes in turn
+unfoldable pub hashFrom : ℕ → ℕ → List ℕ → ℕ
+hashFrom h g [] = (h * 37 + g) % 1021
+hashFrom h g (x ∷ xs) = hashFrom g ((h * 65 + x) % 4294967296) xs
+
+abbrev pub hash : List ℕ → ℕ
+hash name = hashFrom 0 0 name
 
 -- b is the hash of a name
 pub record HashOf (name : List ℕ) (b : ℕ) : Type 0 where
-  pub is : b ≡ hashFrom 0 name
+  pub is : b ≡ hash name
   pub low : b < 1024
 
 -- the kinds that a type name is looked up among
@@ -45,7 +48,7 @@ unfoldable pub declares : ℕ → Bool
 declares kind = eqb kind aType or eqb kind aComposite or eqb kind anEnum
 
 unfoldable pub hashed : ℕ → Item → Bool
-hashed b it = declares (it .kind) and eqb (hashFrom 0 (it .name)) b
+hashed b it = declares (it .kind) and eqb (hash (it .name)) b
 
 -- the last of the first n items that declares a name with the hash b
 unfoldable pub lastHashed : ℕ → ℕ → Schema → Option ℕ
@@ -55,15 +58,15 @@ pub record Chained (s : Schema) (n : ℕ) (ix : List ℕ) : Type 0 where
   pub head : (b : ℕ) → b < 1024 → getD ix (11264 + b) 0 ≡ code (lastHashed b n s)
   pub chain : (j : ℕ) → j < n → (b : ℕ) → T (hashed b (itemAt s j)) → getD ix (12288 + j) 0 ≡ code (lastHashed b j s)
 
--- ---- type names: what the one of each field is declared as
+-- ---- type names: what the one of each field is declared as, where the next of an item that declares would stand
 
 pub record Resolved (s : Schema) (n : ℕ) (ix : List ℕ) : Type 0 where
-  pub is : (j : ℕ) → j < n → itemAt s j .kind ≡ aField → getD ix (13312 + j) 0 ≡ numberOf (declarationOf s (itemAt s j .second))
+  pub is : (j : ℕ) → j < n → itemAt s j .kind ≡ aField → getD ix (12288 + j) 0 ≡ numberOf (declarationOf s (itemAt s j .second))
 
 -- ---- all, where there are as many items as a schema may have
 
 pub record Indexed (s : Schema) (ix : List ℕ) : Type 0 where
-  pub long : 14336 ≤ length ix
+  pub long : 13312 ≤ length ix
   pub links : length (s .items) ≤ 1024 → Linked s 0 ix
   pub types : length (s .items) ≤ 1024 → Resolved s (length (s .items)) ix
 
@@ -71,24 +74,24 @@ pub record Indexed (s : Schema) (ix : List ℕ) : Type 0 where
 
 -- an array of zeros
 pub record Blank (ix : List ℕ) : Type 0 where
-  pub long : 14336 ≤ length ix
+  pub long : 13312 ≤ length ix
   pub zero : (k : ℕ) → getD ix k 0 ≡ 0
 
 -- the items from i on are linked, and there are no names yet
 pub record Linking (s : Schema) (i : ℕ) (ix : List ℕ) : Type 0 where
-  pub long : 14336 ≤ length ix
+  pub long : 13312 ≤ length ix
   pub linked : Linked s i ix
   pub zero : (k : ℕ) → 11264 ≤ k → getD ix k 0 ≡ 0
 
 -- all items are linked, and the first n have their names in the chains
 pub record Naming (s : Schema) (n : ℕ) (ix : List ℕ) : Type 0 where
-  pub long : 14336 ≤ length ix
+  pub long : 13312 ≤ length ix
   pub linked : Linked s 0 ix
   pub chained : Chained s n ix
 
 -- all names are in the chains, and the type names of the first n items are resolved
 pub record Resolving (s : Schema) (n : ℕ) (ix : List ℕ) : Type 0 where
-  pub long : 14336 ≤ length ix
+  pub long : 13312 ≤ length ix
   pub linked : Linked s 0 ix
   pub chained : Chained s (length (s .items)) ix
   pub resolved : Resolved s n ix

@@ -27,9 +27,9 @@ ghost use Rattle.index.specs.Declarations.{declarationOf, numberOf, kept
 ghost use Rattle.index.specs.declared.Declaration.{Declaration};
 
 // How many numbers the index takes: the first item of each of 10 kinds under each of 1,024 owners, the
-// next item after each of 1,024, the last declaration of each of 1,024 hashes, the one before each of
-// 1,024 items with the same hash, and what the type name of each of 1,024 is declared as.
-pub const SIZE: usize = 14336;
+// next item after each of 1,024, the last declaration of each of 1,024 hashes, and for each of 1,024 items
+// the declaration before it with the same hash, or, of a field, what its type name is declared as.
+pub const SIZE: usize = 13312;
 
 // Where these parts begin; the first begins at 0.
 const NEXT: usize = 10240;
@@ -37,8 +37,6 @@ const NEXT: usize = 10240;
 const HEADS: usize = 11264;
 
 const CHAIN: usize = 12288;
-
-const RESOLVED: usize = 13312;
 
 // As many items as the index holds, and a schema may have.
 const MOST: u32 = 1024;
@@ -49,17 +47,20 @@ fn wide(b: u8) -> usize
     b as usize
 }
 
-// The hash of a name.
+// The hash of a name: two numbers take its bytes in turn, so that neither waits for the other.
 fn hash_of(name: &[u8]) -> usize
     ensures { λ r. ⌜ HashOf (now (name .entry)) r ⌝ }
 {
     let mut h: usize = 0;
+    let mut g: usize = 0;
     let mut i = 0;
     while i < name.len() {
-        h = (h * 31 + wide(name[i])) % 1024;
+        let next = (h * 65 + wide(name[i])) % 4294967296;
+        h = g;
+        g = next;
         i += 1;
     }
-    h
+    (h * 37 + g) % 1021
 }
 
 // Item `i` in front of the list whose head stands at `head`.
@@ -205,7 +206,7 @@ fn resolve_item(m: Model, rec: &[u32], text: &[u8], i: u32, ix: &mut [u16])
     let e = item(m, rec, i);
     if e.kind == FIELD {
         let d = resolved(m, rec, text, ix, second_of(e, text));
-        let at = RESOLVED + i as usize;
+        let at = CHAIN + i as usize;
         put_number(ix, at, d);
     }
 }
@@ -345,7 +346,7 @@ pub fn declared(m: Model, rec: &[u32], text: &[u8], ix: &[u16], i: u32) -> Decla
     let e = item(m, rec, i);
     if e.kind == FIELD {
         if count(m, rec, text) <= MOST {
-            return numbered(word(ix, RESOLVED + i as usize));
+            return numbered(word(ix, CHAIN + i as usize));
         }
     }
     declaration_in(m, rec, text, second_of(e, text))

@@ -9,44 +9,52 @@ use Rattle.index.proofs.hash_of.Lts as lts
 use Rattle.index.proofs.wide.Reads as wide-reads
 
 abbrev Inv-loop : tie.InvT-loop
-Inv-loop name h₀ i₀ h i = Hashing name i h
+Inv-loop name h₀ g₀ i₀ h g i = Hashing name i h g
 
 abbrev μ-loop : tie.MeasureT-loop
-μ-loop name h₀ i₀ h i = length name - i
+μ-loop name h₀ g₀ i₀ h g i = length name - i
 
--- src/lib.rt:48:5
+-- src/lib.rt:57:5
 loop-holds : tie.Need-loop-holds Inv-loop μ-loop
 loop-holds c = search laws
 
--- src/lib.rt:49:14
-mul-h : tie.Need-mul-h Inv-loop μ-loop
-mul-h c = search laws
+-- src/lib.rt:58:21
+mul-next : tie.Need-mul-next Inv-loop μ-loop
+mul-next c = search laws
 
--- src/lib.rt:49:28
+-- src/lib.rt:58:35
 shared-slice-read-wide : tie.Need-shared-slice-read-wide Inv-loop μ-loop
 shared-slice-read-wide c = search laws
 
--- src/lib.rt:49:23
+-- src/lib.rt:58:30
 wide-requires : tie.Need-wide-requires Inv-loop μ-loop
 wide-requires c κs = search laws
 
--- src/lib.rt:49:14
-add-h : tie.Need-add-h Inv-loop μ-loop
-add-h c = search laws
+-- src/lib.rt:58:21
+add-next : tie.Need-add-next Inv-loop μ-loop
+add-next c = search laws
 
--- src/lib.rt:50:9
+-- src/lib.rt:61:9
 add-i : tie.Need-add-i Inv-loop μ-loop
 add-i c = search laws
 
--- src/lib.rt:48:5
+-- src/lib.rt:57:5
 loop-less : tie.Need-loop-less Inv-loop μ-loop
 loop-less c = search laws
 
--- src/lib.rt:48:5
+-- src/lib.rt:57:5
 loop-again : tie.Need-loop-again Inv-loop μ-loop
 loop-again c = search laws
 
--- src/lib.rt:43:1
+-- src/lib.rt:63:6
+mul-result : tie.Need-mul-result Inv-loop μ-loop
+mul-result c = search laws
+
+-- src/lib.rt:63:6
+add-result : tie.Need-add-result Inv-loop μ-loop
+add-result c = search laws
+
+-- src/lib.rt:51:1
 returns : tie.Need-returns Inv-loop μ-loop
 returns c = search laws
 
@@ -57,11 +65,13 @@ hash-of-spec =
     Inv-loop
     μ-loop
     loop-holds
-    mul-h
+    mul-next
     shared-slice-read-wide
     wide-requires
-    add-h
+    add-next
     add-i
     loop-less
     loop-again
+    mul-result
+    add-result
     returns)
