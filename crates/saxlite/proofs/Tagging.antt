@@ -1,4 +1,4 @@
--- Laws of a whole tag: where its parts lie, that the fuel is enough, and what the loop of `tag_ending` keeps.
+-- Laws of a whole tag: where its parts lie, that the fuel is enough, and what the loop of `tag_noting` keeps of its end.
 use mathlib.Core.Path.{_≡_, refl, sym, ap, _∙_}
 use mathlib.Core.Bool.{Bool, true}
 use mathlib.Core.List.{List, []}
@@ -123,6 +123,12 @@ going-start = record { rest = refl }
 -- the next part is nearer to the document's end
 pub part-less : (doc : List ℕ) (i place : ℕ) {p : TagPart} → p ≡ tagPartAt doc i place → {name n value len next : ℕ} → p ≡ Part name n value len next → length doc - next < length doc - i
 part-less doc i place e f =
+    let z = rw (sym e ∙ f) at (part-inside doc i place) in
+    omega arith
+
+-- its value lies in the document
+pub part-value : (doc : List ℕ) (i place : ℕ) {p : TagPart} → p ≡ tagPartAt doc i place → {name n value len next : ℕ} → p ≡ Part name n value len next → value < length doc
+part-value doc i place e f =
     let z = rw (sym e ∙ f) at (part-inside doc i place) in
     omega arith
 

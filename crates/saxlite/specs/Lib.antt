@@ -3,7 +3,7 @@ pub mod Find
 pub mod Entities
 pub mod Names
 pub mod Attributes
-pub mod Noting
 pub mod Step
 pub mod Event
 pub mod Reader
+pub mod Noting

@@ -2,9 +2,13 @@
 // An event at a time, so that a self-closed tag is an open, then a close.
 use crate::step::Step;
 use crate::step::step_at;
+use crate::step::step_noting;
+use crate::tag::Notes;
+use crate::tag::nothing;
 use refusals::Refusal;
 ghost use mathlib.Core.Path.{_≡_};
 ghost use Rattle.saxlite.specs.Reader.{readAt, readStep, atEnd, cursorAt};
+ghost use Rattle.saxlite.specs.Noting.{NotedAt, NotedIn};
 
 pub enum Event {
     Text {
@@ -42,6 +46,14 @@ pub struct Read {
     pub event: Event,
     pub place: usize,
     pub cursor: Cursor,
+}
+
+// The same with what was noted of a tag that was opened.
+pub struct ReadNoted {
+    pub event: Event,
+    pub place: usize,
+    pub cursor: Cursor,
+    pub noted: Notes,
 }
 
 pub fn cursor_at(at: usize) -> Cursor
@@ -114,6 +126,37 @@ fn read_step(at: usize, step: Step) -> Read
     }
 }
 
+// What stands at a cursor, and what is noted of the tag that is opened there.
+pub fn read_noting(doc: &[u8], c: Cursor) -> ReadNoted
+    ensures { λ r. ⌜ NotedAt (now (doc .entry)) c r ⌝ }
+{
+    if c.owed {
+        return ReadNoted {
+            event: Event::Close {
+                name: c.name,
+                name_len: c.len,
+            },
+            place: c.place,
+            cursor: cursor_at(c.at),
+            noted: nothing(),
+        };
+    }
+    let at = c.at;
+    let s = step_noting(doc, at);
+    let step = s.step;
+    let read = read_step(at, step);
+    let event = read.event;
+    let place = read.place;
+    let cursor = read.cursor;
+    let noted = s.noted;
+    ReadNoted {
+        event,
+        place,
+        cursor,
+        noted,
+    }
+}
+
 // What stands at a cursor.
 pub fn read_next(doc: &[u8], c: Cursor) -> Read
     ensures { λ r. ⌜ r ≡ readAt (now (doc .entry)) c ⌝ }
@@ -155,20 +198,22 @@ pub fn ahead<'a>(r: Reader<'a>) -> Read
     read_next(r.doc, r.cursor)
 }
 
-// An event, and the place of its '<' or of its first byte.
+// An event, the place of its '<' or of its first byte, and what was noted of a tag that it opens.
 pub struct Placed {
     pub event: Event,
     pub place: usize,
+    pub noted: Notes,
 }
 
 // The next event; the reader has moved on.
 pub fn next<'s, 'a>(r: &'s mut Reader<'a>) -> Placed
-    ensures { λ e. ⌜ (now (r .exit) .doc ≡ now (r .entry) .doc) × (record { event = e .event; place = e .place; cursor = now (r .exit) .cursor } ≡ readAt (now (now (r .entry) .doc)) (now (r .entry) .cursor)) ⌝ }
+    ensures { λ e. ⌜ (now (r .exit) .doc ≡ now (r .entry) .doc) × (record { event = e .event; place = e .place; cursor = now (r .exit) .cursor } ≡ readAt (now (now (r .entry) .doc)) (now (r .entry) .cursor)) × NotedIn (now (now (r .entry) .doc)) (e .event) (e .noted) ⌝ }
 {
-    let read = read_next(r.doc, r.cursor);
+    let read = read_noting(r.doc, r.cursor);
     r.cursor = read.cursor;
     Placed {
         event: read.event,
         place: read.place,
+        noted: read.noted,
     }
 }

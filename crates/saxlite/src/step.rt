@@ -6,7 +6,9 @@ use crate::scan::prefix_len;
 use crate::scan::skip_space;
 use crate::scan::tag_name_end;
 use crate::tag::Ending;
-use crate::tag::tag_ending;
+use crate::tag::Notes;
+use crate::tag::nothing;
+use crate::tag::tag_of;
 use classes::table;
 use refusals::Refusal;
 ghost use mathlib.Core.Path.{_≡_};
@@ -15,6 +17,7 @@ ghost use lib.ListN.{length};
 ghost use Rattle.classes.specs.Table.{IsTable};
 ghost use Rattle.saxlite.specs.Find.{findFrom};
 ghost use Rattle.saxlite.specs.Step.{stepAt, markupAt, closeAt, openAt, pastEnd};
+ghost use Rattle.saxlite.specs.Noting.{NotedAs};
 
 // What stands at a place, and where the reader goes on.
 pub enum Step {
@@ -44,6 +47,20 @@ pub enum Step {
     // At the end of the document, or past it.
     End,
     Refused(Refusal),
+}
+
+// A step, and what was noted of the tag that it opens.
+pub struct NotedStep {
+    pub step: Step,
+    pub noted: Notes,
+}
+
+// A step that opens nothing.
+fn bare(step: Step) -> NotedStep
+    ensures { λ r. ⌜ r .step ≡ step ⌝ }
+{
+    let noted = nothing();
+    NotedStep { step, noted }
 }
 
 // Past the first `end` from `from` on.
@@ -87,66 +104,69 @@ fn close_at(doc: &[u8], at: usize, t: &[u8; 256]) -> Step
 }
 
 // The open tag at `at`.
-fn open_at(doc: &[u8], at: usize, t: &[u8; 256]) -> Step
+fn open_at(doc: &[u8], at: usize, t: &[u8; 256]) -> NotedStep
     requires { ⌜ (at + 1 ≤ length (now doc)) × IsTable (now t) ⌝ }
-    ensures { λ r. ⌜ r ≡ openAt (now (doc .entry)) at ⌝ }
+    ensures { λ r. ⌜ NotedAs (openAt (now (doc .entry)) at) (now (doc .entry)) r ⌝ }
 {
     let name = at + 1;
     let end = tag_name_end(doc, name, t);
     if end == name {
-        return Step::Refused(Refusal::NoTagName {
+        return bare(Step::Refused(Refusal::NoTagName {
             offset: name,
             place: at,
-        });
+        }));
     }
-    let ending = tag_ending(doc, end, at, t);
+    let n = end - name;
+    let lost = prefix_len(texts::part(doc, name, n));
+    let local = name + lost;
+    let name_len = n - lost;
+    let tag = tag_of(texts::part(doc, local, name_len), doc, end, at, t);
+    let ending = tag.ending;
     match ending {
         Ending::Ends { next, self_closed } => {
-            let n = end - name;
-            let lost = prefix_len(texts::part(doc, name, n));
-            let local = name + lost;
-            let name_len = n - lost;
-            Step::Open {
+            let step = Step::Open {
                 name: local,
                 name_len,
                 attributes: end,
                 next,
                 self_closed,
-            }
+            };
+            let noted = tag.noted;
+            NotedStep { step, noted }
         }
-        Ending::Broken(refusal) => Step::Refused(refusal),
+        Ending::Broken(refusal) => bare(Step::Refused(refusal)),
     }
 }
 
 // What the '<' at `at` begins.
-fn markup_at(doc: &[u8], at: usize, t: &[u8; 256]) -> Step
+fn markup_at(doc: &[u8], at: usize, t: &[u8; 256]) -> NotedStep
     requires { ⌜ (at < length (now doc)) × IsTable (now t) ⌝ }
-    ensures { λ r. ⌜ r ≡ markupAt (now (doc .entry)) at ⌝ }
+    ensures { λ r. ⌜ NotedAs (markupAt (now (doc .entry)) at) (now (doc .entry)) r ⌝ }
 {
     if texts::starts_with(doc, at, b"<!--") {
         let from = at + 4;
-        return skip_to(doc, from, b"-->", Refusal::OpenComment { at });
+        return bare(skip_to(doc, from, b"-->", Refusal::OpenComment { at }));
     }
     if texts::starts_with(doc, at, b"<?") {
         let from = at + 2;
-        return skip_to(doc, from, b"?>", Refusal::OpenInstruction { at });
+        return bare(skip_to(doc, from, b"?>", Refusal::OpenInstruction { at }));
     }
     if texts::starts_with(doc, at, b"<!") {
         let from = at + 2;
-        return skip_to(doc, from, b">", Refusal::OpenDeclaration { at });
+        return bare(skip_to(doc, from, b">", Refusal::OpenDeclaration { at }));
     }
     if texts::starts_with(doc, at, b"</") {
-        return close_at(doc, at, t);
+        return bare(close_at(doc, at, t));
     }
     open_at(doc, at, t)
 }
 
-// The step of the reader at `at`.
-pub fn step_at(doc: &[u8], at: usize) -> Step
-    ensures { λ r. ⌜ r ≡ stepAt (now (doc .entry)) at ⌝ }
+// The step of the reader at `at`, and what is noted of the tag that it opens.
+pub fn step_noting(doc: &[u8], at: usize) -> NotedStep
+    ensures { λ r. ⌜ NotedAs (stepAt (now (doc .entry)) at) (now (doc .entry)) r ⌝ }
 {
     if doc.len() <= at {
-        return Step::End;
+        return bare(Step::End);
     }
     if texts::starts_with(doc, at, b"<") {
         let t = table();
@@ -154,9 +174,17 @@ pub fn step_at(doc: &[u8], at: usize) -> Step
     }
     let end = byte_from(doc, at, b'<');
     let len = end - at;
-    Step::Text {
+    bare(Step::Text {
         from: at,
         len,
         next: end,
-    }
+    })
+}
+
+// The step of the reader at `at`.
+pub fn step_at(doc: &[u8], at: usize) -> Step
+    ensures { λ r. ⌜ r ≡ stepAt (now (doc .entry)) at ⌝ }
+{
+    let noted = step_noting(doc, at);
+    noted.step
 }

@@ -7,12 +7,13 @@ use crate::scan::skip_space;
 use classes::table;
 use refusals::Refusal;
 ghost use mathlib.Core.Path.{_≡_};
+ghost use Prim.Native.Nat.{_<_};
+ghost use lib.ListN.{length};
 ghost use Rattle.classes.specs.Table.{IsTable};
 ghost use Rattle.texts.specs.Choice.{pick};
-ghost use Rattle.texts.specs.Text.{piece, same};
-ghost use Rattle.saxlite.specs.Attributes.{quotedAt, valueAt, attributePartAt, tagPartAt, tagAt, later, attributeAt};
-ghost use Rattle.saxlite.specs.Noting.{NotedWith};
-ghost use Rattle.saxlite.specs.declared.tag.Found.the-variants.{Value, Absent};
+ghost use Rattle.texts.specs.Text.{piece};
+ghost use Rattle.saxlite.specs.Attributes.{quotedAt, valueAt, attributePartAt, tagPartAt, tagAt, attributeAt};
+ghost use Rattle.saxlite.specs.Noting.{noNotes, foundAt, notedOf, NotedWith, NotedBy, keysOf};
 
 // One part of a tag: an attribute with the ranges of its raw name and raw value, the tag's end, or
 // a refusal.
@@ -43,12 +44,32 @@ pub enum Found {
     Absent,
 }
 
+// What was noted under four names: 1 + the place of the raw value's first byte, 0 where there is none, and its length.
+// Eight words: they go from hand to hand for each attribute, and the bytes beside an enum's tag, copied with it, or a
+// pair copied at once after its halves were stored, stall that.
+pub struct Notes {
+    pub first: usize,
+    pub len1: usize,
+    pub second: usize,
+    pub len2: usize,
+    pub third: usize,
+    pub len3: usize,
+    pub fourth: usize,
+    pub len4: usize,
+}
+
 // What was found under four names.
 pub struct Noted {
     pub first: Found,
     pub second: Found,
     pub third: Found,
     pub fourth: Found,
+}
+
+// A tag read whole: how it ends, and what was noted of it.
+pub struct Whole {
+    pub ending: Ending,
+    pub noted: Notes,
 }
 
 // The value that begins at `at`, up to the next `quote`.
@@ -142,60 +163,11 @@ pub fn tag_part(doc: &[u8], at: usize, place: usize) -> TagPart
     tag_part_in(doc, at, place, &t)
 }
 
-// How the tag whose attributes begin at `at` ends.
-pub fn tag_ending(doc: &[u8], at: usize, place: usize, t: &[u8; 256]) -> Ending
-    requires { ⌜ IsTable (now t) ⌝ }
-    ensures { λ r. ⌜ r ≡ tagAt (now (doc .entry)) at place .ending ⌝ }
+// This one where `on` says so, else the earlier one.
+fn latest(on: bool, this: usize, earlier: usize) -> usize
+    ensures { λ r. ⌜ r ≡ pick on this earlier ⌝ }
 {
-    let mut i = at;
-    loop {
-        let part = tag_part_in(doc, i, place, t);
-        match part {
-            TagPart::Attribute {
-                name: _,
-                name_len: _,
-                value: _,
-                value_len: _,
-                next,
-            } => {
-                i = next;
-            }
-            TagPart::TagEnd { next, self_closed } => {
-                return Ending::Ends { next, self_closed };
-            }
-            TagPart::Bad(refusal) => {
-                return Ending::Broken(refusal);
-            }
-        }
-    }
-}
-
-// Of equal names the last counts.
-fn later_of(found: Found, earlier: Found) -> Found
-    ensures { λ r. ⌜ r ≡ later found earlier ⌝ }
-{
-    match found {
-        Found::Value { from, len } => Found::Value { from, len },
-        Found::Absent => earlier,
-    }
-}
-
-// The value of an attribute, where its name is `key`.
-fn value_if(name: &[u8], key: &[u8], value: usize, len: usize) -> Found
-    ensures { λ r. ⌜ r ≡ pick (same (now (name .entry)) (now (key .entry))) (Value value len) Absent ⌝ }
-{
-    if texts::equal(name, key) {
-        return Found::Value { from: value, len };
-    }
-    Found::Absent
-}
-
-// The value of an attribute, where its name is `key`, else what was found earlier.
-fn latest(name: &[u8], key: &[u8], value: usize, len: usize, earlier: Found) -> Found
-    ensures { λ r. ⌜ r ≡ later (pick (same (now (name .entry)) (now (key .entry))) (Value value len) Absent) earlier ⌝ }
-{
-    let this = value_if(name, key, value, len);
-    later_of(this, earlier)
+    if on { this } else { earlier }
 }
 
 // What is noted with one more attribute; one that declares a namespace counts for nothing.
@@ -209,8 +181,9 @@ fn noted_with(
     second: &[u8],
     third: &[u8],
     fourth: &[u8],
-    earlier: Noted,
-) -> Noted
+    earlier: Notes,
+) -> Notes
+    requires { ⌜ value < length (now doc) ⌝ }
     ensures { λ r. ⌜ NotedWith (piece (now (doc .entry)) raw n) value len (now (first .entry)) (now (second .entry)) (now (third .entry)) (now (fourth .entry)) earlier r ⌝ }
 {
     let whole = texts::part(doc, raw, n);
@@ -219,44 +192,84 @@ fn noted_with(
     }
     let lost = prefix_len(whole);
     let name = texts::part(whole, lost, n);
-    let was1 = earlier.first;
-    let was2 = earlier.second;
-    let was3 = earlier.third;
-    let was4 = earlier.fourth;
-    let now1 = latest(name, first, value, len, was1);
-    let now2 = latest(name, second, value, len, was2);
-    let now3 = latest(name, third, value, len, was3);
-    let now4 = latest(name, fourth, value, len, was4);
-    Noted {
-        first: now1,
-        second: now2,
-        third: now3,
-        fourth: now4,
+    let at = value + 1;
+    let is1 = texts::equal(name, first);
+    let is2 = texts::equal(name, second);
+    let is3 = texts::equal(name, third);
+    let is4 = texts::equal(name, fourth);
+    Notes {
+        first: latest(is1, at, earlier.first),
+        len1: latest(is1, len, earlier.len1),
+        second: latest(is2, at, earlier.second),
+        len2: latest(is2, len, earlier.len2),
+        third: latest(is3, at, earlier.third),
+        len3: latest(is3, len, earlier.len3),
+        fourth: latest(is4, at, earlier.fourth),
+        len4: latest(is4, len, earlier.len4),
     }
 }
 
-// The raw values of the last attributes of four names, in the tag whose attributes begin at `at`.
-pub fn attributes(
+// Nothing found.
+pub fn nothing() -> Notes
+    ensures { λ r. ⌜ r ≡ noNotes ⌝ }
+{
+    Notes {
+        first: 0,
+        len1: 0,
+        second: 0,
+        len2: 0,
+        third: 0,
+        len3: 0,
+        fourth: 0,
+        len4: 0,
+    }
+}
+
+// What a note says.
+fn found_of(at: usize, len: usize) -> Found
+    ensures { λ r. ⌜ r ≡ foundAt at len ⌝ }
+{
+    if at == 0 {
+        return Found::Absent;
+    }
+    let from = at - 1;
+    Found::Value { from, len }
+}
+
+// What four notes say.
+pub fn noted_of(notes: Notes) -> Noted
+    ensures { λ r. ⌜ r ≡ notedOf notes ⌝ }
+{
+    let first = found_of(notes.first, notes.len1);
+    let second = found_of(notes.second, notes.len2);
+    let third = found_of(notes.third, notes.len3);
+    let fourth = found_of(notes.fourth, notes.len4);
+    Noted {
+        first,
+        second,
+        third,
+        fourth,
+    }
+}
+
+// The tag whose attributes begin at `at`: how it ends, and the raw values of the last attributes of four names.
+fn tag_noting(
     doc: &[u8],
     at: usize,
+    place: usize,
+    t: &[u8; 256],
     first: &[u8],
     second: &[u8],
     third: &[u8],
     fourth: &[u8],
-) -> Noted
-    ensures { λ r. ⌜ (r .first ≡ attributeAt (now (doc .entry)) at (now (first .entry))) × (r .second ≡ attributeAt (now (doc .entry)) at (now (second .entry))) × (r .third ≡ attributeAt (now (doc .entry)) at (now (third .entry))) × (r .fourth ≡ attributeAt (now (doc .entry)) at (now (fourth .entry))) ⌝ }
+) -> Whole
+    requires { ⌜ IsTable (now t) ⌝ }
+    ensures { λ r. ⌜ (r .ending ≡ tagAt (now (doc .entry)) at place .ending) × NotedBy (record { first = now (first .entry); second = now (second .entry); third = now (third .entry); fourth = now (fourth .entry) }) (now (doc .entry)) at (r .noted) ⌝ }
 {
-    let t = table();
     let mut i = at;
-    let mut noted = Noted {
-        first: Found::Absent,
-        second: Found::Absent,
-        third: Found::Absent,
-        fourth: Found::Absent,
-    };
+    let mut noted = nothing();
     loop {
-        // The place matters to refusals alone, and none is told here.
-        let part = tag_part_in(doc, i, 0, &t);
+        let part = tag_part_in(doc, i, place, t);
         match part {
             TagPart::Attribute {
                 name,
@@ -279,23 +292,51 @@ pub fn attributes(
                 );
                 i = next;
             }
-            TagPart::TagEnd {
-                next: _,
-                self_closed: _,
-            } => {
-                return noted;
+            TagPart::TagEnd { next, self_closed } => {
+                let ending = Ending::Ends { next, self_closed };
+                return Whole { ending, noted };
             }
-            TagPart::Bad(_) => {
-                return noted;
+            TagPart::Bad(refusal) => {
+                let ending = Ending::Broken(refusal);
+                return Whole { ending, noted };
             }
         }
     }
+}
+
+// A tag of an element that is called `name`: what is noted are the names that matter there.
+pub fn tag_of(name: &[u8], doc: &[u8], at: usize, place: usize, t: &[u8; 256]) -> Whole
+    requires { ⌜ IsTable (now t) ⌝ }
+    ensures { λ r. ⌜ (r .ending ≡ tagAt (now (doc .entry)) at place .ending) × NotedBy (keysOf (now (name .entry))) (now (doc .entry)) at (r .noted) ⌝ }
+{
+    if texts::equal(name, b"messageSchema") {
+        return tag_noting(doc, at, place, t, b"id", b"version", b"package", b"");
+    }
+    if texts::equal(name, b"type") {
+        return tag_noting(
+            doc,
+            at,
+            place,
+            t,
+            b"length",
+            b"name",
+            b"primitiveType",
+            b"characterEncoding",
+        );
+    }
+    if texts::equal(name, b"enum") {
+        return tag_noting(doc, at, place, t, b"name", b"encodingType", b"", b"");
+    }
+    tag_noting(doc, at, place, t, b"id", b"name", b"type", b"")
 }
 
 // The raw value of the last attribute of that name, in the tag whose attributes begin at `at`.
 pub fn attribute(doc: &[u8], at: usize, name: &[u8]) -> Found
     ensures { λ r. ⌜ r ≡ attributeAt (now (doc .entry)) at (now (name .entry)) ⌝ }
 {
-    let noted = attributes(doc, at, name, b"", b"", b"");
+    let t = table();
+    // The place matters to refusals alone, and none is told here.
+    let tag = tag_noting(doc, at, 0, &t, name, b"", b"", b"");
+    let noted = noted_of(tag.noted);
     noted.first
 }

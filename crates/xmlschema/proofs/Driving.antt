@@ -28,10 +28,10 @@ use Rattle.xmlschema.specs.Builder.{Builder, Outcome, on, refused}
 use Rattle.xmlschema.specs.Whole.{step, Whole, accepted, refusedBy, ending, run, empty, reading, theLimits, answerOf}
 use Rattle.xmlschema.specs.Store.{itemsOf, schemaOf}
 use Rattle.xmlschema.specs.Layout.{modelIn, builderOf, stackOf, current, Kept, Ready, Tagged, After, outcome, usedBy}
-use Rattle.xmlschema.specs.Driving.{takes, Inside, first, shown, ReadInto}
+use Rattle.xmlschema.specs.Driving.{takes, Inside, first, shown, ReadInto, cursorOf}
 use Rattle.xmlschema.specs.declared.build.Schema.{Schema as Read-schema}
 use Rattle.xmlschema.specs.declared.build.Schema.the-variants as read
-use Rattle.xmlschema.specs.declared.build.Turned.{Turned}
+use Rattle.xmlschema.specs.declared.build.Mark.{Mark}
 use Rattle.xmlschema.specs.declared.state.Limits.{Limits}
 use Rattle.xmlschema.specs.declared.state.State.{State}
 use Rattle.xmlschema.specs.declared.state.Verdict.{Verdict}
@@ -170,11 +170,11 @@ pub record Reading (l : Limits) (doc : List ℕ) (c : Cursor) (s : State) (rec t
   pub depth : l .depth ≤ 64
   pub same : run (left doc c + 1) l doc c (builderOf s doc rec text) ≡ reading l doc
 
-pub reading-start : (l : Limits) (doc rec text : List ℕ) {s : State} {c : Cursor} → s ≡ first → c ≡ cursorAt 0 → length doc ≤ 32768 → 16384 ≤ length rec → 65536 ≤ length text → l .items ≤ 1024 → l .depth ≤ 64 → Reading l doc c s rec text
+pub reading-start : (l : Limits) (doc rec text : List ℕ) {s : State} (m : Mark) {c : Cursor} → s ≡ first → cursorOf m ≡ c → c ≡ cursorAt 0 → length doc ≤ 32768 → 16384 ≤ length rec → 65536 ≤ length text → l .items ≤ 1024 → l .depth ≤ 64 → Reading l doc (cursorOf m) s rec text
 unfolding schemaOf itemsOf stackOf current
-reading-start l doc rec text es ec h k t i d =
+reading-start l doc rec text m es em ec h k t i d =
     let z : 2 * (length doc - 0) + 0 + 1 ≡ 2 * length doc + 1 = omega arith in
-    rw (es, ec)
+    rw (es, em ∙ ec)
     (record {
       kept = record { deep = omega arith; many = omega arith; begun = omega arith; apart = omega arith; top = omega arith; records = k; bytes = t; stable = λ u a. refl };
       used = omega arith;
@@ -184,6 +184,24 @@ reading-start l doc rec text es ec h k t i d =
       depth = d;
       same = rw z;
     })
+
+-- ---- marks: a cursor in whole words
+
+pub mark-owed : (c : Cursor) → c .owed ≡ true → cursorOf (record { at = c .at; owed = 1; place = c .place; name = c .name; len = c .len }) ≡ c
+mark-owed c t = ap (λ (b : Bool). record { at = c .at; owed = b; place = c .place; name = c .name; len = c .len }) (sym t)
+
+pub mark-free : (c : Cursor) → c .owed ≡ false → cursorOf (record { at = c .at; owed = 0; place = c .place; name = c .name; len = c .len }) ≡ c
+mark-free c t = ap (λ (b : Bool). record { at = c .at; owed = b; place = c .place; name = c .name; len = c .len }) (sym t)
+
+pub ended-at : (doc : List ℕ) (m : Mark) {k : Cursor} → k ≡ cursorOf m → {b : Bool} → b ≡ atEnd doc k → b ≡ atEnd doc (cursorOf m)
+ended-at doc m e f = f ∙ ap (atEnd doc) e
+
+-- what a turn at a cursor promises, and one at its mark
+abbrev pub TurnedTo : Limits → List ℕ → State → List ℕ → List ℕ → Cursor → Cursor → State → Verdict → List ℕ → List ℕ → Type 0
+TurnedTo l doc s rec text c to st v rec′ text′ = (to ≡ readAt doc c .cursor) × After (step l doc (readAt doc c .place) (readAt doc c .event) (builderOf s doc rec text)) s (takes (readAt doc c .event)) doc (record { state = st; verdict = v }) rec′ text′
+
+pub turned-at : (l : Limits) (doc : List ℕ) (m : Mark) (s : State) (rec text : List ℕ) {k : Cursor} → k ≡ cursorOf m → (n : Mark) {to : Cursor} → cursorOf n ≡ to → {st : State} {v : Verdict} {rec′ text′ : List ℕ} → TurnedTo l doc s rec text k to st v rec′ text′ → TurnedTo l doc s rec text (cursorOf m) (cursorOf n) st v rec′ text′
+turned-at l doc m s rec text {k} e n {to} f {st} {v} {rec′} {text′} p = subst (λ (x : Cursor). TurnedTo l doc s rec text x (cursorOf n) st v rec′ text′) e (f ∙ p .0, p .1)
 
 module _ (l : Limits) (doc : List ℕ) (c : Cursor) (s : State) (rec text : List ℕ) (inv : Reading l doc c s rec text) where
   module _ {b : Bool} (eb : b ≡ atEnd doc c) (more : not b ≡ true) where
@@ -199,32 +217,32 @@ module _ (l : Limits) (doc : List ℕ) (c : Cursor) (s : State) (rec text : List
     pub reading-inside : Inside doc (readAt doc c .event)
     reading-inside = next .inside
 
-    module _ {a : Turned} {rec′ text′ : List ℕ} (to : a .cursor ≡ readAt doc c .cursor) (p : After (step l doc (readAt doc c .place) (readAt doc c .event) (builderOf s doc rec text)) s (takes (readAt doc c .event)) doc (record { state = a .state; verdict = a .verdict }) rec′ text′) where
-      pub reading-refused : {q : Refusal} → a .verdict ≡ verdict.Refused q → refusedBy q ≡ reading l doc
+    module _ {c′ : Cursor} {s′ : State} {w : Verdict} {rec′ text′ : List ℕ} (to : c′ ≡ readAt doc c .cursor) (p : After (step l doc (readAt doc c .place) (readAt doc c .event) (builderOf s doc rec text)) s (takes (readAt doc c .event)) doc (record { state = s′; verdict = w }) rec′ text′) where
+      pub reading-refused : {q : Refusal} → w ≡ verdict.Refused q → refusedBy q ≡ reading l doc
       reading-refused {q} v =
-          let e : step l doc (readAt doc c .place) (readAt doc c .event) (builderOf s doc rec text) ≡ refused q = sym (p .is) ∙ ap (λ x. outcome x (builderOf (a .state) doc rec′ text′)) v in
+          let e : step l doc (readAt doc c .place) (readAt doc c .event) (builderOf s doc rec text) ≡ refused q = sym (p .is) ∙ ap (λ x. outcome x (builderOf (s′) doc rec′ text′)) v in
           let z : left doc c + 1 ≡ suc (left doc c) = omega arith in
           sym (run-refused (left doc c) l doc c (builderOf s doc rec text) going e) ∙ ap (λ k. run k l doc c (builderOf s doc rec text)) (sym z) ∙ inv .same
 
-      module _ (v : a .verdict ≡ verdict.Fine) where
-        on-step : step l doc (readAt doc c .place) (readAt doc c .event) (builderOf s doc rec text) ≡ on (builderOf (a .state) doc rec′ text′)
-        on-step = sym (p .is) ∙ ap (λ x. outcome x (builderOf (a .state) doc rec′ text′)) v
+      module _ (v : w ≡ verdict.Fine) where
+        on-step : step l doc (readAt doc c .place) (readAt doc c .event) (builderOf s doc rec text) ≡ on (builderOf (s′) doc rec′ text′)
+        on-step = sym (p .is) ∙ ap (λ x. outcome x (builderOf (s′) doc rec′ text′)) v
 
         not-bad : bad (readAt doc c .event) ≡ false
-        not-bad = good l doc (readAt doc c .place) (readAt doc c .event) (builderOf s doc rec text) (builderOf (a .state) doc rec′ text′) on-step
+        not-bad = good l doc (readAt doc c .place) (readAt doc c .event) (builderOf s doc rec text) (builderOf (s′) doc rec′ text′) on-step
 
-        pub reading-less : left doc (a .cursor) < left doc c
+        pub reading-less : left doc (c′) < left doc c
         reading-less = rw to (next .less not-bad)
 
-        pub reading-on : Reading l doc (a .cursor) (a .state) rec′ text′
+        pub reading-on : Reading l doc (c′) (s′) rec′ text′
         reading-on =
-            let g = goes l doc c (builderOf s doc rec text) (builderOf (a .state) doc rec′ text′) (inv .within) going on-step in
+            let g = goes l doc c (builderOf s doc rec text) (builderOf (s′) doc rec′ text′) (inv .within) going on-step in
             let z : left doc c + 1 ≡ suc (left doc c) = omega arith in
-            let m : run (left doc c) l doc (readAt doc c .cursor) (builderOf (a .state) doc rec′ text′) ≡ reading l doc =
+            let m : run (left doc c) l doc (readAt doc c .cursor) (builderOf (s′) doc rec′ text′) ≡ reading l doc =
             sym (run-on (left doc c) l doc c (builderOf s doc rec text) going on-step) ∙ ap (λ k. run k l doc c (builderOf s doc rec text)) (sym z) ∙ inv .same in
-            let n : run (left doc (readAt doc c .cursor) + 1) l doc (readAt doc c .cursor) (builderOf (a .state) doc rec′ text′) ≡ run (left doc c) l doc (readAt doc c .cursor) (builderOf (a .state) doc rec′ text′) =
+            let n : run (left doc (readAt doc c .cursor) + 1) l doc (readAt doc c .cursor) (builderOf (s′) doc rec′ text′) ≡ run (left doc c) l doc (readAt doc c .cursor) (builderOf (s′) doc rec′ text′) =
             enough (left doc c) _ _ l doc (readAt doc c .cursor) _ (g .within) (omega (arith, g .less)) (omega arith) (g .less) in
-            subst (λ (k : Cursor). Reading l doc k (a .state) rec′ text′) (sym to)
+            subst (λ (k : Cursor). Reading l doc k (s′) rec′ text′) (sym to)
             (record {
               kept = p .kept v;
               used = omega (arith, p .used v, inv .used, next .grows not-bad);

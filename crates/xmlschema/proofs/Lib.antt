@@ -7,6 +7,7 @@ pub mod Takes
 pub mod Stacking
 pub mod Adding
 pub mod Opening
+pub mod Keying
 pub mod Dispatching
 pub mod Closing
 pub mod Driving

@@ -4,13 +4,16 @@ use mathlib.Core.Bool.{Bool, true, false}
 use mathlib.Core.List.{List}
 use mathlib.Core.Logic.{_⊎_}
 use Prim.Native.Nat.{ℕ, _+_, _-_, _≤_, _<_}
+use lib.Dec.{eqb}
 use lib.ListN.{length}
 use Rattle.saxlite.specs.declared.reader.Event.{Event}
 use Rattle.saxlite.specs.declared.reader.Event.the-variants.{Text, Open, Close, Skipped, End, Refused}
+use Rattle.saxlite.specs.declared.reader.Cursor.{Cursor}
 use Rattle.xmlschema.specs.Store.{schemaOf}
 use Rattle.xmlschema.specs.Whole.{Whole, accepted, refusedBy, answerOf}
 use Rattle.xmlschema.specs.Layout.{Tagged}
 use Rattle.xmlschema.specs.declared.state.State.{State}
+use Rattle.xmlschema.specs.declared.build.Mark.{Mark}
 use Rattle.xmlschema.specs.declared.build.Schema.{Schema}
 use Rattle.xmlschema.specs.declared.build.Schema.the-variants as read
 
@@ -40,6 +43,10 @@ first =
       current = record { flag = false; composite = 0; enumer = 0; message = 0; group = 0 };
       head = record { name = 0; len = 0; id = 0; version = 0 };
     }
+
+-- a cursor that goes from turn to turn in whole words
+abbrev pub cursorOf : Mark → Cursor
+cursorOf m = record { at = m .at; owed = eqb (m .owed) 1; place = m .place; name = m .name; len = m .len }
 
 -- what an answer says, with the records and the text as they are then
 abbrev pub shown : Schema → List ℕ → List ℕ → Whole

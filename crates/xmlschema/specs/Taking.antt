@@ -8,12 +8,15 @@ use Rattle.saxlite.specs.declared.tag.Found.{Found}
 use Rattle.saxlite.specs.declared.tag.Noted.{Noted}
 use Rattle.saxlite.specs.Attributes.{rawLength}
 use Rattle.saxlite.specs.Event.{valueIn}
+use Rattle.saxlite.specs.Noting.{Keys, schemaKeys, typeKeys, enumKeys, fieldKeys}
 use Rattle.xmlschema.specs.Schema.{Item}
 use Rattle.numbers.specs.Numbers.{numberOf, parsed}
 use Rattle.numbers.specs.declared.Number.{Number}
 use Rattle.xmlschema.specs.Builder.{orEmpty, isGiven}
 use Rattle.xmlschema.specs.Store.{itemOf}
 use Rattle.xmlschema.specs.Layout.{Alike, Steady}
+use Rattle.elements.specs.declared.Element.{Element}
+use Rattle.elements.specs.declared.Element.the-variants as element
 use Rattle.xmlschema.specs.declared.items.Entry.{Entry}
 use Rattle.xmlschema.specs.declared.take.Taken.{Taken}
 
@@ -58,3 +61,16 @@ typeItemOf kind owner n tag doc =
 
 abbrev pub typeLength : Noted → ℕ
 typeLength tag = rawLength (tag .second) + rawLength (tag .third) + rawLength (tag .fourth)
+
+-- the names that the reader notes of an element
+abbrev pub keysFor : Element → Keys
+keysFor element.MessageSchema = schemaKeys
+keysFor element.Type = typeKeys
+keysFor element.Ref = fieldKeys
+keysFor element.Composite = fieldKeys
+keysFor element.Enum = enumKeys
+keysFor element.ValidValue = fieldKeys
+keysFor element.Message = fieldKeys
+keysFor element.Group = fieldKeys
+keysFor element.Field = fieldKeys
+keysFor element.Other = fieldKeys

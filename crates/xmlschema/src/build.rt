@@ -17,14 +17,16 @@ use saxlite::reader::Reader;
 use saxlite::reader::at_end;
 use saxlite::reader::cursor_at;
 use saxlite::reader::next;
+use saxlite::tag::Notes;
 use texts::ascii_end;
 ghost use mathlib.Core.Path.{_≡_};
 ghost use Prim.Native.Nat.{_≤_};
 ghost use lib.ListN.{length};
-ghost use Rattle.saxlite.specs.Reader.{readAt};
+ghost use Rattle.saxlite.specs.Reader.{readAt, atEnd};
+ghost use Rattle.saxlite.specs.Noting.{NotedIn};
 ghost use Rattle.xmlschema.specs.Whole.{step as stepOf, reading};
 ghost use Rattle.xmlschema.specs.Layout.{builderOf, Ready, After};
-ghost use Rattle.xmlschema.specs.Driving.{takes, Inside, first, shown, ReadInto};
+ghost use Rattle.xmlschema.specs.Driving.{takes, Inside, first, cursorOf, shown, ReadInto};
 
 // 01's limits.
 const MAX_ITEMS: u32 = 1024;
@@ -57,11 +59,12 @@ pub fn step_value(
     l: Limits,
     place: usize,
     event: Event,
+    noted: Notes,
     doc: &[u8],
     rec: &mut [u32],
     text: &mut [u8],
 ) -> Stepped
-    requires { ⌜ Ready s (takes event) (now rec) (now text) × Inside (now doc) event × (l .items ≤ 1024) × (l .depth ≤ 64) × (length (now doc) ≤ 32768) ⌝ }
+    requires { ⌜ Ready s (takes event) (now rec) (now text) × Inside (now doc) event × (l .items ≤ 1024) × (l .depth ≤ 64) × (length (now doc) ≤ 32768) × NotedIn (now doc) event noted ⌝ }
     ensures { λ r. ⌜ After (stepOf l (now (doc .entry)) place event (builderOf s (now (doc .entry)) (now (rec .entry)) (now (text .entry)))) s (takes event) (now (doc .entry)) r (now (rec .exit)) (now (text .exit)) ⌝ }
 {
     match event {
@@ -79,6 +82,7 @@ pub fn step_value(
             name_len,
             attributes,
             next,
+            noted,
             doc,
             rec,
             text,
@@ -99,14 +103,15 @@ fn step(
     l: Limits,
     place: usize,
     event: Event,
+    noted: Notes,
     doc: &[u8],
     rec: &mut [u32],
     text: &mut [u8],
 ) -> Verdict
-    requires { ⌜ Ready (now s) (takes event) (now rec) (now text) × Inside (now doc) event × (l .items ≤ 1024) × (l .depth ≤ 64) × (length (now doc) ≤ 32768) ⌝ }
+    requires { ⌜ Ready (now s) (takes event) (now rec) (now text) × Inside (now doc) event × (l .items ≤ 1024) × (l .depth ≤ 64) × (length (now doc) ≤ 32768) × NotedIn (now doc) event noted ⌝ }
     ensures { λ v. ⌜ After (stepOf l (now (doc .entry)) place event (builderOf (now (s .entry)) (now (doc .entry)) (now (rec .entry)) (now (text .entry)))) (now (s .entry)) (takes event) (now (doc .entry)) (record { state = now (s .exit); verdict = v }) (now (rec .exit)) (now (text .exit)) ⌝ }
 {
-    let r = step_value(*s, l, place, event, doc, rec, text);
+    let r = step_value(*s, l, place, event, noted, doc, rec, text);
     *s = r.state;
     r.verdict
 }
@@ -126,12 +131,98 @@ fn turn(l: Limits, doc: &[u8], cursor: Cursor, s: State, rec: &mut [u32], text: 
     let mut reader = Reader { doc, cursor };
     let told = next(&mut reader);
     let mut state = s;
-    let verdict = step(&mut state, l, told.place, told.event, doc, rec, text);
+    let verdict = step(
+        &mut state,
+        l,
+        told.place,
+        told.event,
+        told.noted,
+        doc,
+        rec,
+        text,
+    );
     Turned {
         state,
         cursor: reader.cursor,
         verdict,
     }
+}
+
+// A cursor in whole words, as it goes from turn to turn: the bytes beside a bool, copied with it, stall the loop.
+pub struct Mark {
+    pub at: usize,
+    pub owed: usize,
+    pub place: usize,
+    pub name: usize,
+    pub len: usize,
+}
+
+fn mark_of(c: Cursor) -> Mark
+    ensures { λ r. ⌜ cursorOf r ≡ c ⌝ }
+{
+    let at = c.at;
+    let place = c.place;
+    let name = c.name;
+    let len = c.len;
+    if c.owed {
+        return Mark {
+            at,
+            owed: 1,
+            place,
+            name,
+            len,
+        };
+    }
+    Mark {
+        at,
+        owed: 0,
+        place,
+        name,
+        len,
+    }
+}
+
+fn cursor_of(m: Mark) -> Cursor
+    ensures { λ r. ⌜ r ≡ cursorOf m ⌝ }
+{
+    let owed = m.owed == 1;
+    Cursor {
+        at: m.at,
+        owed,
+        place: m.place,
+        name: m.name,
+        len: m.len,
+    }
+}
+
+// What one turn leaves, the cursor as a mark.
+pub struct Marked {
+    pub state: State,
+    pub mark: Mark,
+    pub verdict: Verdict,
+}
+
+fn turn_at(l: Limits, doc: &[u8], mark: Mark, s: State, rec: &mut [u32], text: &mut [u8]) -> Marked
+    requires { ⌜ Ready s (takes (readAt (now doc) (cursorOf mark) .event)) (now rec) (now text) × Inside (now doc) (readAt (now doc) (cursorOf mark) .event) × (l .items ≤ 1024) × (l .depth ≤ 64) × (length (now doc) ≤ 32768) ⌝ }
+    ensures { λ r. ⌜ (cursorOf (r .mark) ≡ readAt (now (doc .entry)) (cursorOf mark) .cursor) × After (stepOf l (now (doc .entry)) (readAt (now (doc .entry)) (cursorOf mark) .place) (readAt (now (doc .entry)) (cursorOf mark) .event) (builderOf s (now (doc .entry)) (now (rec .entry)) (now (text .entry)))) s (takes (readAt (now (doc .entry)) (cursorOf mark) .event)) (now (doc .entry)) (record { state = r .state; verdict = r .verdict }) (now (rec .exit)) (now (text .exit)) ⌝ }
+{
+    let cursor = cursor_of(mark);
+    let t = turn(l, doc, cursor, s, rec, text);
+    let state = t.state;
+    let on = mark_of(t.cursor);
+    let verdict = t.verdict;
+    Marked {
+        state,
+        mark: on,
+        verdict,
+    }
+}
+
+fn at_end_of(doc: &[u8], mark: Mark) -> bool
+    ensures { λ r. ⌜ r ≡ atEnd (now (doc .entry)) (cursorOf mark) ⌝ }
+{
+    let cursor = cursor_of(mark);
+    at_end(doc, cursor)
 }
 
 // Reads a document whose length and bytes, and the buffers, are tested.
@@ -140,16 +231,16 @@ fn read_tested(l: Limits, doc: &[u8], rec: &mut [u32], text: &mut [u8]) -> Schem
     ensures { λ r. ⌜ shown r (now (rec .exit)) (now (text .exit)) ≡ reading l (now (doc .entry)) ⌝ }
 {
     let mut state = first_state();
-    let mut cursor = cursor_at(0);
-    while !at_end(doc, cursor) {
-        let t = turn(l, doc, cursor, state, rec, text);
+    let mut mark = mark_of(cursor_at(0));
+    while !at_end_of(doc, mark) {
+        let t = turn_at(l, doc, mark, state, rec, text);
         let verdict = t.verdict;
         match verdict {
             Verdict::Fine => {
                 let changed = t.state;
                 state = changed;
-                let on = t.cursor;
-                cursor = on;
+                let on = t.mark;
+                mark = on;
             }
             Verdict::Refused(why) => {
                 return Schema::Refused(why);

@@ -30,6 +30,7 @@ use numbers::Number;
 use refusals::Refusal;
 use saxlite::tag::Found;
 use saxlite::tag::Noted;
+use saxlite::tag::Notes;
 use texts::equal;
 use texts::part;
 ghost use mathlib.Core.Path.{_≡_};
@@ -39,12 +40,13 @@ ghost use lib.ListN.{length, getD};
 ghost use Rattle.texts.specs.Text.{piece};
 ghost use Rattle.saxlite.specs.Attributes.{rawLength};
 ghost use Rattle.saxlite.specs.Event.{valueIn};
+ghost use Rattle.saxlite.specs.Noting.{NotedBy, schemaKeys, typeKeys, enumKeys, fieldKeys, keysOf};
 ghost use Rattle.xmlschema.specs.Schema.{itemAt};
 ghost use Rattle.xmlschema.specs.Store.{itemOf, schemaOf};
 ghost use Rattle.xmlschema.specs.Builder.{openSchema, openType, openRef, openComposite, openEnum, openValue, openMessage, openGroup, openField, openBy, opened, plainItem, orEmpty};
 ghost use Rattle.xmlschema.specs.Whole.{attributesIn};
 ghost use Rattle.xmlschema.specs.Layout.{builderOf, modelIn, recurrent, Kept, Ready, Tagged, Steady, After, Added};
-ghost use Rattle.xmlschema.specs.Taking.{typeItemOf, typeLength};
+ghost use Rattle.xmlschema.specs.Taking.{typeItemOf, typeLength, keysFor};
 
 fn refuse(s: State, r: Refusal) -> Stepped
     ensures { λ a. ⌜ a ≡ record { state = s; verdict = Verdict.Refused r } ⌝ }
@@ -135,14 +137,15 @@ fn open_schema(
     place: usize,
     attributes: usize,
     next: usize,
+    noted: Notes,
     doc: &[u8],
     rec: &[u32],
     text: &mut [u8],
 ) -> Stepped
-    requires { ⌜ Ready s (next - attributes) (now rec) (now text) × Tagged (now doc) attributes next ⌝ }
+    requires { ⌜ Ready s (next - attributes) (now rec) (now text) × Tagged (now doc) attributes next × NotedBy schemaKeys (now doc) attributes noted ⌝ }
     ensures { λ r. ⌜ After (openSchema place (attributesIn (now (doc .entry)) attributes) (builderOf s (now (doc .entry)) (now (rec .entry)) (now (text .entry)))) s (next - attributes) (now (doc .entry)) r (now (rec .entry)) (now (text .exit)) ⌝ }
 {
-    let tag = schema_attributes(doc, attributes);
+    let tag = schema_attributes(doc, attributes, noted);
     let id_found = tag.first;
     let version_found = tag.second;
     let package_found = tag.third;
@@ -206,14 +209,15 @@ fn open_type(
     inside: bool,
     attributes: usize,
     next: usize,
+    noted: Notes,
     doc: &[u8],
     rec: &mut [u32],
     text: &mut [u8],
 ) -> Stepped
-    requires { ⌜ Ready s (next - attributes) (now rec) (now text) × Tagged (now doc) attributes next × (l .items ≤ 1024) ⌝ }
+    requires { ⌜ Ready s (next - attributes) (now rec) (now text) × Tagged (now doc) attributes next × (l .items ≤ 1024) × NotedBy typeKeys (now doc) attributes noted ⌝ }
     ensures { λ r. ⌜ After (openType l place inside (attributesIn (now (doc .entry)) attributes) (builderOf s (now (doc .entry)) (now (rec .entry)) (now (text .entry)))) s (next - attributes) (now (doc .entry)) r (now (rec .exit)) (now (text .exit)) ⌝ }
 {
-    let tag = type_attributes(doc, attributes);
+    let tag = type_attributes(doc, attributes, noted);
     let length = tag.first;
     let Number::Value(size) = read_number(doc, length, text, s.place.low) else {
         return refuse(s, Refusal::BadNumber { place });
@@ -286,18 +290,19 @@ fn open_ref(
     place: usize,
     attributes: usize,
     next: usize,
+    noted: Notes,
     doc: &[u8],
     rec: &mut [u32],
     text: &mut [u8],
 ) -> Stepped
-    requires { ⌜ Ready s (next - attributes) (now rec) (now text) × Tagged (now doc) attributes next × (l .items ≤ 1024) ⌝ }
+    requires { ⌜ Ready s (next - attributes) (now rec) (now text) × Tagged (now doc) attributes next × (l .items ≤ 1024) × NotedBy fieldKeys (now doc) attributes noted ⌝ }
     ensures { λ r. ⌜ After (openRef l place (attributesIn (now (doc .entry)) attributes) (builderOf s (now (doc .entry)) (now (rec .entry)) (now (text .entry)))) s (next - attributes) (now (doc .entry)) r (now (rec .exit)) (now (text .exit)) ⌝ }
 {
     let composite = s.current.composite;
     if composite == 0 {
         return unchanged(s);
     }
-    let tag = field_attributes(doc, attributes);
+    let tag = field_attributes(doc, attributes, noted);
     let name = tag.second;
     let type_found = tag.third;
     add_typed(
@@ -321,14 +326,15 @@ fn open_composite(
     place: usize,
     attributes: usize,
     next: usize,
+    noted: Notes,
     doc: &[u8],
     rec: &mut [u32],
     text: &mut [u8],
 ) -> Stepped
-    requires { ⌜ Ready s (next - attributes) (now rec) (now text) × Tagged (now doc) attributes next × (l .items ≤ 1024) ⌝ }
+    requires { ⌜ Ready s (next - attributes) (now rec) (now text) × Tagged (now doc) attributes next × (l .items ≤ 1024) × NotedBy fieldKeys (now doc) attributes noted ⌝ }
     ensures { λ r. ⌜ After (openComposite l place (attributesIn (now (doc .entry)) attributes) (builderOf s (now (doc .entry)) (now (rec .entry)) (now (text .entry)))) s (next - attributes) (now (doc .entry)) r (now (rec .exit)) (now (text .exit)) ⌝ }
 {
-    let tag = field_attributes(doc, attributes);
+    let tag = field_attributes(doc, attributes, noted);
     let name = tag.second;
     let r = add_named(s, l, place, items::COMPOSITE, 0, 0, name, doc, rec, text);
     let count = r.state.place.count;
@@ -342,14 +348,15 @@ fn open_enum(
     place: usize,
     attributes: usize,
     next: usize,
+    noted: Notes,
     doc: &[u8],
     rec: &mut [u32],
     text: &mut [u8],
 ) -> Stepped
-    requires { ⌜ Ready s (next - attributes) (now rec) (now text) × Tagged (now doc) attributes next × (l .items ≤ 1024) ⌝ }
+    requires { ⌜ Ready s (next - attributes) (now rec) (now text) × Tagged (now doc) attributes next × (l .items ≤ 1024) × NotedBy enumKeys (now doc) attributes noted ⌝ }
     ensures { λ r. ⌜ After (openEnum l place (attributesIn (now (doc .entry)) attributes) (builderOf s (now (doc .entry)) (now (rec .entry)) (now (text .entry)))) s (next - attributes) (now (doc .entry)) r (now (rec .exit)) (now (text .exit)) ⌝ }
 {
-    let tag = enum_attributes(doc, attributes);
+    let tag = enum_attributes(doc, attributes, noted);
     let name = tag.first;
     let encoding = tag.second;
     let r = add_typed(
@@ -377,11 +384,12 @@ fn open_value(
     place: usize,
     attributes: usize,
     next: usize,
+    noted: Notes,
     doc: &[u8],
     rec: &mut [u32],
     text: &mut [u8],
 ) -> Stepped
-    requires { ⌜ Ready s (next - attributes) (now rec) (now text) × Tagged (now doc) attributes next × (l .items ≤ 1024) ⌝ }
+    requires { ⌜ Ready s (next - attributes) (now rec) (now text) × Tagged (now doc) attributes next × (l .items ≤ 1024) × NotedBy fieldKeys (now doc) attributes noted ⌝ }
     ensures { λ r. ⌜ After (openValue l place (attributesIn (now (doc .entry)) attributes) (builderOf s (now (doc .entry)) (now (rec .entry)) (now (text .entry)))) s (next - attributes) (now (doc .entry)) r (now (rec .exit)) (now (text .exit)) ⌝ }
 {
     let enumer = s.current.enumer;
@@ -403,7 +411,7 @@ fn open_value(
             verdict: Verdict::Fine,
         };
     }
-    let tag = field_attributes(doc, attributes);
+    let tag = field_attributes(doc, attributes, noted);
     let name = tag.second;
     let r = add_named(
         s,
@@ -448,14 +456,15 @@ fn open_message(
     place: usize,
     attributes: usize,
     next: usize,
+    noted: Notes,
     doc: &[u8],
     rec: &mut [u32],
     text: &mut [u8],
 ) -> Stepped
-    requires { ⌜ Ready s (next - attributes) (now rec) (now text) × Tagged (now doc) attributes next × (l .items ≤ 1024) ⌝ }
+    requires { ⌜ Ready s (next - attributes) (now rec) (now text) × Tagged (now doc) attributes next × (l .items ≤ 1024) × NotedBy fieldKeys (now doc) attributes noted ⌝ }
     ensures { λ r. ⌜ After (openMessage l place (attributesIn (now (doc .entry)) attributes) (builderOf s (now (doc .entry)) (now (rec .entry)) (now (text .entry)))) s (next - attributes) (now (doc .entry)) r (now (rec .exit)) (now (text .exit)) ⌝ }
 {
-    let tag = field_attributes(doc, attributes);
+    let tag = field_attributes(doc, attributes, noted);
     let id_found = tag.first;
     let name = tag.second;
     let Number::Value(id) = read_number(doc, id_found, text, s.place.low) else {
@@ -474,14 +483,15 @@ fn open_group(
     place: usize,
     attributes: usize,
     next: usize,
+    noted: Notes,
     doc: &[u8],
     rec: &mut [u32],
     text: &mut [u8],
 ) -> Stepped
-    requires { ⌜ Ready s (next - attributes) (now rec) (now text) × Tagged (now doc) attributes next × (l .items ≤ 1024) ⌝ }
+    requires { ⌜ Ready s (next - attributes) (now rec) (now text) × Tagged (now doc) attributes next × (l .items ≤ 1024) × NotedBy fieldKeys (now doc) attributes noted ⌝ }
     ensures { λ r. ⌜ After (openGroup l place (attributesIn (now (doc .entry)) attributes) (builderOf s (now (doc .entry)) (now (rec .entry)) (now (text .entry)))) s (next - attributes) (now (doc .entry)) r (now (rec .exit)) (now (text .exit)) ⌝ }
 {
-    let tag = field_attributes(doc, attributes);
+    let tag = field_attributes(doc, attributes, noted);
     let id_found = tag.first;
     let name = tag.second;
     let Number::Value(id) = read_number(doc, id_found, text, s.place.low) else {
@@ -515,14 +525,15 @@ fn open_field(
     place: usize,
     attributes: usize,
     next: usize,
+    noted: Notes,
     doc: &[u8],
     rec: &mut [u32],
     text: &mut [u8],
 ) -> Stepped
-    requires { ⌜ Ready s (next - attributes) (now rec) (now text) × Tagged (now doc) attributes next × (l .items ≤ 1024) ⌝ }
+    requires { ⌜ Ready s (next - attributes) (now rec) (now text) × Tagged (now doc) attributes next × (l .items ≤ 1024) × NotedBy fieldKeys (now doc) attributes noted ⌝ }
     ensures { λ r. ⌜ After (openField l place (attributesIn (now (doc .entry)) attributes) (builderOf s (now (doc .entry)) (now (rec .entry)) (now (text .entry)))) s (next - attributes) (now (doc .entry)) r (now (rec .exit)) (now (text .exit)) ⌝ }
 {
-    let tag = field_attributes(doc, attributes);
+    let tag = field_attributes(doc, attributes, noted);
     let id_found = tag.first;
     let name = tag.second;
     let type_found = tag.third;
@@ -586,23 +597,24 @@ fn open_by(
     inside: bool,
     attributes: usize,
     next: usize,
+    noted: Notes,
     doc: &[u8],
     rec: &mut [u32],
     text: &mut [u8],
 ) -> Stepped
-    requires { ⌜ Ready s (next - attributes) (now rec) (now text) × Tagged (now doc) attributes next × (l .items ≤ 1024) ⌝ }
+    requires { ⌜ Ready s (next - attributes) (now rec) (now text) × Tagged (now doc) attributes next × (l .items ≤ 1024) × NotedBy (keysFor e) (now doc) attributes noted ⌝ }
     ensures { λ r. ⌜ After (openBy e l place inside (attributesIn (now (doc .entry)) attributes) (builderOf s (now (doc .entry)) (now (rec .entry)) (now (text .entry)))) s (next - attributes) (now (doc .entry)) r (now (rec .exit)) (now (text .exit)) ⌝ }
 {
     match e {
-        Element::MessageSchema => open_schema(s, place, attributes, next, doc, rec, text),
-        Element::Type => open_type(s, l, place, inside, attributes, next, doc, rec, text),
-        Element::Ref => open_ref(s, l, place, attributes, next, doc, rec, text),
-        Element::Composite => open_composite(s, l, place, attributes, next, doc, rec, text),
-        Element::Enum => open_enum(s, l, place, attributes, next, doc, rec, text),
-        Element::ValidValue => open_value(s, l, place, attributes, next, doc, rec, text),
-        Element::Message => open_message(s, l, place, attributes, next, doc, rec, text),
-        Element::Group => open_group(s, l, place, attributes, next, doc, rec, text),
-        Element::Field => open_field(s, l, place, attributes, next, doc, rec, text),
+        Element::MessageSchema => open_schema(s, place, attributes, next, noted, doc, rec, text),
+        Element::Type => open_type(s, l, place, inside, attributes, next, noted, doc, rec, text),
+        Element::Ref => open_ref(s, l, place, attributes, next, noted, doc, rec, text),
+        Element::Composite => open_composite(s, l, place, attributes, next, noted, doc, rec, text),
+        Element::Enum => open_enum(s, l, place, attributes, next, noted, doc, rec, text),
+        Element::ValidValue => open_value(s, l, place, attributes, next, noted, doc, rec, text),
+        Element::Message => open_message(s, l, place, attributes, next, noted, doc, rec, text),
+        Element::Group => open_group(s, l, place, attributes, next, noted, doc, rec, text),
+        Element::Field => open_field(s, l, place, attributes, next, noted, doc, rec, text),
         Element::Other => unchanged(s),
     }
 }
@@ -615,11 +627,12 @@ pub fn on_open(
     len: usize,
     attributes: usize,
     next: usize,
+    noted: Notes,
     doc: &[u8],
     rec: &mut [u32],
     text: &mut [u8],
 ) -> Stepped
-    requires { ⌜ Ready s (next - attributes) (now rec) (now text) × Tagged (now doc) attributes next × (l .items ≤ 1024) × (l .depth ≤ 64) × (name + len ≤ 32768) ⌝ }
+    requires { ⌜ Ready s (next - attributes) (now rec) (now text) × Tagged (now doc) attributes next × (l .items ≤ 1024) × (l .depth ≤ 64) × (name + len ≤ 32768) × NotedBy (keysOf (piece (now doc) name len)) (now doc) attributes noted ⌝ }
     ensures { λ r. ⌜ After (opened l place (piece (now (doc .entry)) name len) (attributesIn (now (doc .entry)) attributes) (builderOf s (now (doc .entry)) (now (rec .entry)) (now (text .entry)))) s (next - attributes) (now (doc .entry)) r (now (rec .exit)) (now (text .exit)) ⌝ }
 {
     let depth = s.place.depth;
@@ -629,5 +642,17 @@ pub fn on_open(
     let inside = equal(top_name(depth, doc, rec), b"composite");
     let e = element_of(part(doc, name, len));
     let p = push(s, name, len, rec);
-    open_by(p, e, l, place, inside, attributes, next, doc, rec, text)
+    open_by(
+        p,
+        e,
+        l,
+        place,
+        inside,
+        attributes,
+        next,
+        noted,
+        doc,
+        rec,
+        text,
+    )
 }

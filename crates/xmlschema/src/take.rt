@@ -6,7 +6,8 @@ use saxlite::entities::Decoded;
 use saxlite::entities::decode;
 use saxlite::tag::Found;
 use saxlite::tag::Noted;
-use saxlite::tag::attributes;
+use saxlite::tag::Notes;
+use saxlite::tag::noted_of;
 use texts::part;
 ghost use mathlib.Core.Path.{_≡_};
 ghost use mathlib.Core.List.{List, []};
@@ -16,44 +17,42 @@ ghost use lib.ListN.{length};
 ghost use Rattle.texts.specs.Text.{ascii};
 ghost use Rattle.saxlite.specs.Attributes.{attributeAt, rawLength};
 ghost use Rattle.saxlite.specs.Event.{valueIn};
+ghost use Rattle.saxlite.specs.Noting.{NotedBy, schemaKeys, typeKeys, enumKeys, fieldKeys};
 ghost use Rattle.xmlschema.specs.Builder.{plainItem, isGiven, orEmpty};
 ghost use Rattle.xmlschema.specs.Taking.{TakenAt, ReadAt, Made, typeItemOf, typeLength};
 
-// ---- the attributes of a tag, looked up in one walk
+// ---- the attributes of a tag, as the reader noted them
 
 // Of messageSchema: id, version and package.
-pub fn schema_attributes(doc: &[u8], at: usize) -> Noted
+pub fn schema_attributes(doc: &[u8], at: usize, noted: Notes) -> Noted
+    requires { ⌜ NotedBy schemaKeys (now doc) at noted ⌝ }
     ensures { λ r. ⌜ (r .first ≡ attributeAt (now (doc .entry)) at (ascii "id")) × (r .second ≡ attributeAt (now (doc .entry)) at (ascii "version")) × (r .third ≡ attributeAt (now (doc .entry)) at (ascii "package")) ⌝ }
 {
-    attributes(doc, at, b"id", b"version", b"package", b"")
+    noted_of(noted)
 }
 
 // Of a type or a member: length, name, primitive type and encoding.
-pub fn type_attributes(doc: &[u8], at: usize) -> Noted
+pub fn type_attributes(doc: &[u8], at: usize, noted: Notes) -> Noted
+    requires { ⌜ NotedBy typeKeys (now doc) at noted ⌝ }
     ensures { λ r. ⌜ (r .first ≡ attributeAt (now (doc .entry)) at (ascii "length")) × (r .second ≡ attributeAt (now (doc .entry)) at (ascii "name")) × (r .third ≡ attributeAt (now (doc .entry)) at (ascii "primitiveType")) × (r .fourth ≡ attributeAt (now (doc .entry)) at (ascii "characterEncoding")) ⌝ }
 {
-    attributes(
-        doc,
-        at,
-        b"length",
-        b"name",
-        b"primitiveType",
-        b"characterEncoding",
-    )
+    noted_of(noted)
 }
 
 // Of an enum: name and encoding type.
-pub fn enum_attributes(doc: &[u8], at: usize) -> Noted
+pub fn enum_attributes(doc: &[u8], at: usize, noted: Notes) -> Noted
+    requires { ⌜ NotedBy enumKeys (now doc) at noted ⌝ }
     ensures { λ r. ⌜ (r .first ≡ attributeAt (now (doc .entry)) at (ascii "name")) × (r .second ≡ attributeAt (now (doc .entry)) at (ascii "encodingType")) ⌝ }
 {
-    attributes(doc, at, b"name", b"encodingType", b"", b"")
+    noted_of(noted)
 }
 
 // Of every other element: id, name and type.
-pub fn field_attributes(doc: &[u8], at: usize) -> Noted
+pub fn field_attributes(doc: &[u8], at: usize, noted: Notes) -> Noted
+    requires { ⌜ NotedBy fieldKeys (now doc) at noted ⌝ }
     ensures { λ r. ⌜ (r .first ≡ attributeAt (now (doc .entry)) at (ascii "id")) × (r .second ≡ attributeAt (now (doc .entry)) at (ascii "name")) × (r .third ≡ attributeAt (now (doc .entry)) at (ascii "type")) ⌝ }
 {
-    attributes(doc, at, b"id", b"name", b"type", b"")
+    noted_of(noted)
 }
 
 // ---- their values

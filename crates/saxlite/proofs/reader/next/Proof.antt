@@ -1,4 +1,4 @@
--- `next` meets its contract: a walk of its MIR, by hand. The borrow is opened, the document and the cursor are copied out and go to `read_next`, the cursor that came back is stored, and the borrow is closed at the reader with it.
+-- `next` meets its contract: a walk of its MIR, by hand. The borrow is opened, the document and the cursor are copied out and go to `read_noting`, the cursor that came back is stored, and the borrow is closed at the reader with it.
 -- A Reader is Copy: what it owns is had twice, and of one copy what doc owns goes to the callee.
 use mathlib.Core.Path.{_≡_, refl, ap}
 use Prim.Native.Nat.{ℕ}
@@ -42,23 +42,23 @@ use denote.Triple.Entry.{Vals, onEntry}
 use denote.Triple.Spec.{Meets, tripleOf}
 use denote.Triple.Table.{entered, cited}
 use denote.Triple.Walked.{says, Stays, stay-ref, walkOf, goes-ref, Walks, ends-at, walked, walk-meets}
-use Rattle.saxlite.specs.Reader.{readAt}
+use Rattle.saxlite.specs.Noting.{NotedAt}
 use Rattle.saxlite.specs.declared.reader.Cursor.{Cursor}
 use Rattle.saxlite.specs.declared.reader.Reader.{Reader}
-use Rattle.saxlite.specs.declared.reader.Read.{Read}
+use Rattle.saxlite.specs.declared.reader.ReadNoted.{ReadNoted}
 use Rattle.saxlite.specs.declared.reader.Placed.{Placed}
 use Rattle.saxlite.proofs.reader.Reader as T
 use Rattle.saxlite.proofs.reader.Reader.Laws as T′
 use Rattle.saxlite.proofs.reader.Cursor as K
 use Rattle.saxlite.proofs.reader.Cursor.Laws as K′
-use Rattle.saxlite.proofs.reader.Read as P
-use Rattle.saxlite.proofs.reader.Read.Laws as P′
+use Rattle.saxlite.proofs.reader.ReadNoted as P
+use Rattle.saxlite.proofs.reader.ReadNoted.Laws as P′
 use Rattle.saxlite.proofs.reader.Placed as E
 use Rattle.saxlite.proofs.reader.Placed.Laws as E′
-use Rattle.saxlite.proofs.reader.read_next as rn
-use Rattle.saxlite.proofs.reader.read_next.Symbol as rn-def
-use Rattle.saxlite.proofs.reader.read_next.Symbol.{name as #rn}
-use Rattle.saxlite.proofs.reader.read_next.Met as rn-thm
+use Rattle.saxlite.proofs.reader.read_noting as rn
+use Rattle.saxlite.proofs.reader.read_noting.Symbol as rn-def
+use Rattle.saxlite.proofs.reader.read_noting.Symbol.{name as #rn}
+use Rattle.saxlite.proofs.reader.read_noting.Met as rn-thm
 use Rattle.saxlite.proofs.reader.next.Key.{name as #next}
 use Rattle.saxlite.proofs.reader.next as f
 use Rattle.saxlite.proofs.reader.next.Statement as stated
@@ -72,8 +72,8 @@ abbrev stayed : Stays (f.ended .signature .params) (f.ended .kept)
 stayed = (stay-ref (0 ∷ []) tt behind, tt)
 
 -- the contract that the proof cites
-abbrev ReadNext : {M : Type 1} (𝓤 : URA M) (H : Heap 𝓤) (A : Atoms 𝓤) (mem : Memory → SProp 𝓤) (run : Routine → Fun 𝓤) → Contract 𝓤
-ReadNext 𝓤 H A mem run = tripleOf 𝓤 H A rn.signature (rn.spec 𝓤 H A mem run)
+abbrev ReadNoting : {M : Type 1} (𝓤 : URA M) (H : Heap 𝓤) (A : Atoms 𝓤) (mem : Memory → SProp 𝓤) (run : Routine → Fun 𝓤) → Contract 𝓤
+ReadNoting 𝓤 H A mem run = tripleOf 𝓤 H A rn.signature (rn.spec 𝓤 H A mem run)
 
 module _ {M : Type 1} (𝓤 : URA M) (H : Heap 𝓤) (A : Atoms 𝓤) (W : Given 𝓤 H A) (at-mem : Memory → SProp 𝓤) (run : Routine → Fun 𝓤) (κ κ′ : Lft) (q q′ : Share) (bounds : AllOutlive 2 (f.signature .outlives) (κ, (κ′, tt))) (b o : ℕ) (γ : GName) (h : Reader) where
   abbrev α : NamedLft
@@ -112,14 +112,15 @@ module _ {M : Type 1} (𝓤 : URA M) (H : Heap 𝓤) (A : Atoms 𝓤) (W : Given
   cv = LL.val K.the-type K′.the-laws (h .cursor)
 
   -- the result
-  abbrev placed : Read → Placed
-  placed p = record { event = p .event; place = p .place }
+  abbrev placed : ReadNoted → Placed
+  placed p = record { event = p .event; place = p .place; noted = p .noted }
 
-  abbrev ve : Read → Val
+  abbrev ve : ReadNoted → Val
   ve p = LL.val E.the-type E′.the-laws (placed p)
 
-  abbrev found : Read
-  found = readAt (now (h .doc)) (h .cursor)
+  -- what the callee ensures of its result
+  abbrev Told : ReadNoted → Type 0
+  Told p = NotedAt (now (h .doc)) (h .cursor) p
 
   abbrev Tok : Item 𝓤
   Tok = ‵ (flft κ′ q′) ⊛ ‵ ftrue
@@ -134,35 +135,35 @@ module _ {M : Type 1} (𝓤 : URA M) (H : Heap 𝓤) (A : Atoms 𝓤) (W : Given
   abbrev passed : Vals rn.signature (κ′, tt)
   passed = (v ∷ [], (cv ∷ [], tt))
 
-  abbrev to : ReadNext 𝓤 H A at-mem run .Ghost
+  abbrev to : ReadNoting 𝓤 H A at-mem run .Ghost
   to = (((κ′, tt), (q′, tt), tt, (h .doc, (h .cursor, tt)), passed), tt)
 
-  asked : ent 𝓤 (onEntry 𝓤 H A rn.signature (κ′, tt) (q′, tt) (h .doc, (h .cursor, tt)) passed) (ReadNext 𝓤 H A at-mem run .pre to)
+  asked : ent 𝓤 (onEntry 𝓤 H A rn.signature (κ′, tt) (q′, tt) (h .doc, (h .cursor, tt)) passed) (ReadNoting 𝓤 H A at-mem run .pre to)
   asked = qed W (Tok ∷ ‵ (owns (ShrSlice (named 0) κ′ u8 ∷ K.the-row ∷ []) (h .doc, (h .cursor, tt)) passed) ∷ []) ∵ join ! $ frame ! $ done !
 
   -- what the struct owns gives what the callee asks, and is kept
-  apart : Is K.the-row (h .cursor) (cv ∷ []) → ent 𝓤 (⋆ 𝓤 H A (Tok ∷ ‵ Own ∷ [])) (sep 𝓤 (ReadNext 𝓤 H A at-mem run .pre to) (sem 𝓤 H A Own))
+  apart : Is K.the-row (h .cursor) (cv ∷ []) → ent 𝓤 (⋆ 𝓤 H A (Tok ∷ ‵ Own ∷ [])) (sep 𝓤 (ReadNoting 𝓤 H A at-mem run .pre to) (sem 𝓤 H A Own))
   apart isc =
       qed W (Tok ∷ ‵ Own ∷ []) ∵ move ! (1 ∷ []) $ use1 W (‵ Own ⊛ ‵ Own) (LL.copy D (T′.the-copy α) 𝓤 H A W .twice h (mach ∷ [])) $ split ! $
       use1 W (given (mach ∷ [] ≡ mach ∷ []) (‵ (all-own (D .parts) L vd))) (own-open 𝓤 H A W D L vd mach) $ learn ! (λ _. use1 W (‵ (ownAt (D .parts) L 0 (h .doc)) ⊛ ‵ (rest (D .parts) L 0 vd)) (own-out 𝓤 H A W (D .parts) L 0 vd) $ split ! $
       move ! (1 ∷ []) $ drop ! $ nothing ! $ owned ! K.the-row (Is K.the-row) (LL.makes K.the-type K′.the-plain 𝓤 H A) (h .cursor) _ isc $ fjoin ! $ move ! (1 ∷ 0 ∷ []) $ fjoin ! $
-      move ! (2 ∷ 0 ∷ []) $ use2 W (raw (ReadNext 𝓤 H A at-mem run .pre to)) asked $ frame ! $ done !)
+      move ! (2 ∷ 0 ∷ []) $ use2 W (raw (ReadNoting 𝓤 H A at-mem run .pre to)) asked $ frame ! $ done !)
 
   -- what doc owns is kept, and the cursor's facts are made anew
   again : (m : Cursor) → Is K.the-row m (LL.val K.the-type K′.the-laws m ∷ []) → ent 𝓤 (sem 𝓤 H A Own) (sem 𝓤 H A (B .own (h′ m) (T′.lowered (h′ m) ∷ [])))
   again m ok = qed W (‵ Own ∷ []) ∵ owned ! K.the-row (Is K.the-row) (LL.makes K.the-type K′.the-plain 𝓤 H A) m _ ok $ move ! (1 ∷ 0 ∷ []) $ by ! (own-put 𝓤 H A W D L 1 vd m mach)
 
-  said : (p : Read) → ent 𝓤 (ensured 𝓤 H A rn.ended (rn.clauses 𝓤 H A at-mem run) (κ′, tt) (h .doc, (h .cursor, tt)) tt p) (fact 𝓤 (p ≡ found))
-  said p = exE 𝓤 _ (λ ws. snd∗ 𝓤 (sem 𝓤 H A (lasts rn.ended (κ′, tt) (h .doc, (h .cursor, tt)) ws)) (fact 𝓤 (p ≡ found)))
+  said : (p : ReadNoted) → ent 𝓤 (ensured 𝓤 H A rn.ended (rn.clauses 𝓤 H A at-mem run) (κ′, tt) (h .doc, (h .cursor, tt)) tt p) (fact 𝓤 (Told p))
+  said p = exE 𝓤 _ (λ ws. snd∗ 𝓤 (sem 𝓤 H A (lasts rn.ended (κ′, tt) (h .doc, (h .cursor, tt)) ws)) (fact 𝓤 (Told p)))
 
-  exits : (p : Read) → Is E.the-row (placed p) (ve p ∷ []) → p ≡ found → ent 𝓤 (⋆ 𝓤 H A (‵ (fobs γ (B .coded .code (h′ (p .cursor)))) ∷ ‵ (fbor κ (Body (mem B) b o γ)) ∷ ‵ (flft κ q) ∷ Tok ∷ [])) (Post (ve p))
+  exits : (p : ReadNoted) → Is E.the-row (placed p) (ve p ∷ []) → Told p → ent 𝓤 (⋆ 𝓤 H A (‵ (fobs γ (B .coded .code (h′ (p .cursor)))) ∷ ‵ (fbor κ (Body (mem B) b o γ)) ∷ ‵ (flft κ q) ∷ Tok ∷ [])) (Post (ve p))
   exits p ise e =
       qed W (‵ (fobs γ (B .coded .code (h′ (p .cursor)))) ∷ ‵ (fbor κ (Body (mem B) b o γ)) ∷ ‵ (flft κ q) ∷ Tok ∷ []) ∵
-      suffices ! _ (ends-at 𝓤 H A f.ended stayed (f.clauses 𝓤 H A at-mem run) W (((κ, (κ′, tt)), (q, (q′, tt)), bounds, x, at), tt) (ve p) (placed p) (h′ (p .cursor), tt) (tt, tt)) $ says ! (refl, e) $
+      suffices ! _ (ends-at 𝓤 H A f.ended stayed (f.clauses 𝓤 H A at-mem run) W (((κ, (κ′, tt)), (q, (q′, tt)), bounds, x, at), tt) (ve p) (placed p) (h′ (p .cursor), tt) (tt, tt)) $ says ! (refl, e .is, e .noted) $
       move ! (2 ∷ 3 ∷ []) $ join ! $ frame ! $ feqI ! (List Val) (vptr b o ∷ []) (vptr b o ∷ []) refl $ fjoin3 ! $ nothing ! $ move ! (1 ∷ 0 ∷ []) $ fjoin ! $
       owned ! E.the-row (Is E.the-row) (LL.makes E.the-type E′.the-plain 𝓤 H A) (placed p) _ ise $ move ! (1 ∷ 0 ∷ []) $ done !
 
-  module _ (C : Calls 𝓤 H) (Λ : Loops 𝓤 H) (fm : FmC 𝓤 H (W .laws) C) (known : Triple 𝓤 (C #rn) (ReadNext 𝓤 H A at-mem run)) where
+  module _ (C : Calls 𝓤 H) (Λ : Loops 𝓤 H) (fm : FmC 𝓤 H (W .laws) C) (known : Triple 𝓤 (C #rn) (ReadNoting 𝓤 H A at-mem run)) where
     walk : ent 𝓤 (onEntry 𝓤 H A f.signature (κ, (κ′, tt)) (q, (q′, tt)) x at) (WpFn 𝓤 H C Λ code.function (vptr b o ∷ []) Post)
     walk =
         qed W ((‵ (flft κ q) ⊛ Tok) ∷ ‵ (owns (MutRef (named 0) κ B ∷ []) x at) ∷ []) ∵ enter ! C Λ code.function (vptr b o ∷ []) _ $
@@ -174,17 +175,17 @@ module _ {M : Type 1} (𝓤 : URA M) (H : Heap 𝓤) (A : Atoms 𝓤) (W : Given
         -- [the reader's cell; what it owns; the open borrow; obs; auth; 'a's token; true; _4; …; _3; …; _2; …; _1; …; room for _0; …]
         assigns ! (of-opd ! (load ! (from ! (hop ! (look ! 13 refl) (fld ! refl (stop !)))) (look-in ! 0 (sub ! 0 refl (whole !))))) (from ! (stop !)) (init ! 9 refl (shr-slice-lawful 𝓤 H A W erased κ′ u8 .typed (h .doc) _ (LL.owed D L h _ was .0) .0)) $
         assigns ! (of-opd ! (load ! (from ! (hop ! (look ! 13 refl) (fld ! refl (stop !)))) (look-in ! 0 (sub ! 1 refl (whole !))))) (from ! (stop !)) (init ! 7 refl (LL.lawful K.the-type K′.the-laws 𝓤 H A W .typed (h .cursor) _ (LL.owed D L h _ was .1 .0) .0)) $
-        move ! (5 ∷ 1 ∷ []) $ use2 W (raw (ReadNext 𝓤 H A at-mem run .pre to) ⊛ ‵ Own) (apart (LL.owed D L h _ was .1 .0)) $ split ! $
-        calls-at ! fm (ReadNext 𝓤 H A at-mem run) known to (and-then ! (load ! (from ! (stop !)) (look ! 9 refl)) (and-then ! (load ! (from ! (stop !)) (look ! 7 refl)) (no-more !))) (λ w.
-        use1 W (later (some (λ (p : Read). (Tok ⊛ ‵ (P.the-row .own p (w ∷ []))) ⊛ raw (ensured 𝓤 H A rn.ended (rn.clauses 𝓤 H A at-mem run) (κ′, tt) (h .doc, (h .cursor, tt)) tt p)))) (id⊢ 𝓤 _) $ await ! tt $ pick ! (λ p.
-        split ! $ move ! (1 ∷ []) $ use1 W (raw (fact 𝓤 (p ≡ found))) (said p) $ heard ! (p ≡ found) (λ e. split ! $ move ! (1 ∷ []) $
+        move ! (5 ∷ 1 ∷ []) $ use2 W (raw (ReadNoting 𝓤 H A at-mem run .pre to) ⊛ ‵ Own) (apart (LL.owed D L h _ was .1 .0)) $ split ! $
+        calls-at ! fm (ReadNoting 𝓤 H A at-mem run) known to (and-then ! (load ! (from ! (stop !)) (look ! 9 refl)) (and-then ! (load ! (from ! (stop !)) (look ! 7 refl)) (no-more !))) (λ w.
+        use1 W (later (some (λ (p : ReadNoted). (Tok ⊛ ‵ (P.the-row .own p (w ∷ []))) ⊛ raw (ensured 𝓤 H A rn.ended (rn.clauses 𝓤 H A at-mem run) (κ′, tt) (h .doc, (h .cursor, tt)) tt p)))) (id⊢ 𝓤 _) $ await ! tt $ pick ! (λ p.
+        split ! $ move ! (1 ∷ []) $ use1 W (raw (fact 𝓤 (Told p))) (said p) $ heard ! (Told p) (λ e. split ! $ move ! (1 ∷ []) $
         -- [the result; the token; what the reader owns; its cell; the open borrow; obs; auth; true; _4; …; _3; …; _2; …; _1; …; room for _0; …]
         peeks ! P.the-row (Is P.the-row) (shows 𝓤 H A P.the-row) p (w ∷ []) (λ isp.
         land ! (from ! (stop !)) (init ! 12 refl (LL.lawful P.the-type P′.the-laws 𝓤 H A W .typed p _ isp .0)) $ rewrite ! 12 (λ (u : Val). ‵ (fat fullShare P′.mir l₂ 0 u)) (ap only (LL.tells P.the-type P′.the-laws p (w ∷ []) isp)) refl $
         let isk : Is K.the-row (p .cursor) (LL.val K.the-type K′.the-laws (p .cursor) ∷ []) = LL.owed P.the-type P′.the-laws p _ isp .1 .1 .0 in
-        let ise : Is E.the-row (placed p) (ve p ∷ []) = LL.owes E.the-type E′.the-laws (placed p) (LL.owed P.the-type P′.the-laws p _ isp .0, (LL.owed P.the-type P′.the-laws p _ isp .1 .0, tt)) in
+        let ise : Is E.the-row (placed p) (ve p ∷ []) = LL.owes E.the-type E′.the-laws (placed p) (LL.owed P.the-type P′.the-laws p _ isp .0, (LL.owed P.the-type P′.the-laws p _ isp .1 .0, (LL.owed P.the-type P′.the-laws p _ isp .1 .1 .1 .0, tt))) in
         assigns ! (of-opd ! (load ! (from ! (fld ! refl (stop !))) (look-in ! 12 (sub ! 2 refl (whole !))))) (from ! (hop ! (look ! 14 refl) (fld ! refl (stop !)))) (store-in ! 3 (sub ! 1 refl (whole !)) (LL.lawful K.the-type K′.the-laws 𝓤 H A W .typed (p .cursor) _ isk .0)) $
-        assigns ! (agg ! (and-then ! (load ! (from ! (fld ! refl (stop !))) (look-in ! 12 (sub ! 0 refl (whole !)))) (and-then ! (load ! (from ! (fld ! refl (stop !))) (look-in ! 12 (sub ! 1 refl (whole !)))) (no-more !)))) (from ! (stop !)) (init ! 16 refl (LL.lawful E.the-type E′.the-laws 𝓤 H A W .typed (placed p) _ ise .0)) $
+        assigns ! (agg ! (and-then ! (load ! (from ! (fld ! refl (stop !))) (look-in ! 12 (sub ! 0 refl (whole !)))) (and-then ! (load ! (from ! (fld ! refl (stop !))) (look-in ! 12 (sub ! 1 refl (whole !)))) (and-then ! (load ! (from ! (fld ! refl (stop !))) (look-in ! 12 (sub ! 3 refl (whole !)))) (no-more !))))) (from ! (stop !)) (init ! 16 refl (LL.lawful E.the-type E′.the-laws 𝓤 H A W .typed (placed p) _ ise .0)) $
         move ! (2 ∷ []) $ use1 W (‵ (B .own (h′ (p .cursor)) (T′.lowered (h′ (p .cursor)) ∷ []))) (again (p .cursor) isk) $
         move ! (3 ∷ []) $ use1 W (‵ (cellAt fullShare (B .mir) (T′.lowered (h′ (p .cursor)) ∷ []) b o)) (W .laws .at-raw fullShare (T′.mir erased) b o (T′.lowered (h′ (p .cursor)))) $
         move ! (0 ∷ 1 ∷ 4 ∷ 5 ∷ 6 ∷ []) $ closes ! tt B (h′ (p .cursor)) (T′.lowered (h′ (p .cursor)) ∷ []) b o $
@@ -194,11 +195,11 @@ module _ {M : Type 1} (𝓤 : URA M) (H : Heap 𝓤) (A : Atoms 𝓤) (W : Given
         keep ! (0 ∷ 1 ∷ 2 ∷ 4 ∷ []) $ by ! (exits p ise e))))))))))))
 
 module _ {M : Type 1} (𝓤 : URA M) (H : Heap 𝓤) (A : Atoms 𝓤) (W : Given 𝓤 H A) (mem : Memory → SProp 𝓤) (run : Routine → Fun 𝓤) where
-  next-walks : (C : Calls 𝓤 H) (Λ : Loops 𝓤 H) → FmC 𝓤 H (W .laws) C → Triple 𝓤 (C #rn) (ReadNext 𝓤 H A mem run) → Walks 𝓤 H A f.ended stayed (WpFn 𝓤 H C Λ code.function) (f.clauses 𝓤 H A mem run)
+  next-walks : (C : Calls 𝓤 H) (Λ : Loops 𝓤 H) → FmC 𝓤 H (W .laws) C → Triple 𝓤 (C #rn) (ReadNoting 𝓤 H A mem run) → Walks 𝓤 H A f.ended stayed (WpFn 𝓤 H C Λ code.function) (f.clauses 𝓤 H A mem run)
   next-walks C Λ fm known = walked 𝓤 H A f.ended stayed (f.clauses 𝓤 H A mem run) (WpFn 𝓤 H C Λ code.function) (λ κs. (ptr-vals, tt)) (λ κs. (mut-tells (named 0) (κs .0) (T.the-row (namedLft 2 1 tt κs)), tt))
       (λ κs qs bounds a _ are. via 𝓤 _ (fst∗ 𝓤 _ (emp 𝓤)) (walk 𝓤 H A W mem run (κs .0) (κs .1 .0) (qs .0) (qs .1 .0) bounds (a .0 .ptr .0) (a .0 .ptr .1) (a .0 .name) (a .0 .now) C Λ fm known))
 
-next-meets : {M : Type 1} (𝓤 : URA M) (H : Heap 𝓤) (A : Atoms 𝓤) → Given 𝓤 H A → (mem : Memory → SProp 𝓤) (run : Routine → Fun 𝓤) (𝓣 : Tables 𝓤 H) → Triple 𝓤 (𝓣 .C #rn) (ReadNext 𝓤 H A mem run)
+next-meets : {M : Type 1} (𝓤 : URA M) (H : Heap 𝓤) (A : Atoms 𝓤) → Given 𝓤 H A → (mem : Memory → SProp 𝓤) (run : Routine → Fun 𝓤) (𝓣 : Tables 𝓤 H) → Triple 𝓤 (𝓣 .C #rn) (ReadNoting 𝓤 H A mem run)
     → Meets 𝓤 H A f.signature (WpFn 𝓤 H (𝓣 .C) (𝓣 .Λ) code.function) (f.spec 𝓤 H A mem run)
 next-meets 𝓤 H A W mem run 𝓣 known =
     walk-meets 𝓤 H A f.ended stayed W (goes-ref 𝓤 H A W 2 0 tt behind, tt) (f.clauses 𝓤 H A mem run)
@@ -210,4 +211,4 @@ next-spec 𝓤 H 𝓜 𝓖 𝓡 =
     entered 𝓤 H (tripleOf 𝓤 H (𝓖 .A) f.signature (f.spec 𝓤 H (𝓖 .A) (𝓜 .mem) (𝓡 .run)))
     (tables 𝓤 H 𝓜 𝓡 code.env .C) (tables 𝓤 H 𝓜 𝓡 code.env .Λ) #next code.function (code.unfolded 𝓤 H 𝓜 𝓡)
     (next-meets 𝓤 H (𝓖 .A) (givenOf 𝓤 H 𝓜 𝓖) (𝓜 .mem) (𝓡 .run) (tablesOf 𝓤 H 𝓜 (tables 𝓤 H 𝓜 𝓡 code.env))
-    (cited 𝓤 H (ReadNext 𝓤 H (𝓖 .A) (𝓜 .mem) (𝓡 .run)) 𝓜 𝓡 code.env #rn rn-def.routine code.calls-saxlite·reader·read-next (rn-thm.met 𝓤 H 𝓜 𝓖 𝓡)))
+    (cited 𝓤 H (ReadNoting 𝓤 H (𝓖 .A) (𝓜 .mem) (𝓡 .run)) 𝓜 𝓡 code.env #rn rn-def.routine code.calls-saxlite·reader·read-noting (rn-thm.met 𝓤 H 𝓜 𝓖 𝓡)))

@@ -1,21 +1,18 @@
 use mathlib.Core.Path.{_≡_}
 use lib.ListN.{length}
+use Rattle.xmlschema.specs.Driving.{cursorOf}
 use Rattle.xmlschema.proofs.Driving.{Reading, left}
 use Rattle.xmlschema.proofs.Laws.{driving}
 use Rattle.xmlschema.proofs.build.read_tested.Statement.{statement}
 use Rattle.xmlschema.proofs.build.read_tested.Tie as tie
 use Rattle.xmlschema.proofs.build.read_tested.Reads as reads
 use Rattle.xmlschema.proofs.build.read_tested.Lts as lts
-use Rattle.saxlite.proofs.reader.at_end.Reads as at-end-reads
-use Rattle.saxlite.proofs.reader.cursor_at.Reads as cursor-at-reads
-use Rattle.xmlschema.proofs.build.first_state.Reads as first-state-reads
-use Rattle.xmlschema.proofs.build.turn.Reads as turn-reads
 
 abbrev Inv-loop : tie.InvT-loop
-Inv-loop l doc rec₀ text₀ state₀ cursor₀ rec text state cursor = Reading l doc cursor state rec text × (length rec ≡ length rec₀) × (length text ≡ length text₀)
+Inv-loop l doc rec₀ text₀ state₀ mark₀ rec text state mark = Reading l doc (cursorOf mark) state rec text × (length rec ≡ length rec₀) × (length text ≡ length text₀)
 
 abbrev μ-loop : tie.MeasureT-loop
-μ-loop l doc rec₀ text₀ state₀ cursor₀ rec text state cursor = left doc cursor
+μ-loop l doc rec₀ text₀ state₀ mark₀ rec text state mark = left doc (cursorOf mark)
 
 -- src/build.rt:141:9
 first-state-requires : tie.Need-first-state-requires Inv-loop μ-loop
@@ -25,17 +22,20 @@ first-state-requires c κs = search driving
 cursor-at-requires : tie.Need-cursor-at-requires Inv-loop μ-loop
 cursor-at-requires c κs = search driving
 
+mark-of-requires : tie.Need-mark-of-requires Inv-loop μ-loop
+mark-of-requires c κs = search driving
+
 -- src/build.rt:143:5
 loop-holds : tie.Need-loop-holds Inv-loop μ-loop
 loop-holds c = search driving
 
 -- src/build.rt:143:12
-at-end-requires : tie.Need-at-end-requires Inv-loop μ-loop
-at-end-requires c κs = search driving
+at-end-of-requires : tie.Need-at-end-of-requires Inv-loop μ-loop
+at-end-of-requires c κs = search driving
 
 -- src/build.rt:144:13
-turn-requires : tie.Need-turn-requires Inv-loop μ-loop
-turn-requires c κs = search driving
+turn-at-requires : tie.Need-turn-at-requires Inv-loop μ-loop
+turn-at-requires c κs = search driving
 
 -- src/build.rt:148:21
 enum-told : tie.Need-enum-told Inv-loop μ-loop
@@ -97,9 +97,10 @@ read-tested-spec =
     μ-loop
     first-state-requires
     cursor-at-requires
+    mark-of-requires
     loop-holds
-    at-end-requires
-    turn-requires
+    at-end-of-requires
+    turn-at-requires
     enum-told
     loop-less
     loop-again

@@ -30,7 +30,7 @@ on-open-requires c κs =
     let pre = c .before .before .before .before .before .before .before .before .pre in
     let g-event2 = c .before .before .before .event2 .given .1 in
     let i = rw g-event2 at (pre .1) in
-    (rw g-event2 at (pre .0), i .0, pre .2, pre .3, omega (arith, i .1, pre .4))
+    (rw g-event2 at (pre .0), i .0, pre .2, pre .3, omega (arith, i .1, pre .4), rw g-event2 at (pre .5))
 
 -- src/build.rt:70:24
 enum-known-event-3 : tie.Need-enum-known-event-3

@@ -57,6 +57,10 @@ use Rattle.saxlite.proofs.reader.Cursor as K
 use Rattle.saxlite.proofs.reader.Cursor.Laws as K′
 use Rattle.saxlite.proofs.reader.Placed as P
 use Rattle.saxlite.proofs.reader.Placed.Laws as P′
+use Rattle.saxlite.specs.declared.tag.Notes.{Notes}
+use Rattle.saxlite.specs.Noting.{NotedIn}
+use Rattle.saxlite.proofs.tag.Notes as N
+use Rattle.saxlite.proofs.tag.Notes.Laws as N′
 use Rattle.saxlite.proofs.reader.Reader as R
 use Rattle.saxlite.proofs.reader.Reader.Laws as R′
 use Rattle.saxlite.proofs.reader.next as nx
@@ -198,11 +202,14 @@ module _ {M : Type 1} (𝓤 : URA M) (H : Heap 𝓤) (A : Atoms 𝓤) (W : Given
     goes-next = qed W (TokN ∷ ‵ (owns (MutRef (named 0) (ν ∷ κd) B ∷ []) xN (vptr l 0 ∷ [], tt)) ∷ []) ∵ join ! $ frame ! $ done !
 
   abbrev Told : Placed → Reader → Type 0
-  Told p z = (z .doc ≡ d) × (readOf p z ≡ found)
+  Told p z = (z .doc ≡ d) × (readOf p z ≡ found) × NotedIn (now d) (p .event) (p .noted)
 
   -- the call of `step`, on the state lent at l for the lifetime ν under the name δ
   abbrev ve : Placed → Val
   ve p = EL.val E.the-type E′.the-laws (p .event)
+
+  abbrev vk : Placed → Val
+  vk p = LL.val N.the-type N′.the-laws (p .noted)
 
   -- what is required, of what was read, and what `step` ensures
   abbrev Asked : Read → Type 0
@@ -213,13 +220,13 @@ module _ {M : Type 1} (𝓤 : URA M) (H : Heap 𝓤) (A : Atoms 𝓤) (W : Given
 
   module _ (l ν : ℕ) (δ : GName) (p : Placed) (z : Reader) where
     abbrev ArgS : Type 0
-    ArgS = RefT State × (Limits × (ℕ × (E.the-row .Denot × (RefT (List ℕ) × (RefT (List ℕ) × (RefT (List ℕ) × Unit {0}))))))
+    ArgS = RefT State × (Limits × (ℕ × (E.the-row .Denot × (Notes × (RefT (List ℕ) × (RefT (List ℕ) × (RefT (List ℕ) × Unit {0})))))))
 
     abbrev xS : ArgS
-    xS = (record { ptr = (l, 0); name = δ; now = h }, (m, (p .place, (p .event, (d, (r, (t, tt)))))))
+    xS = (record { ptr = (l, 0); name = δ; now = h }, (m, (p .place, (p .event, (p .noted, (d, (r, (t, tt))))))))
 
-    abbrev atS : List Val × Vals6
-    atS = (vptr l 0 ∷ [], (vm ∷ [], (vint w64 (p .place) ∷ [], (ve p ∷ [], (vs d ∷ [], (vs r ∷ [], (vs t ∷ [], tt)))))))
+    abbrev atS : List Val × (List Val × Vals6)
+    atS = (vptr l 0 ∷ [], (vm ∷ [], (vint w64 (p .place) ∷ [], (ve p ∷ [], (vk p ∷ [], (vs d ∷ [], (vs r ∷ [], (vs t ∷ [], tt))))))))
 
     abbrev TokS : Item 𝓤
     TokS = ‵ (flft (ν ∷ []) fullShare) ⊛ ‵ (flft κd qd) ⊛ Tok2
@@ -227,8 +234,8 @@ module _ {M : Type 1} (𝓤 : URA M) (H : Heap 𝓤) (A : Atoms 𝓤) (W : Given
     abbrev to-step : Step 𝓤 H A at-mem run .Ghost
     to-step = (((ν ∷ [], (κd, (κr, (κt, tt)))), (fullShare, (qd, (qr, (qt, tt)))), tt, xS, atS), tt)
 
-    goes-step : Asked (readOf p z) → ent 𝓤 (onEntry 𝓤 H A st.signature (ν ∷ [], (κd, (κr, (κt, tt)))) (fullShare, (qd, (qr, (qt, tt)))) xS atS) (Step 𝓤 H A at-mem run .pre to-step)
-    goes-step pre = qed W (TokS ∷ ‵ (owns (MutRef (named 0) (ν ∷ []) T.the-row ∷ L.the-row ∷ usize ∷ E.the-row ∷ ShrSlice (named 1) κd u8 ∷ MutSlice (named 2) κr u32 ∷ MutSlice (named 3) κt u8 ∷ []) xS atS) ∷ []) ∵ says ! pre $ frame ! $ done !
+    goes-step : Asked (readOf p z) → NotedIn (now d) (p .event) (p .noted) → ent 𝓤 (onEntry 𝓤 H A st.signature (ν ∷ [], (κd, (κr, (κt, tt)))) (fullShare, (qd, (qr, (qt, tt)))) xS atS) (Step 𝓤 H A at-mem run .pre to-step)
+    goes-step pre noted = qed W (TokS ∷ ‵ (owns (MutRef (named 0) (ν ∷ []) T.the-row ∷ L.the-row ∷ usize ∷ E.the-row ∷ N.the-row ∷ ShrSlice (named 1) κd u8 ∷ MutSlice (named 2) κr u32 ∷ MutSlice (named 3) κt u8 ∷ []) xS atS) ∷ []) ∵ says ! (pre .0, pre .1, pre .2, pre .3, pre .4, noted) $ frame ! $ done !
 
   abbrev made : State → Reader → Verdict → Turned
   made s z g = record { state = s; cursor = z .cursor; verdict = g }
@@ -290,12 +297,12 @@ module _ {M : Type 1} (𝓤 : URA M) (H : Heap 𝓤) (A : Atoms 𝓤) (W : Given
         lft-new ! tt (λ ν. move ! (26 ∷ []) $ use1 W (‵ (partAt T.the-row fullShare h l₉ 0)) (state-in 𝓤 H A W l₉ h ish) $
         use1 W (later (some (λ (δ : GName). ‵ (MutRef (named 0) (ν ∷ []) T.the-row .own (record { ptr = (l₉, 0); name = δ; now = h }) (vptr l₉ 0 ∷ [])) ⊛ ‵ (flent (ν ∷ []) (Body (mem T.the-row) l₉ 0 δ))))) (lends-ref 𝓤 H A W T.the-row (named 0) (ν ∷ []) h l₉ 0) $ await ! tt $ pick ! (λ δ. split ! $
         -- [the reference; the lender's part; ν's token; doc's; true; doc; doc; the other tokens; rec and text; the reader's cell; _18; …]
-        move ! (5 ∷ 8 ∷ []) $ fjoin ! $ owned ! E.the-row (Is E.the-row) (EL.makes E.the-type E′.the-plain 𝓤 H A) (p .event) _ (LL.owed P.the-type P′.the-laws p _ isp .0) $ fjoin ! $ owned ! usize (Is usize) (uint-makes 𝓤 H A W w64) (p .place) _ (LL.owed P.the-type P′.the-laws p _ isp .1 .0) $ fjoin ! $ owned ! L.the-row (Is L.the-row) (LL.makes L.the-type L′.the-plain 𝓤 H A) m _ ism $ fjoin ! $ move ! (1 ∷ 0 ∷ []) $ fjoin ! $ move ! (3 ∷ 6 ∷ []) $ join ! $ move ! (3 ∷ 0 ∷ []) $ join ! $
-        use2 W (raw (Step 𝓤 H A at-mem run .pre (to-step l₉ ν δ p (zn .0)))) (goes-step l₉ ν δ p (zn .0) (subst Asked (sym (e .1)) pre)) $
-        calls-at ! fm (Step 𝓤 H A at-mem run) known-step (to-step l₉ ν δ p (zn .0)) (and-then ! (load ! (from ! (stop !)) (look ! 17 refl)) (and-then ! (load ! (from ! (stop !)) (look ! 37 refl)) (and-then ! (load ! (from ! (fld ! refl (stop !))) (look-in ! 24 (sub ! 1 refl (whole !)))) (and-then ! (load ! (from ! (fld ! refl (stop !))) (look-in ! 24 (sub ! 0 refl (whole !)))) (and-then ! (load ! (from ! (stop !)) (look ! 35 refl)) (and-then ! (load ! (from ! (stop !)) (look ! 13 refl)) (and-then ! (load ! (from ! (stop !)) (look ! 9 refl)) (no-more !)))))))) (λ w₂.
+        move ! (5 ∷ 8 ∷ []) $ fjoin ! $ owned ! N.the-row (Is N.the-row) (LL.makes N.the-type N′.the-plain 𝓤 H A) (p .noted) _ (LL.owed P.the-type P′.the-laws p _ isp .1 .1 .0) $ fjoin ! $ owned ! E.the-row (Is E.the-row) (EL.makes E.the-type E′.the-plain 𝓤 H A) (p .event) _ (LL.owed P.the-type P′.the-laws p _ isp .0) $ fjoin ! $ owned ! usize (Is usize) (uint-makes 𝓤 H A W w64) (p .place) _ (LL.owed P.the-type P′.the-laws p _ isp .1 .0) $ fjoin ! $ owned ! L.the-row (Is L.the-row) (LL.makes L.the-type L′.the-plain 𝓤 H A) m _ ism $ fjoin ! $ move ! (1 ∷ 0 ∷ []) $ fjoin ! $ move ! (3 ∷ 6 ∷ []) $ join ! $ move ! (3 ∷ 0 ∷ []) $ join ! $
+        use2 W (raw (Step 𝓤 H A at-mem run .pre (to-step l₉ ν δ p (zn .0)))) (goes-step l₉ ν δ p (zn .0) (subst Asked (sym (e .1)) pre) (e .2)) $
+        calls-at ! fm (Step 𝓤 H A at-mem run) known-step (to-step l₉ ν δ p (zn .0)) (and-then ! (load ! (from ! (stop !)) (look ! 17 refl)) (and-then ! (load ! (from ! (stop !)) (look ! 37 refl)) (and-then ! (load ! (from ! (fld ! refl (stop !))) (look-in ! 24 (sub ! 1 refl (whole !)))) (and-then ! (load ! (from ! (fld ! refl (stop !))) (look-in ! 24 (sub ! 0 refl (whole !)))) (and-then ! (load ! (from ! (fld ! refl (stop !))) (look-in ! 24 (sub ! 2 refl (whole !)))) (and-then ! (load ! (from ! (stop !)) (look ! 35 refl)) (and-then ! (load ! (from ! (stop !)) (look ! 13 refl)) (and-then ! (load ! (from ! (stop !)) (look ! 9 refl)) (no-more !))))))))) (λ w₂.
         use1 W (later (some (λ (g : Verdict). (TokS l₉ ν δ p (zn .0) ⊛ ‵ (F.the-row .own g (w₂ ∷ []))) ⊛ raw (ensured 𝓤 H A st.ended (st.clauses 𝓤 H A at-mem run) (ν ∷ [], (κd, (κr, (κt, tt)))) (xS l₉ ν δ p (zn .0)) tt g)))) (id⊢ 𝓤 _) $ await ! tt $ pick ! (λ g.
-        split ! $ move ! (1 ∷ []) $ use1 W (some (λ (zs : State × (Unit {0} × (Unit {0} × (Unit {0} × (Unit {0} × (List ℕ × (List ℕ × Unit {0}))))))). ‵ (lasts st.ended (ν ∷ [], (κd, (κr, (κt, tt)))) (xS l₉ ν δ p (zn .0)) zs) ⊛ raw (fact 𝓤 (Said (readOf p (zn .0)) g (zs .0) (zs .1 .1 .1 .1 .1 .0) (zs .1 .1 .1 .1 .1 .1 .0))))) (id⊢ 𝓤 _) $ pick ! (λ zs.
-        split ! $ move ! (1 ∷ []) $ heard ! (Said (readOf p (zn .0)) g (zs .0) (zs .1 .1 .1 .1 .1 .0) (zs .1 .1 .1 .1 .1 .1 .0)) (λ said. fsplit ! $ move ! (1 ∷ []) $ fsplit ! $ drop ! $ fsplit ! $ drop ! $ fsplit ! $ drop ! $ fsplit ! $ drop ! $ fsplit ! $ fsplit ! $ move ! (1 ∷ []) $ feqL ! (λ lr. move ! (1 ∷ []) $ fsplit ! $ fsplit ! $ move ! (1 ∷ []) $ feqL ! (λ lt.
+        split ! $ move ! (1 ∷ []) $ use1 W (some (λ (zs : State × (Unit {0} × (Unit {0} × (Unit {0} × (Unit {0} × (Unit {0} × (List ℕ × (List ℕ × Unit {0})))))))). ‵ (lasts st.ended (ν ∷ [], (κd, (κr, (κt, tt)))) (xS l₉ ν δ p (zn .0)) zs) ⊛ raw (fact 𝓤 (Said (readOf p (zn .0)) g (zs .0) (zs .1 .1 .1 .1 .1 .1 .0) (zs .1 .1 .1 .1 .1 .1 .1 .0))))) (id⊢ 𝓤 _) $ pick ! (λ zs.
+        split ! $ move ! (1 ∷ []) $ heard ! (Said (readOf p (zn .0)) g (zs .0) (zs .1 .1 .1 .1 .1 .1 .0) (zs .1 .1 .1 .1 .1 .1 .1 .0)) (λ said. fsplit ! $ move ! (1 ∷ []) $ fsplit ! $ drop ! $ fsplit ! $ drop ! $ fsplit ! $ drop ! $ fsplit ! $ drop ! $ fsplit ! $ drop ! $ fsplit ! $ fsplit ! $ move ! (1 ∷ []) $ feqL ! (λ lr. move ! (1 ∷ []) $ fsplit ! $ fsplit ! $ move ! (1 ∷ []) $ feqL ! (λ lt.
         -- [text's last list; true; rec's last list; the state's last value; the tokens and the result; the lender's part; true; doc; the reader's cell; _18; …]
         move ! (4 ∷ []) $ split ! $ move ! (1 ∷ []) $ peeks ! F.the-row (Is F.the-row) (shows 𝓤 H A F.the-row) g (w₂ ∷ []) (λ isg.
         land ! (from ! (stop !)) (init ! 26 refl (EL.lawful F.the-type F′.the-laws 𝓤 H A W tt .typed g _ isg .0)) $ rewrite ! 26 (λ (u : Val). ‵ (fat fullShare F′.mir l₁₀ 0 u)) (ap only (EL.tells F.the-type F′.the-laws g (w₂ ∷ []) isg)) refl $ drop ! $
@@ -310,7 +317,7 @@ module _ {M : Type 1} (𝓤 : URA M) (H : Heap 𝓤) (A : Atoms 𝓤) (W : Given
         returns ! (look ! 43 refl) $ forget ! 1 refl $ forget ! 8 refl $ forget ! 9 refl $ forget ! 11 refl $ forget ! 13 refl $ forget ! 15 refl $ forget ! 17 refl $ forget ! 19 refl $ forget ! 21 refl $ forget ! 23 refl $ forget ! 25 refl $ forget ! 28 refl $ forget ! 31 refl $ forget ! 33 refl $ forget ! 35 refl $ forget ! 37 refl $ forget ! 39 refl $ forget ! 41 refl $ forget ! 43 refl $
         move ! (43 ∷ 44 ∷ []) $ free1 ! $ move ! (41 ∷ 42 ∷ []) $ free1 ! $ move ! (39 ∷ 40 ∷ []) $ free1 ! $ move ! (37 ∷ 38 ∷ []) $ free1 ! $ move ! (35 ∷ 36 ∷ []) $ free1 ! $ move ! (33 ∷ 34 ∷ []) $ free1 ! $ move ! (31 ∷ 32 ∷ []) $ free1 ! $ move ! (8 ∷ 30 ∷ []) $ free1 ! $ move ! (27 ∷ 28 ∷ []) $ free1 ! $ move ! (1 ∷ 26 ∷ []) $ free1 ! $
         move ! (23 ∷ 24 ∷ []) $ free1 ! $ move ! (21 ∷ 22 ∷ []) $ free1 ! $ move ! (19 ∷ 20 ∷ []) $ free1 ! $ move ! (17 ∷ 18 ∷ []) $ free1 ! $ move ! (15 ∷ 16 ∷ []) $ free1 ! $ move ! (13 ∷ 14 ∷ []) $ free1 ! $ move ! (11 ∷ 12 ∷ []) $ free1 ! $ move ! (9 ∷ 10 ∷ []) $ free1 ! $ move ! (7 ∷ 8 ∷ []) $ free1 ! $ free0 ! $
-        keep ! (1 ∷ 2 ∷ 4 ∷ 6 ∷ []) $ by ! (exits p (zn .0) g (zs .0) (zs .1 .1 .1 .1 .1 .0) (zs .1 .1 .1 .1 .1 .1 .0) e said isu lr lt))))))))))))))))))))))))))))))))))))))
+        keep ! (1 ∷ 2 ∷ 4 ∷ 6 ∷ []) $ by ! (exits p (zn .0) g (zs .0) (zs .1 .1 .1 .1 .1 .1 .0) (zs .1 .1 .1 .1 .1 .1 .1 .0) e said isu lr lt))))))))))))))))))))))))))))))))))))))
 
 module _ {M : Type 1} (𝓤 : URA M) (H : Heap 𝓤) (A : Atoms 𝓤) (W : Given 𝓤 H A) (mem : Memory → SProp 𝓤) (run : Routine → Fun 𝓤) where
   turn-walks : (C : Calls 𝓤 H) (Λ : Loops 𝓤 H) → FmC 𝓤 H (W .laws) C → Triple 𝓤 (C #nx) (Next 𝓤 H A mem run) → Triple 𝓤 (C #st) (Step 𝓤 H A mem run) → Walks 𝓤 H A f.ended stayed (WpFn 𝓤 H C Λ code.function) (f.clauses 𝓤 H A mem run)

@@ -1,3 +1,5 @@
+use denote.Ref.{now}
+use Rattle.xmlschema.proofs.Keying.{noted-element}
 use Rattle.xmlschema.proofs.Laws.{dispatching}
 use Rattle.xmlschema.proofs.open.on_open.Statement.{statement}
 use Rattle.xmlschema.proofs.open.on_open.Tie as tie
@@ -47,13 +49,14 @@ push-requires c κs = search dispatching
 open-by-requires : tie.Need-open-by-requires
 open-by-requires c κs =
     let pre = c .before .before .before .before .before .before .before .before .before .before .before .before .before .before .before .before .before .pre in
+    let args = c .before .before .before .before .before .before .before .before .before .before .before .before .before .before .before .before .before .args in
     let l-if1 = c .before .before .before .before .before .before .before .before .before .before .before .before .if1 .left in
     let e-top-name = c .before .before .before .before .before .before .before .before .before .before .top-name .ensures in
     let e-equal = c .before .before .before .before .before .before .before .before .equal .ensures in
     let e-part = c .before .before .before .before .before .before .before .part .ensures in
     let e-element-of = c .before .before .before .before .before .before .element-of .ensures in
     let e-push = c .before .before .before .before .push .ensures in
-    search dispatching
+    (search dispatching, pre .1, pre .2, noted-element (now (args .doc)) (args .name) (args .len) _ _ e-part _ e-element-of (pre .5))
 
 -- src/open.rt:459:1
 same-length : tie.Need-same-length

@@ -30,7 +30,14 @@ same-length-2 : tie.Need-same-length-2
 same-length-2 c = search opening
 
 returns-2 : tie.Need-returns-2
-returns-2 c = search opening
+returns-2 c =
+    let pre = c .before .before .before .before .before .before .before .before .before .before .before .before .before .before .pre in
+    let e-type-attributes = c .before .before .before .before .before .before .before .before .before .before .type-attributes .ensures in
+    let e-read-number = c .before .before .before .before .before .before .before .before .read-number .ensures in
+    let g-size = c .before .before .before .before .size .given .1 in
+    let t-if1 = c .before .before .if1 .taken in
+    let t-if2 = c .before .if2 .taken in
+    search opening
 
 sub-add-type : tie.Need-sub-add-type
 sub-add-type c = search opening

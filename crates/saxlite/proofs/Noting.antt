@@ -1,0 +1,131 @@
+-- Laws of what is noted of a tag: four names by the element, through the step and the reader.
+use mathlib.Core.Path.{_≡_, refl, sym, ap, _∙_}
+use mathlib.Core.Bool.{Bool, true, false}
+use mathlib.Core.List.{List, []}
+use Prim.Native.Nat.{ℕ, _+_}
+use borrow.Author.Needs.{needs}
+use Rattle.texts.specs.Choice.{pick}
+use Rattle.texts.specs.Text.{ascii, piece, same}
+use Rattle.texts.specs.Scan.{scan, until}
+use Rattle.classes.specs.Class.{isSpace, isTagNameEnd}
+use Rattle.refusals.specs.declared.Refusal.{Refusal}
+use Rattle.saxlite.specs.declared.scan.Occurrence.{Occurrence}
+use Rattle.saxlite.specs.declared.scan.Occurrence.the-variants.{At, Nowhere}
+use Rattle.saxlite.specs.declared.tag.Found.{Found}
+use Rattle.saxlite.specs.declared.tag.Notes.{Notes}
+use Rattle.saxlite.specs.declared.tag.Noted.{Noted}
+use Rattle.saxlite.specs.declared.step.Step.{Step}
+use Rattle.saxlite.specs.declared.step.Step.the-variants.{Text, Open, Close, Skipped, End, Refused}
+use Rattle.saxlite.specs.declared.step.NotedStep.{NotedStep}
+use Rattle.saxlite.specs.declared.reader.Event.the-variants as event
+use Rattle.saxlite.specs.declared.reader.Cursor.{Cursor}
+use Rattle.saxlite.specs.declared.reader.Read.{Read}
+use Rattle.saxlite.specs.Find.{stands}
+use Rattle.saxlite.specs.Attributes.{attributeAt}
+use Rattle.saxlite.specs.Step.{pastEnd, closeAt, openAt, stepAt}
+use Rattle.saxlite.specs.Reader.{cursorAt, readStep, readAt}
+use Rattle.saxlite.specs.Noting.{foundAt, notedOf, schemaKeys, typeKeys, enumKeys, fieldKeys, keysOf, NotedBy, NotedOf, NotedAs, NotedIn, NotedAt}
+use Rattle.saxlite.proofs.Reading.{read-owed, read-step}
+
+-- ---- four names
+
+pub noted-four : {doc : List ℕ} {at : ℕ} {noted : Notes} {first second third fourth : List ℕ} → foundAt (noted .first) (noted .len1) ≡ attributeAt doc at first → foundAt (noted .second) (noted .len2) ≡ attributeAt doc at second → foundAt (noted .third) (noted .len3) ≡ attributeAt doc at third → foundAt (noted .fourth) (noted .len4) ≡ attributeAt doc at fourth
+    → NotedBy (record { first = first; second = second; third = third; fourth = fourth }) doc at noted
+noted-four e f g h = record { first = e; second = f; third = g; fourth = h }
+
+pub noted-each : (n : Notes) {a b c d : Found} → a ≡ foundAt (n .first) (n .len1) → b ≡ foundAt (n .second) (n .len2) → c ≡ foundAt (n .third) (n .len3) → d ≡ foundAt (n .fourth) (n .len4) → record { first = a; second = b; third = c; fourth = d } ≡ notedOf n
+noted-each n e f g h = rw (e, f, g, h)
+
+pub first-noted : (doc : List ℕ) (at : ℕ) (n : Notes) {name second third fourth : List ℕ} → NotedBy (record { first = name; second = second; third = third; fourth = fourth }) doc at n → {r : Noted} → r ≡ notedOf n → r .first ≡ attributeAt doc at name
+first-noted doc at n k e = ap (λ (r : Noted). r .first) e ∙ k .first
+
+-- ---- by the element's name: each b is what a comparison says
+
+module _ (name doc : List ℕ) (at : ℕ) (noted : Notes) {b₁ : Bool} (e₁ : b₁ ≡ same name (ascii "messageSchema")) where
+  pub noted-schema : b₁ ≡ true → NotedBy schemaKeys doc at noted → NotedBy (keysOf name) doc at noted
+  unfolding keysOf
+  noted-schema t n = rw (← e₁, t) n
+
+  module _ (f₁ : b₁ ≡ false) {b₂ : Bool} (e₂ : b₂ ≡ same name (ascii "type")) where
+    pub noted-type : b₂ ≡ true → NotedBy typeKeys doc at noted → NotedBy (keysOf name) doc at noted
+    unfolding keysOf
+    noted-type t n = rw (← e₁, f₁, ← e₂, t) n
+
+    module _ (f₂ : b₂ ≡ false) {b₃ : Bool} (e₃ : b₃ ≡ same name (ascii "enum")) where
+      pub noted-enum : b₃ ≡ true → NotedBy enumKeys doc at noted → NotedBy (keysOf name) doc at noted
+      unfolding keysOf
+      noted-enum t n = rw (← e₁, f₁, ← e₂, f₂, ← e₃, t) n
+
+      pub noted-field : b₃ ≡ false → NotedBy fieldKeys doc at noted → NotedBy (keysOf name) doc at noted
+      unfolding keysOf
+      noted-field t n = rw (← e₁, f₁, ← e₂, f₂, ← e₃, t) n
+
+-- ---- steps that open nothing
+
+record Bare (s : Step) : Type 0 where
+  noted : (doc : List ℕ) (noted : Notes) → NotedOf doc s noted
+
+bare-pick : (b : Bool) {x y : Step} → Bare x → Bare y → Bare (pick b x y)
+bare-pick true e f = e
+bare-pick false e f = f
+
+bare-close : {name n next : ℕ} → Bare (Close name n next)
+bare-close = record { noted = λ doc noted. tt }
+
+bare-refused : {q : Refusal} → Bare (Refused q)
+bare-refused = record { noted = λ doc noted. tt }
+
+past-bare : (n : ℕ) (o : Occurrence) (q : Refusal) → Bare (pastEnd n o q)
+unfolding pastEnd
+past-bare n (At i) q = record { noted = λ doc noted. tt }
+past-bare n Nowhere q = bare-refused
+
+close-bare : (doc : List ℕ) (at : ℕ) → Bare (closeAt doc at)
+unfolding closeAt
+close-bare doc at = bare-pick (stands ">" doc (scan isSpace doc (scan (until isTagNameEnd) doc (at + 2)))) bare-close bare-refused
+
+module _ (doc : List ℕ) {s : Step} {r : NotedStep} where
+  pub as-end : r .step ≡ End → End ≡ s → NotedAs s doc r
+  as-end e f = record { is = e ∙ f; noted = rw e tt }
+
+  pub as-text : {from len next : ℕ} → r .step ≡ Text from len next → Text from len next ≡ s → NotedAs s doc r
+  as-text e f = record { is = e ∙ f; noted = rw e tt }
+
+  pub as-refused : {q : Refusal} → r .step ≡ Refused q → Refused q ≡ s → NotedAs s doc r
+  as-refused e f = record { is = e ∙ f; noted = rw e tt }
+
+  pub as-past : (n : ℕ) (o : Occurrence) (q : Refusal) {y : Step} → r .step ≡ y → y ≡ pastEnd n o q → y ≡ s → NotedAs s doc r
+  as-past n o q e p f = record { is = e ∙ f; noted = rw (e ∙ p) (past-bare n o q .noted doc (r .noted)) }
+
+  pub as-close : (at : ℕ) {y : Step} → r .step ≡ y → y ≡ closeAt doc at → y ≡ s → NotedAs s doc r
+  as-close at e p f = record { is = e ∙ f; noted = rw (e ∙ p) (close-bare doc at .noted doc (r .noted)) }
+
+  -- the same step under another name
+  pub as-other : {s′ : Step} → NotedAs s doc r → r .step ≡ s′ → NotedAs s′ doc r
+  as-other n e = record { is = e; noted = n .noted }
+
+-- ---- one that opens a tag
+
+pub as-open : (doc : List ℕ) (at : ℕ) {name n attributes next : ℕ} {closed : Bool} → Open name n attributes next closed ≡ openAt doc at → {w : List ℕ} → w ≡ piece doc name n → {noted : Notes} → NotedBy (keysOf w) doc attributes noted
+    → NotedAs (openAt doc at) doc (record { step = Open name n attributes next closed; noted = noted })
+as-open doc at e p k = record { is = e; noted = rw p at k }
+
+-- ---- at a cursor
+
+in-step : (doc : List ℕ) (at : ℕ) (s : Step) (noted : Notes) → NotedOf doc s noted → NotedIn doc (readStep at s .event) noted
+in-step doc at (Text from len next) noted n = tt
+in-step doc at (Open name len attributes next closed) noted n = n
+in-step doc at (Close name len next) noted n = tt
+in-step doc at (Skipped next) noted n = tt
+in-step doc at End noted n = tt
+in-step doc at (Refused q) noted n = tt
+
+module _ (doc : List ℕ) (c : Cursor) where
+  pub at-owed : c .owed ≡ true → {k : Cursor} → k ≡ cursorAt (c .at) → {noted : Notes} → NotedAt doc c (record { event = event.Close (c .name) (c .len); place = c .place; cursor = k; noted = noted })
+  at-owed t e = record { is = read-owed doc c t e; noted = tt }
+
+  pub at-step : c .owed ≡ false → {s : NotedStep} → NotedAs (stepAt doc (c .at)) doc s → {r : Read} → r ≡ readStep (c .at) (s .step) → NotedAt doc c (record { event = r .event; place = r .place; cursor = r .cursor; noted = s .noted })
+  at-step t {s} n {r} e = record { is = read-step doc c t (n .is) e; noted = rw e (in-step doc (c .at) (s .step) (s .noted) (n .noted)) }
+
+-- what the reader's own proof cites
+pub ruleset noting = (at-owed, at-step, needs)
