@@ -1,18 +1,22 @@
 -- Laws of entities and of decoding.
-use mathlib.Core.Path.{_≡_, refl, sym, subst, _∙_}
-use mathlib.Core.Bool.{Bool, true, false}
-use mathlib.Core.List.{List, [], _∷_}
+use mathlib.Core.Path.{_≡_, refl, sym, ap, subst, _∙_}
+use mathlib.Core.Bool.{Bool, true, false, not}
+use mathlib.Core.List.{List, [], _∷_, _++_}
 use Prim.Native.Nat.{ℕ, zero, suc, _+_, _-_, _≤_, _<_, _^_, zero-le, suc-le-suc}
+use native.Mathlib.Nat.{add-zero}
 use native.Mathlib.Numerals.{add-one}
 use native.Mathlib.Omega.{arith}
 use lib.Dec.{eqb}
-use lib.ListN.{length, drop, getD, set, length-set, length-drop, drop-of-length-le}
-use lib.Seq.{drop-cons, drop-drop, sets}
+use lib.ListN.{length, take, drop, getD, set, length-set, length-append, length-drop, drop-of-length-le}
+use lib.Seq.{drop-cons, drop-drop, sets, length-sets, length-take-le, take-suc, take-all}
 use mir.Val.{Fits}
 use mir.Syntax.{w64}
 use borrow.Author.Tests.{eq-eqb, ne-eqb, le-leb, lt-leb}
-use Rattle.texts.specs.Text.{ascii, startsWith}
-use Rattle.texts.proofs.Choosing.{pick-yes, pick-no}
+use Rattle.texts.specs.Choice.{pick}
+use Rattle.texts.specs.Scan.{countWhile, scan, until, is}
+use Rattle.texts.specs.Text.{ascii, piece, startsWith}
+use Rattle.texts.proofs.Choosing.{by-test, pick-yes, pick-no}
+use Rattle.texts.proofs.Scanning.{count-yes, count-no, Scanning, scan-start, until-on}
 use Rattle.texts.proofs.Comparing.{starts-length}
 use Rattle.saxlite.proofs.Picking.{pick-by}
 use Rattle.saxlite.specs.declared.entities.Unit.{Unit}
@@ -190,3 +194,143 @@ module _ (raw d e : List ℕ) (at : ℕ) {r : Decoded} (q : DecodedInto raw d at
 
   pub decoded-short : length d < at + length raw → (r ≡ NoRoom) × (e ≡ d)
   decoded-short h = let t = lt-leb (at + length raw) (length d) h in (rw t at (q .says), rw t at (q .left))
+
+-- ---- what stands before the first '&' is copied
+
+plain-front : (x : ℕ) (xs : List ℕ) → eqb x 38 ≡ false → decoded (x ∷ xs) ≡ x ∷ decoded xs
+unfolding front
+plain-front x xs f = decoded-cons x xs (record { byte = x; len = 1 }) (sym (pick-no (eqb x 38) _ _ f))
+
+plain-split : (n : ℕ) (s : List ℕ) → n ≤ length s → n + countWhile (until (is 38)) (drop n s) ≡ countWhile (until (is 38)) s → decoded s ≡ take n s ++ decoded (drop n s)
+plain-split zero s h e = refl
+plain-split (suc n) [] h e = absurd (omega arith)
+plain-split (suc n) (x ∷ xs) h e =
+    by-test (eqb x 38)
+    (λ t. absurd (omega (arith, e, count-no (until (is 38)) x xs (ap not t))))
+    (λ f.
+    let c : suc n + countWhile (until (is 38)) (drop n xs) ≡ suc (countWhile (until (is 38)) xs) = e ∙ count-yes (until (is 38)) x xs (ap not f) in
+    plain-front x xs f ∙ ap (λ t. x ∷ t) (plain-split n xs (omega arith) (omega arith)))
+
+-- so far none of the k bytes from i on is a '&', where `plain` says so
+pub record Sixteen (s : List ℕ) (i : ℕ) (plain : Bool) (k : ℕ) : Type 0 where
+  pub so : plain ≡ true → Scanning (until (is 38)) s i (i + k)
+  pub bound : k ≤ 16
+  pub room : i + 16 ≤ length s
+
+pub still-not : (b : ℕ) (plain : Bool) → b ≡ 38 → false ≡ pick (eqb b 38) false plain
+still-not b plain e = sym (pick-yes (eqb b 38) _ _ (eq-eqb b 38 e))
+
+pub still-so : (b : ℕ) (plain : Bool) → (b ≡ 38 → ⊥) → plain ≡ pick (eqb b 38) false plain
+still-so b plain n = sym (pick-no (eqb b 38) _ _ (ne-eqb b 38 n))
+
+pub sixteen-start : {s : List ℕ} {i : ℕ} → i + 16 ≤ length s → Sixteen s i true 0
+sixteen-start {s} {i} h =
+    let z : i + 0 ≡ i = omega arith in
+    record { so = λ t. rw z scan-start; bound = omega arith; room = h }
+
+module _ {s : List ℕ} {i : ℕ} {plain : Bool} {k : ℕ} (inv : Sixteen s i plain k) where
+  pub sixteen-within : k < 16 → i + k < length s
+  sixteen-within h = omega (arith, inv .room)
+
+  pub sixteen-on : k < 16 → {r : Bool} → r ≡ pick (eqb (getD s (i + k) 0) 38) false plain → Sixteen s i r (k + 1)
+  sixteen-on h {r} e =
+      let z : i + k + 1 ≡ i + (k + 1) = omega arith in
+      record {
+        so = λ t. by-test (eqb (getD s (i + k) 0) 38)
+            (λ y. absurd (let z : _≡_ {A = ℕ} 0 1 = cc (sym t ∙ e ∙ pick-yes (eqb (getD s (i + k) 0) 38) false plain y) in omega arith))
+            (λ f. rw z at (until-on (is 38) (inv .so (sym (pick-no (eqb (getD s (i + k) 0) 38) false plain f) ∙ sym e ∙ t)) (sixteen-within h) refl f));
+        bound = omega arith;
+        room = inv .room;
+      }
+
+  pub sixteen-end : 16 ≤ k → plain ≡ true → scan (until (is 38)) s (i + 16) ≡ scan (until (is 38)) s i
+  sixteen-end h t =
+      let z : k ≡ 16 = omega (arith, inv .bound) in
+      rw z at (inv .so t .rest)
+
+-- no '&' stands before i
+pub record PlainTo (s : List ℕ) (i : ℕ) : Type 0 where
+  pub rest : scan (until (is 38)) s i ≡ scan (until (is 38)) s 0
+  pub bound : i ≤ length s
+
+pub plain-start : {s : List ℕ} → PlainTo s 0
+plain-start = record { rest = refl; bound = omega arith }
+
+module _ {s : List ℕ} {i : ℕ} (inv : PlainTo s i) where
+  pub plain-on : i + 16 ≤ length s → {r : Bool} → (r ≡ true → scan (until (is 38)) s (i + 16) ≡ scan (until (is 38)) s i) → r ≡ true → PlainTo s (i + 16)
+  plain-on h f t = record { rest = f t ∙ inv .rest; bound = h }
+
+-- i of the n bytes are copied
+sets-append : (d : List ℕ) (at : ℕ) (xs ys : List ℕ) → sets d at (xs ++ ys) ≡ sets (sets d at xs) (at + length xs) ys
+sets-append d at [] ys = rw add-zero
+sets-append d at (x ∷ xs) ys =
+    let z : suc at + length xs ≡ at + suc (length xs) = omega arith in
+    rw (← z) (sets-append (set d at x) (suc at) xs ys)
+
+pub record Pasted (s d₀ : List ℕ) (n at : ℕ) (d : List ℕ) (i : ℕ) : Type 0 where
+  pub is : d ≡ sets d₀ at (take i s)
+  pub bound : i ≤ n
+  pub within : n ≤ length s
+  pub room : at + n ≤ length d₀
+
+module _ {s d₀ : List ℕ} {n at : ℕ} {d : List ℕ} {i : ℕ} (inv : Pasted s d₀ n at d i) where
+  pub pasted-length : length d ≡ length d₀
+  pasted-length = ap length (inv .is) ∙ length-sets d₀ at (take i s)
+
+  module _ (h : i < n) where
+    pub pasted-source : i < length s
+    pasted-source = omega (arith, inv .within)
+
+    pub pasted-place : at + i < length d
+    pasted-place = omega (arith, inv .room, pasted-length)
+
+    pub pasted-on : Pasted s d₀ n at (set d (at + i) (getD s i 0)) (i + 1)
+    pasted-on =
+        let l : length (take i s) ≡ i = length-take-le i s (omega (arith, pasted-source)) in
+        let t : take (i + 1) s ≡ take i s ++ (getD s i 0 ∷ []) = rw (add-one i, take-suc s i 0 pasted-source) in
+        record { is = rw (t, sets-append d₀ at (take i s) (getD s i 0 ∷ []), l, ← (inv .is)); bound = omega arith; within = inv .within; room = inv .room }
+
+  pub pasted-end : n ≤ i → d ≡ sets d₀ at (take n s)
+  pasted-end h =
+      let z : i ≡ n = omega (arith, inv .bound) in
+      rw z at (inv .is)
+
+-- the rest is decoded after what was copied
+module _ (s d d₁ : List ℕ) (at n : ℕ) (p : (n ≤ length s) × (scan (until (is 38)) s n ≡ scan (until (is 38)) s 0)) (h : at ≤ length d) (l : length s ≤ length d - at) (c : d₁ ≡ sets d at (take n s))
+    (w d₂ : List ℕ) {r : Decoded} (e : w ≡ piece s n (length s)) (q : DecodedInto w d₁ (at + n) r d₂) where
+  rest-is : w ≡ drop n s
+  rest-is = e ∙ take-all (length s) (drop n s) (omega (arith, length-drop n s))
+
+  rest-fits : at + n + length w ≤ length d₁
+  rest-fits = omega (arith, ap length rest-is, length-drop n s, ap length c, length-sets d at (take n s), p .0)
+
+  whole : decoded s ≡ take n s ++ decoded w
+  whole =
+      let k : n + countWhile (until (is 38)) (drop n s) ≡ countWhile (until (is 38)) s = omega (arith, p .1) in
+      rw rest-is (plain-split n s (p .0) k)
+
+  written : (r ≡ Written (length (decoded w))) × (d₂ ≡ sets d₁ (at + n) (decoded w))
+  written = decoded-fits w d₁ d₂ (at + n) q rest-fits
+
+  copied : length (take n s) ≡ n
+  copied = length-take-le n s (p .0)
+
+  pub long-end : {m : ℕ} → r ≡ Written m → DecodedInto s d at (Written (n + m)) d₂
+  long-end {m} f =
+      let t = le-leb (at + length s) (length d) (omega arith) in
+      let k : m ≡ length (decoded w) = cc (sym f ∙ written .0) in
+      let z : length (decoded s) ≡ n + m = ap length whole ∙ length-append (take n s) (decoded w) ∙ rw (copied, k) in
+      record {
+        says = rw (t, z);
+        left = rw t (written .1 ∙ rw (c, whole, sets-append d at (take n s) (decoded w), copied));
+      }
+
+  pub long-add : {m : ℕ} → r ≡ Written m → length s < 2 ^ 64 → Fits w64 (n + m)
+  long-add {m} f l =
+      let k : m ≡ length (decoded w) = cc (sym f ∙ written .0) in
+      omega (arith, k, decoded-length w, ap length rest-is, length-drop n s, p .0)
+
+  pub long-never : r ≡ NoRoom → DecodedInto s d at NoRoom d₂
+  long-never f = absurd (let z : _≡_ {A = ℕ} 0 1 = cc (sym f ∙ written .0) in omega arith)
+
+pub ruleset plain = (still-not, still-so, sixteen-start, sixteen-within, sixteen-on, sixteen-end, plain-start, plain-on, pasted-length, pasted-source, pasted-place, pasted-on, pasted-end)

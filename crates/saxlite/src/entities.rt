@@ -1,8 +1,13 @@
 // The five entities.
 ghost use mathlib.Core.Path.{_≡_};
-ghost use Prim.Native.Nat.{_<_};
-ghost use lib.ListN.{length, drop};
+ghost use mathlib.Core.Bool.{true, false};
+ghost use Prim.Native.Nat.{_+_, _≤_, _<_};
+ghost use lib.Dec.{eqb};
+ghost use lib.ListN.{length, take, drop};
+ghost use lib.Seq.{sets};
+ghost use Rattle.texts.specs.Choice.{pick};
 ghost use Rattle.texts.specs.Text.{piece};
+ghost use Rattle.texts.specs.Scan.{scan, until, is};
 ghost use Rattle.saxlite.specs.Entities.{front, DecodedInto};
 
 // The byte that stands at a place, and of how many bytes it is written.
@@ -47,8 +52,8 @@ fn unit_at(s: &[u8], at: usize) -> Unit
     Unit { byte: b'&', len: 1 }
 }
 
-// Decoding never lengthens, so that room for the raw text is room enough.
-fn decode_all(raw: &[u8], dst: &mut [u8], at: usize) -> Decoded
+// Unit by unit. Decoding never lengthens, so that room for the raw text is room enough.
+fn decode_each(raw: &[u8], dst: &mut [u8], at: usize) -> Decoded
     ensures { λ r. ⌜ DecodedInto (now (raw .entry)) (now (dst .entry)) at r (now (dst .exit)) ⌝ }
 {
     if dst.len() < at {
@@ -68,10 +73,81 @@ fn decode_all(raw: &[u8], dst: &mut [u8], at: usize) -> Decoded
     Decoded::Written(o - at)
 }
 
+// Whether what was plain so far still is with the byte `b`.
+fn still_plain(plain: bool, b: u8) -> bool
+    ensures { λ r. ⌜ r ≡ pick (eqb b 38) false plain ⌝ }
+{
+    if b == b'&' { false } else { plain }
+}
+
+// Whether none of the 16 bytes from `i` on is a '&': all are looked at, so that one comparison does for all of them.
+fn is_plain_sixteen(s: &[u8], i: usize) -> bool
+    requires { ⌜ i + 16 ≤ length (now s) ⌝ }
+    ensures { λ r. ⌜ (r ≡ true → scan (until (is 38)) (now (s .entry)) (i + 16) ≡ scan (until (is 38)) (now (s .entry)) i) ⌝ }
+{
+    let mut plain = true;
+    let mut k = 0;
+    while k < 16 {
+        plain = still_plain(plain, s[i + k]);
+        k += 1;
+    }
+    plain
+}
+
+// A place before which no '&' stands: the first one, or up to 15 bytes before it.
+fn plain_end(s: &[u8]) -> usize
+    ensures { λ r. ⌜ (r ≤ length (now (s .entry))) × (scan (until (is 38)) (now (s .entry)) r ≡ scan (until (is 38)) (now (s .entry)) 0) ⌝ }
+{
+    let mut i = 0;
+    while i + 16 <= s.len() {
+        if is_plain_sixteen(s, i) {
+            i += 16;
+        } else {
+            return i;
+        }
+    }
+    i
+}
+
+// Copies the first `n` bytes of `s`.
+fn copy(s: &[u8], n: usize, dst: &mut [u8], at: usize)
+    requires { ⌜ (n ≤ length (now s)) × (at + n ≤ length (now dst)) ⌝ }
+    ensures { λ r. ⌜ now (dst .exit) ≡ sets (now (dst .entry)) at (take n (now (s .entry))) ⌝ }
+{
+    let mut i = 0;
+    while i < n {
+        dst[at + i] = s[i];
+        i += 1;
+    }
+}
+
+// What stands before the first '&' is copied at once.
+fn decode_long(raw: &[u8], dst: &mut [u8], at: usize) -> Decoded
+    ensures { λ r. ⌜ DecodedInto (now (raw .entry)) (now (dst .entry)) at r (now (dst .exit)) ⌝ }
+{
+    if dst.len() < at {
+        return Decoded::NoRoom;
+    }
+    let room = dst.len() - at;
+    if room < raw.len() {
+        return Decoded::NoRoom;
+    }
+    let n = plain_end(raw);
+    copy(raw, n, dst, at);
+    match decode_each(texts::part(raw, n, raw.len()), dst, at + n) {
+        Decoded::Written(m) => Decoded::Written(n + m),
+        Decoded::NoRoom => Decoded::NoRoom,
+    }
+}
+
 // Writes `len` bytes of the document from `from` on, entities decoded, into `dst` at `at`. Room is
 // asked for the raw bytes.
 pub fn decode(doc: &[u8], from: usize, len: usize, dst: &mut [u8], at: usize) -> Decoded
     ensures { λ r. ⌜ DecodedInto (piece (now (doc .entry)) from len) (now (dst .entry)) at r (now (dst .exit)) ⌝ }
 {
-    decode_all(texts::part(doc, from, len), dst, at)
+    let raw = texts::part(doc, from, len);
+    if raw.len() < 16 {
+        return decode_each(raw, dst, at);
+    }
+    decode_long(raw, dst, at)
 }

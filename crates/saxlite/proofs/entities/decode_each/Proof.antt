@@ -2,8 +2,8 @@ use Rattle.saxlite.proofs.Laws.{laws}
 use Prim.Native.Nat.{_-_}
 use lib.ListN.{length}
 use Rattle.saxlite.proofs.Decoding.{Decoding}
-use Rattle.saxlite.proofs.entities.decode_all.Statement.{statement}
-use Rattle.saxlite.proofs.entities.decode_all.Tie as tie
+use Rattle.saxlite.proofs.entities.decode_each.Statement.{statement}
+use Rattle.saxlite.proofs.entities.decode_each.Tie as tie
 
 abbrev Inv-loop : tie.InvT-loop
 Inv-loop raw dst₀ at i₀ o₀ dst i o = Decoding raw dst₀ at dst i o
@@ -50,8 +50,8 @@ same-length c = search laws
 returns-3 : tie.Need-returns-3 Inv-loop μ-loop
 returns-3 c = search laws
 
-pub decode-all-spec : {M : Type 1} → statement M
-decode-all-spec =
+pub decode-each-spec : {M : Type 1} → statement M
+decode-each-spec =
     tie.close
     (tie.spec
     Inv-loop
