@@ -22,6 +22,7 @@ use Rattle.saxlite.proofs.Picking.{pick-by}
 use Rattle.saxlite.specs.declared.entities.Unit.{Unit}
 use Rattle.saxlite.specs.declared.entities.Decoded.{Decoded}
 use Rattle.saxlite.specs.declared.entities.Decoded.the-variants.{Written, NoRoom}
+use Rattle.saxlite.specs.Lacking.{LackingTo}
 use Rattle.saxlite.specs.Entities.{entity, front, decodedPast, decoded, DecodedInto}
 
 -- ---- a unit is some bytes, and no more than there are
@@ -211,54 +212,9 @@ plain-split (suc n) (x ∷ xs) h e =
     let c : suc n + countWhile (until (is 38)) (drop n xs) ≡ suc (countWhile (until (is 38)) xs) = e ∙ count-yes (until (is 38)) x xs (ap not f) in
     plain-front x xs f ∙ ap (λ t. x ∷ t) (plain-split n xs (omega arith) (omega arith)))
 
--- so far none of the k bytes from i on is a '&', where `plain` says so
-pub record Sixteen (s : List ℕ) (i : ℕ) (plain : Bool) (k : ℕ) : Type 0 where
-  pub so : plain ≡ true → Scanning (until (is 38)) s i (i + k)
-  pub bound : k ≤ 16
-  pub room : i + 16 ≤ length s
-
-pub still-not : (b : ℕ) (plain : Bool) → b ≡ 38 → false ≡ pick (eqb b 38) false plain
-still-not b plain e = sym (pick-yes (eqb b 38) _ _ (eq-eqb b 38 e))
-
-pub still-so : (b : ℕ) (plain : Bool) → (b ≡ 38 → ⊥) → plain ≡ pick (eqb b 38) false plain
-still-so b plain n = sym (pick-no (eqb b 38) _ _ (ne-eqb b 38 n))
-
-pub sixteen-start : {s : List ℕ} {i : ℕ} → i + 16 ≤ length s → Sixteen s i true 0
-sixteen-start {s} {i} h =
-    let z : i + 0 ≡ i = omega arith in
-    record { so = λ t. rw z scan-start; bound = omega arith; room = h }
-
-module _ {s : List ℕ} {i : ℕ} {plain : Bool} {k : ℕ} (inv : Sixteen s i plain k) where
-  pub sixteen-within : k < 16 → i + k < length s
-  sixteen-within h = omega (arith, inv .room)
-
-  pub sixteen-on : k < 16 → {r : Bool} → r ≡ pick (eqb (getD s (i + k) 0) 38) false plain → Sixteen s i r (k + 1)
-  sixteen-on h {r} e =
-      let z : i + k + 1 ≡ i + (k + 1) = omega arith in
-      record {
-        so = λ t. by-test (eqb (getD s (i + k) 0) 38)
-            (λ y. absurd (let z : _≡_ {A = ℕ} 0 1 = cc (sym t ∙ e ∙ pick-yes (eqb (getD s (i + k) 0) 38) false plain y) in omega arith))
-            (λ f. rw z at (until-on (is 38) (inv .so (sym (pick-no (eqb (getD s (i + k) 0) 38) false plain f) ∙ sym e ∙ t)) (sixteen-within h) refl f));
-        bound = omega arith;
-        room = inv .room;
-      }
-
-  pub sixteen-end : 16 ≤ k → plain ≡ true → scan (until (is 38)) s (i + 16) ≡ scan (until (is 38)) s i
-  sixteen-end h t =
-      let z : k ≡ 16 = omega (arith, inv .bound) in
-      rw z at (inv .so t .rest)
-
 -- no '&' stands before i
-pub record PlainTo (s : List ℕ) (i : ℕ) : Type 0 where
-  pub rest : scan (until (is 38)) s i ≡ scan (until (is 38)) s 0
-  pub bound : i ≤ length s
-
-pub plain-start : {s : List ℕ} → PlainTo s 0
-plain-start = record { rest = refl; bound = omega arith }
-
-module _ {s : List ℕ} {i : ℕ} (inv : PlainTo s i) where
-  pub plain-on : i + 16 ≤ length s → {r : Bool} → (r ≡ true → scan (until (is 38)) s (i + 16) ≡ scan (until (is 38)) s i) → r ≡ true → PlainTo s (i + 16)
-  plain-on h f t = record { rest = f t ∙ inv .rest; bound = h }
+pub plain-to : {s : List ℕ} {i : ℕ} → LackingTo 38 s 0 i → (i ≤ length s) × (scan (until (is 38)) s i ≡ scan (until (is 38)) s 0)
+plain-to l = (l .bound (omega arith), l .rest)
 
 -- i of the n bytes are copied
 sets-append : (d : List ℕ) (at : ℕ) (xs ys : List ℕ) → sets d at (xs ++ ys) ≡ sets (sets d at xs) (at + length xs) ys
@@ -333,4 +289,4 @@ module _ (s d d₁ : List ℕ) (at n : ℕ) (p : (n ≤ length s) × (scan (unti
   pub long-never : r ≡ NoRoom → DecodedInto s d at NoRoom d₂
   long-never f = absurd (let z : _≡_ {A = ℕ} 0 1 = cc (sym f ∙ written .0) in omega arith)
 
-pub ruleset plain = (still-not, still-so, sixteen-start, sixteen-within, sixteen-on, sixteen-end, plain-start, plain-on, pasted-length, pasted-source, pasted-place, pasted-on, pasted-end)
+pub ruleset plain = (pasted-length, pasted-source, pasted-place, pasted-on, pasted-end)

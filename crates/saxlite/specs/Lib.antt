@@ -1,5 +1,6 @@
 -- 01, "Reading markup": what the reader answers at each place of a document.
 pub mod Find
+pub mod Lacking
 pub mod Entities
 pub mod Names
 pub mod Attributes

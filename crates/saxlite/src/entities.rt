@@ -1,4 +1,5 @@
 // The five entities.
+use crate::scan::lacking_to;
 ghost use mathlib.Core.Path.{_≡_};
 ghost use mathlib.Core.Bool.{true, false};
 ghost use Prim.Native.Nat.{_+_, _≤_, _<_};
@@ -73,40 +74,11 @@ fn decode_each(raw: &[u8], dst: &mut [u8], at: usize) -> Decoded
     Decoded::Written(o - at)
 }
 
-// Whether what was plain so far still is with the byte `b`.
-fn still_plain(plain: bool, b: u8) -> bool
-    ensures { λ r. ⌜ r ≡ pick (eqb b 38) false plain ⌝ }
-{
-    if b == b'&' { false } else { plain }
-}
-
-// Whether none of the 16 bytes from `i` on is a '&': all are looked at, so that one comparison does for all of them.
-fn is_plain_sixteen(s: &[u8], i: usize) -> bool
-    requires { ⌜ i + 16 ≤ length (now s) ⌝ }
-    ensures { λ r. ⌜ (r ≡ true → scan (until (is 38)) (now (s .entry)) (i + 16) ≡ scan (until (is 38)) (now (s .entry)) i) ⌝ }
-{
-    let mut plain = true;
-    let mut k = 0;
-    while k < 16 {
-        plain = still_plain(plain, s[i + k]);
-        k += 1;
-    }
-    plain
-}
-
-// A place before which no '&' stands: the first one, or up to 15 bytes before it.
+// A place before which no '&' stands: the first one, or up to 7 bytes before it.
 fn plain_end(s: &[u8]) -> usize
     ensures { λ r. ⌜ (r ≤ length (now (s .entry))) × (scan (until (is 38)) (now (s .entry)) r ≡ scan (until (is 38)) (now (s .entry)) 0) ⌝ }
 {
-    let mut i = 0;
-    while i + 16 <= s.len() {
-        if is_plain_sixteen(s, i) {
-            i += 16;
-        } else {
-            return i;
-        }
-    }
-    i
+    lacking_to(s, 0, b'&')
 }
 
 // Copies the first `n` bytes of `s`.

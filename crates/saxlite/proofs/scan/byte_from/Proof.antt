@@ -12,6 +12,9 @@ Inv-loop doc at b i₀ i = Scanning (until (is b)) doc at i
 abbrev μ-loop : tie.MeasureT-loop
 μ-loop doc at b i₀ i = length doc - i
 
+lacking-to-requires : tie.Need-lacking-to-requires Inv-loop μ-loop
+lacking-to-requires c κs = search laws
+
 loop-holds : tie.Need-loop-holds Inv-loop μ-loop
 loop-holds c = search laws
 
@@ -39,6 +42,7 @@ byte-from-spec =
     (tie.spec
     Inv-loop
     μ-loop
+    lacking-to-requires
     loop-holds
     shared-slice-read-if1
     returns
