@@ -1,5 +1,6 @@
 -- Laws of the kind and the length of an escape.
 use mathlib.Core.Path.{_≡_, sym, ap, _∙_}
+use mathlib.Core.Bool.{true, false}
 use mathlib.Core.List.{List, [], _∷_, _++_}
 use Prim.Native.Nat.{ℕ, _+_, _/_, _%_, _≤_, _<_}
 use native.Mathlib.Omega.{arith}
@@ -113,9 +114,16 @@ module _ {b n : ℕ} (u : Unicode b n) where
     unfolding hex
     unicode-two e f g q s t = rw (le-ltb b 16 (two-digits e), ← f, ← g) (p ▸ q ▸ s ▸ t)
 
+-- a test that fails promises nothing
+pub not-plain : {b : ℕ} → false ≡ true → escaped b ≡ b ∷ []
+not-plain f = absurd (let z : _≡_ {A = ℕ} 0 1 = cc in omega arith)
+
 module _ {b : ℕ} {e : Escape} (h : Escapes b e) {k : Kind} (ek : k ≡ e .kind) where
   pub unicode-long : k ≡ Hex → Unicode b (e .len)
   unicode-long f = record { long = h .long ∙ ap length (sym (h .shown) ∙ ap (λ (x : Kind). shownAs x b) (sym ek ∙ f)) }
+
+  pub plain-shown : k ≡ Plain → escaped b ≡ b ∷ []
+  plain-shown f = sym (h .shown) ∙ ap (λ (x : Kind). shownAs x b) (sym ek ∙ f)
 
   module _ {o : List ℕ} {at : ℕ} {o₁ : List ℕ} {r₁ : ℕ} where
     pub escaped-plain : k ≡ Plain → Printed o at o₁ r₁ (b ∷ []) → Printed o at o₁ r₁ (escaped b)

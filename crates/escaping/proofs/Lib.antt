@@ -1,3 +1,4 @@
 -- The laws of escaping.
 pub mod Escaping
+pub mod Runs
 pub mod Laws

@@ -4,9 +4,14 @@
 // and its contract is `Printed` of `quoted` (specs/Escape.antt).
 use printing::put_byte;
 use printing::put_bytes;
+use texts::part;
 ghost use mathlib.Core.Path.{_≡_};
-ghost use Prim.Native.Nat.{_<_};
+ghost use mathlib.Core.Bool.{true};
+ghost use mathlib.Core.List.{[], _∷_, _++_};
+ghost use Prim.Native.Nat.{_-_, _≤_, _<_};
+ghost use lib.ListN.{drop};
 ghost use Rattle.printing.specs.Printed.{Printed};
+ghost use Rattle.texts.specs.Text.{piece};
 ghost use Rattle.texts.specs.Lists.{each};
 ghost use Rattle.escaping.specs.Escape.{hexDigit, escaped, quoted};
 ghost use Rattle.escaping.specs.Escaping.{shownAs, Escapes, Unicode};
@@ -122,14 +127,49 @@ fn put_escaped(out: &mut [u8], at: usize, b: u8) -> usize
     }
 }
 
+// Whether a byte is shown as it stands.
+fn is_plain(b: u8) -> bool
+    ensures { λ r. ⌜ (r ≡ true → escaped b ≡ b ∷ []) ⌝ }
+{
+    let e = escape_of(b);
+    let kind = e.kind;
+    match kind {
+        Kind::Plain => true,
+        Kind::Letter(_) => false,
+        Kind::Hex => false,
+    }
+}
+
+// How far the bytes from `from` on are shown as they stand.
+fn plain_end(s: &[u8], from: usize) -> usize
+    ensures { λ r. ⌜ (from ≤ r) × (each escaped (drop from (now (s .entry))) ≡ piece (now (s .entry)) from (r - from) ++ each escaped (drop r (now (s .entry)))) ⌝ }
+{
+    let mut i = from;
+    while i < s.len() {
+        if is_plain(s[i]) {
+            i += 1;
+        } else {
+            return i;
+        }
+    }
+    i
+}
+
+// Prints the escapes run by run: the bytes that are shown as they stand at once, then the one that is not.
 fn put_escapes(out: &mut [u8], at: usize, s: &[u8]) -> usize
     ensures { λ r. ⌜ Printed (now (out .entry)) at (now (out .exit)) r (each escaped (now (s .entry))) ⌝ }
 {
     let mut p = at;
     let mut i = 0;
     while i < s.len() {
-        p = put_escaped(out, p, s[i]);
-        i += 1;
+        let e = plain_end(s, i);
+        p = put_bytes(out, p, part(s, i, e - i));
+        if e < s.len() {
+            p = put_escaped(out, p, s[e]);
+            i = e + 1;
+        } else {
+            return p;
+        }
     }
     p
 }
