@@ -5,13 +5,63 @@ use mathlib.Core.List.{List, [], _∷_, _++_, append-assoc}
 use Prim.Native.Nat.{ℕ, suc, _+_, _-_, _≤_, _<_}
 use native.Mathlib.Numerals.{add-one}
 use native.Mathlib.Omega.{arith}
-use lib.ListN.{length, take, drop, getD, length-drop}
-use lib.Seq.{take-suc, drop-cons, getD-drop}
+use lib.Dec.{eqb, ltb}
+use lib.ListN.{length, take, drop, getD, set, length-drop, length-set}
+use borrow.Author.Tests.{eqb-true, ltb-true, ltb-false}
+use Rattle.texts.proofs.Choosing.{by-test}
+use lib.Seq.{take-suc, drop-cons, getD-drop, getD-set-same, getD-set-other}
 use Rattle.texts.specs.Text.{piece}
 use Rattle.texts.specs.Lists.{each}
 use Rattle.printing.specs.Printed.{Printed}
 use Rattle.printing.proofs.Going.{Bytewise, going-on, bytes-on, bytes-end}
 use Rattle.escaping.specs.Escape.{escaped}
+
+-- ---- marks
+
+module _ {b : ℕ} where
+  pub plain-when : {v : Bool} → (v ≡ true → escaped b ≡ b ∷ []) → v ≡ true → escaped b ≡ b ∷ []
+  plain-when h e = h e
+
+  pub not-marked : _≡_ {A = ℕ} 1 0 → escaped b ≡ b ∷ []
+  not-marked e = absurd (omega arith)
+
+  pub marked-plain : (t : List ℕ) → ((k : ℕ) → k < length t → getD t k 0 ≡ 0 → escaped k ≡ k ∷ []) → b < length t → eqb (getD t b 0) 0 ≡ true → escaped b ≡ b ∷ []
+  marked-plain t m h e = m b h (eqb-true (getD t b 0) 0 e)
+
+-- the bytes below i are marked: 0 for one that is shown as it stands
+pub record Marking (t₀ t : List ℕ) (i : ℕ) : Type 0 where
+  pub sofar : (b : ℕ) → b < i → getD t b 0 ≡ 0 → escaped b ≡ b ∷ []
+  pub size : length t ≡ 256
+  pub same : length t ≡ length t₀
+
+pub marking-start : {t : List ℕ} → length t ≡ 256 → Marking t t 0
+marking-start e = record { sofar = λ b h z. absurd (omega arith); size = e; same = refl }
+
+module _ {t₀ t : List ℕ} {i : ℕ} (inv : Marking t₀ t i) where
+  pub marking-same : length t ≡ length t₀
+  marking-same = inv .same
+
+  pub marking-room : i < 256 → i < length t
+  marking-room h = omega (arith, inv .size)
+
+  pub marking-on : {x : ℕ} → i < 256 → (x ≡ 0 → escaped i ≡ i ∷ []) → Marking t₀ (set t i x) (i + 1)
+  marking-on {x} h m =
+      let e = length-set t i x in
+      record {
+        sofar = λ b l z.
+            by-test (ltb b i)
+            (λ v. let k = ltb-true b i v in inv .sofar b k (sym (getD-set-other t i b x 0 (omega arith)) ∙ z))
+            (λ v.
+            let q : b ≡ i = omega (arith, ltb-false b i v) in
+            rw q (m (sym (getD-set-same t i x 0 (marking-room h)) ∙ (rw q at z))));
+        size = e ∙ inv .size;
+        same = e ∙ inv .same;
+      }
+
+  pub marking-end : 256 ≤ i → (b : ℕ) → b < length t → getD t b 0 ≡ 0 → escaped b ≡ b ∷ []
+  marking-end h b l z = inv .sofar b (omega (arith, inv .size)) z
+
+-- ---- runs
 
 -- the bytes from a up to i are such a run
 pub record Run (s : List ℕ) (a i : ℕ) : Type 0 where

@@ -8,13 +8,16 @@ use texts::part;
 ghost use mathlib.Core.Path.{_≡_};
 ghost use mathlib.Core.Bool.{true};
 ghost use mathlib.Core.List.{[], _∷_, _++_};
-ghost use Prim.Native.Nat.{_-_, _≤_, _<_};
-ghost use lib.ListN.{drop};
+ghost use Prim.Native.Nat.{ℕ, _-_, _≤_, _<_};
+ghost use lib.ListN.{length, drop, getD};
 ghost use Rattle.printing.specs.Printed.{Printed};
 ghost use Rattle.texts.specs.Text.{piece};
 ghost use Rattle.texts.specs.Lists.{each};
 ghost use Rattle.escaping.specs.Escape.{hexDigit, escaped, quoted};
 ghost use Rattle.escaping.specs.Escaping.{shownAs, Escapes, Unicode};
+
+// A text of so many bytes is long: noting the marks pays.
+const LONG: usize = 1024;
 
 // How a byte is shown.
 pub enum Kind {
@@ -140,13 +143,42 @@ fn is_plain(b: u8) -> bool
     }
 }
 
+// A byte's mark: 0 for one that is shown as it stands.
+fn mark_of(b: u8) -> u8
+    ensures { λ r. ⌜ (r ≡ 0 → escaped b ≡ b ∷ []) ⌝ }
+{
+    if is_plain(b) { 0 } else { 1 }
+}
+
+// Notes the mark of every byte, so that a long text costs one look a byte.
+fn note_marks(t: &mut [u8])
+    requires { ⌜ length (now t) ≡ 256 ⌝ }
+    ensures { λ r. ⌜ ((b : ℕ) → b < length (now (t .exit)) → getD (now (t .exit)) b 0 ≡ 0 → escaped b ≡ b ∷ []) ⌝ }
+{
+    let mut i = 0;
+    while i < 256 {
+        t[i] = mark_of(i as u8);
+        i += 1;
+    }
+}
+
+// Whether a byte is shown as it stands, by its mark where one is noted.
+fn is_plain_in(t: &[u8], b: u8) -> bool
+    requires { ⌜ ((b : ℕ) → b < length (now t) → getD (now t) b 0 ≡ 0 → escaped b ≡ b ∷ []) ⌝ }
+    ensures { λ r. ⌜ (r ≡ true → escaped b ≡ b ∷ []) ⌝ }
+{
+    let i = b as usize;
+    if i < t.len() { t[i] == 0 } else { is_plain(b) }
+}
+
 // How far the bytes from `from` on are shown as they stand.
-fn plain_end(s: &[u8], from: usize) -> usize
+fn plain_end(t: &[u8], s: &[u8], from: usize) -> usize
+    requires { ⌜ ((b : ℕ) → b < length (now t) → getD (now t) b 0 ≡ 0 → escaped b ≡ b ∷ []) ⌝ }
     ensures { λ r. ⌜ (from ≤ r) × (each escaped (drop from (now (s .entry))) ≡ piece (now (s .entry)) from (r - from) ++ each escaped (drop r (now (s .entry)))) ⌝ }
 {
     let mut i = from;
     while i < s.len() {
-        if is_plain(s[i]) {
+        if is_plain_in(t, s[i]) {
             i += 1;
         } else {
             return i;
@@ -156,13 +188,14 @@ fn plain_end(s: &[u8], from: usize) -> usize
 }
 
 // Prints the escapes run by run: the bytes that are shown as they stand at once, then the one that is not.
-fn put_escapes(out: &mut [u8], at: usize, s: &[u8]) -> usize
+fn put_runs(out: &mut [u8], at: usize, t: &[u8], s: &[u8]) -> usize
+    requires { ⌜ ((b : ℕ) → b < length (now t) → getD (now t) b 0 ≡ 0 → escaped b ≡ b ∷ []) ⌝ }
     ensures { λ r. ⌜ Printed (now (out .entry)) at (now (out .exit)) r (each escaped (now (s .entry))) ⌝ }
 {
     let mut p = at;
     let mut i = 0;
     while i < s.len() {
-        let e = plain_end(s, i);
+        let e = plain_end(t, s, i);
         p = put_bytes(out, p, part(s, i, e - i));
         if e < s.len() {
             p = put_escaped(out, p, s[e]);
@@ -172,6 +205,18 @@ fn put_escapes(out: &mut [u8], at: usize, s: &[u8]) -> usize
         }
     }
     p
+}
+
+// Prints the escapes of a text; the marks are noted for a long one only.
+fn put_escapes(out: &mut [u8], at: usize, s: &[u8]) -> usize
+    ensures { λ r. ⌜ Printed (now (out .entry)) at (now (out .exit)) r (each escaped (now (s .entry))) ⌝ }
+{
+    if s.len() < LONG {
+        return put_runs(out, at, b"", s);
+    }
+    let mut t = [0u8; 256];
+    note_marks(&mut t);
+    put_runs(out, at, &t, s)
 }
 
 // Prints a text in quotes.

@@ -1,96 +1,63 @@
-use Prim.Native.Nat.{_-_}
-use lib.ListN.{length}
-use Rattle.escaping.specs.Escape.{escaped}
-use Rattle.printing.proofs.Going.{Bytewise}
+use native.Mathlib.Omega.{arith}
 use Rattle.escaping.proofs.Laws.{laws}
 use Rattle.escaping.proofs.put_escapes.Statement.{statement}
 use Rattle.escaping.proofs.put_escapes.Tie as tie
 use Rattle.escaping.proofs.put_escapes.Reads as reads
 use Rattle.escaping.proofs.put_escapes.Lts as lts
-use Rattle.escaping.proofs.plain_end.Reads as plain-end-reads
-use Rattle.escaping.proofs.put_escaped.Reads as put-escaped-reads
-use Rattle.printing.proofs.put_bytes.Reads as put-bytes-reads
-use Rattle.texts.proofs.part.Reads as part-reads
+use Rattle.escaping.proofs.note_marks.Reads as note-marks-reads
+use Rattle.escaping.proofs.put_runs.Reads as put-runs-reads
 
-abbrev Inv-loop : tie.InvT-loop
-Inv-loop out₀ at s p₀ i₀ out p i = Bytewise escaped s i out₀ at out p
+-- src/lib.rt:215:34
+slice-aggregate-put-runs : tie.Need-slice-aggregate-put-runs
+slice-aggregate-put-runs c = search laws
 
-abbrev μ-loop : tie.MeasureT-loop
-μ-loop out₀ at s p₀ i₀ out p i = length s - i
+-- src/lib.rt:215:9
+put-runs-requires : tie.Need-put-runs-requires
+put-runs-requires c κs b h z = absurd (omega arith)
 
--- src/lib.rt:164:5
-loop-holds : tie.Need-loop-holds Inv-loop μ-loop
-loop-holds c = search laws
-
--- src/lib.rt:165:13
-plain-end-requires : tie.Need-plain-end-requires Inv-loop μ-loop
-plain-end-requires c κs = search laws
-
--- src/lib.rt:166:42
-sub-part : tie.Need-sub-part Inv-loop μ-loop
-sub-part c = search laws
-
--- src/lib.rt:166:31
-part-requires : tie.Need-part-requires Inv-loop μ-loop
-part-requires c κs = search laws
-
--- src/lib.rt:166:9
-put-bytes-requires : tie.Need-put-bytes-requires Inv-loop μ-loop
-put-bytes-requires c κs = search laws
-
--- src/lib.rt:168:37
-shared-slice-read-put-escaped : tie.Need-shared-slice-read-put-escaped Inv-loop μ-loop
-shared-slice-read-put-escaped c = search laws
-
--- src/lib.rt:168:13
-put-escaped-requires : tie.Need-put-escaped-requires Inv-loop μ-loop
-put-escaped-requires c κs = search laws
-
--- src/lib.rt:169:17
-add-i : tie.Need-add-i Inv-loop μ-loop
-add-i c = search laws
-
--- src/lib.rt:164:5
-loop-less : tie.Need-loop-less Inv-loop μ-loop
-loop-less c = search laws
-
--- src/lib.rt:164:5
-loop-again : tie.Need-loop-again Inv-loop μ-loop
-loop-again c = search laws
-
--- src/lib.rt:171:13
-same-length : tie.Need-same-length Inv-loop μ-loop
+-- src/lib.rt:215:9
+same-length : tie.Need-same-length
 same-length c = search laws
 
--- src/lib.rt:171:13
-returns : tie.Need-returns Inv-loop μ-loop
+-- src/lib.rt:215:9
+returns : tie.Need-returns
 returns c = search laws
 
--- src/lib.rt:159:1
-same-length-2 : tie.Need-same-length-2 Inv-loop μ-loop
+-- src/lib.rt:218:16
+slice-aggregate-note-marks : tie.Need-slice-aggregate-note-marks
+slice-aggregate-note-marks c = search laws
+
+-- src/lib.rt:218:5
+note-marks-requires : tie.Need-note-marks-requires
+note-marks-requires c κs = search laws
+
+-- src/lib.rt:219:23
+slice-aggregate-put-runs-2 : tie.Need-slice-aggregate-put-runs-2
+slice-aggregate-put-runs-2 c = search laws
+
+-- src/lib.rt:219:5
+put-runs-requires-2 : tie.Need-put-runs-requires-2
+put-runs-requires-2 c κs = search laws
+
+-- src/lib.rt:211:1
+same-length-2 : tie.Need-same-length-2
 same-length-2 c = search laws
 
--- src/lib.rt:159:1
-returns-2 : tie.Need-returns-2 Inv-loop μ-loop
+-- src/lib.rt:211:1
+returns-2 : tie.Need-returns-2
 returns-2 c = search laws
 
 pub put-escapes-spec : {M : Type 1} → statement M
 put-escapes-spec =
     tie.close
     (tie.spec
-    Inv-loop
-    μ-loop
-    loop-holds
-    plain-end-requires
-    sub-part
-    part-requires
-    put-bytes-requires
-    shared-slice-read-put-escaped
-    put-escaped-requires
-    add-i
-    loop-less
-    loop-again
+    slice-aggregate-put-runs
+    put-runs-requires
     same-length
     returns
+    slice-aggregate-note-marks
+    note-marks-requires
+    slice-aggregate-put-runs-2
+    put-runs-requires-2
     same-length-2
     returns-2)
