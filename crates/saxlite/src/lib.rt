@@ -2,7 +2,7 @@
 //
 // `step::step_at` tells what stands at a place of the document: text, an open tag, a close tag,
 // markup that is passed over, the end, or a refusal (11 to 20). An open tag has been read whole
-// before it is told of, so that `tag::attributes` can look names up in it and never fails.
+// before it is told of: `step::step_noting` tells with it the values that its element looks up.
 // `entities::decode` writes a text or a value, its entities decoded, into a lent slice.
 // `reader::Reader` holds the document and yields one event at a time.
 //
