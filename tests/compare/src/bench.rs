@@ -66,6 +66,23 @@ fn most(before: &str, each: impl Fn(usize) -> String, after: &str, count: usize)
     text + after
 }
 
+/// Names with a common prefix that have one hash in the converter's index (crates/index, `hash_of`).
+fn colliding(prefix: &str, count: usize) -> Vec<String> {
+    let hash = |name: &str| {
+        let (h, g) = name.bytes().fold((0u64, 0u64), |(h, g), x| (g, (h * 65 + u64::from(x)) % (1 << 32)));
+        (h * 37 + g) % 1021
+    };
+    let letters: Vec<char> = ('a'..='z').chain('A'..='Z').chain('0'..='9').collect();
+    let mut names = Vec::new();
+    for a in &letters {
+        for b in &letters {
+            names.extend(letters.iter().map(|c| format!("{prefix}{a}{b}{c}")).filter(|name| hash(name) == 0));
+        }
+    }
+    names.truncate(count);
+    names
+}
+
 /// What may be slow for either side, within the limits.
 pub fn hard() -> Vec<(&'static str, String)> {
     vec![
@@ -158,6 +175,12 @@ pub fn hard() -> Vec<(&'static str, String)> {
             let types =
                 format!("<type name='t' primitiveType='char' characterEncoding='{encoding}'/><message>");
             most(&types, |_| "<field type='t'/>".into(), "</message>", 1_020)
+        }),
+        ("fields of type names that collide", {
+            let names = colliding(&"p".repeat(30), 230);
+            let types: String = names.iter().map(|name| format!("<type name='{name}'/>")).collect();
+            let field = format!("<field type='{}'/>", names[0]);
+            most(&format!("{types}<message>"), |_| field.clone(), "</message>", 700)
         }),
         ("deep", "<a>".repeat(64) + &"</a>".repeat(64)),
     ]
