@@ -14,5 +14,6 @@ pub mod Ranges
 pub mod Moving
 pub mod Reading
 pub mod Noting
+pub mod Knowing
 pub mod Laws
 pub mod Trials

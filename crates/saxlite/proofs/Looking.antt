@@ -38,7 +38,7 @@ last-with doc raw n value len rest name found =
 
 -- ---- notes
 
-found-value : (value len : ℕ) → foundAt (value + 1) len ≡ Value value len
+pub found-value : (value len : ℕ) → foundAt (value + 1) len ≡ Value value len
 unfolding foundAt
 found-value value len = rw add-one
 

@@ -8,3 +8,4 @@ pub mod Step
 pub mod Event
 pub mod Reader
 pub mod Noting
+pub mod Known

@@ -10,6 +10,7 @@
 // inputs: specs/Step.antt, specs/Reader.antt, specs/Attributes.antt and specs/Entities.antt, after 01,
 // "Reading markup". What a step means is specs/Event.antt.
 pub mod entities;
+pub mod known;
 pub mod reader;
 pub mod scan;
 pub mod step;

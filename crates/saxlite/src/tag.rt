@@ -1,4 +1,7 @@
 // Tags: their parts, where they end, and their attributes.
+use crate::known::Codes;
+use crate::known::codes_of;
+use crate::known::known_at;
 use crate::scan::attribute_name_end;
 use crate::scan::byte_from;
 use crate::scan::is_xmlns;
@@ -7,13 +10,14 @@ use crate::scan::skip_space;
 use classes::table;
 use refusals::Refusal;
 ghost use mathlib.Core.Path.{_≡_};
-ghost use Prim.Native.Nat.{_<_};
+ghost use Prim.Native.Nat.{_<_, _^_};
 ghost use lib.ListN.{length};
 ghost use Rattle.classes.specs.Table.{IsTable};
 ghost use Rattle.texts.specs.Choice.{pick};
 ghost use Rattle.texts.specs.Text.{piece};
 ghost use Rattle.saxlite.specs.Attributes.{quotedAt, valueAt, attributePartAt, tagPartAt, tagAt, attributeAt};
-ghost use Rattle.saxlite.specs.Noting.{noNotes, foundAt, notedOf, NotedWith, NotedBy, keysOf};
+ghost use Rattle.saxlite.specs.Noting.{Keys, noNotes, foundAt, notedOf, NotedWith, NotedBy, keysOf};
+ghost use Rattle.saxlite.specs.Known.{knownName, keysBy, CodesOf, QuickAt, NamedAs, NotedMore};
 
 // One part of a tag: an attribute with the ranges of its raw name and raw value, the tag's end, or
 // a refusal.
@@ -163,6 +167,30 @@ pub fn tag_part(doc: &[u8], at: usize, place: usize) -> TagPart
     tag_part_in(doc, at, place, &t)
 }
 
+// A part of a tag, and the number of the attribute's name where that is known (specs/Known.antt), else 0.
+pub struct Quick {
+    pub code: usize,
+    pub part: TagPart,
+}
+
+// The part of a tag at `at`: at once, where it is a known attribute.
+fn quick_part(doc: &[u8], at: usize, place: usize, t: &[u8; 256]) -> Quick
+    requires { ⌜ IsTable (now t) ⌝ }
+    ensures { λ r. ⌜ QuickAt (now (doc .entry)) at place r ⌝ }
+{
+    let i = skip_space(doc, at, t);
+    let known = known_at(doc, i);
+    let code = known.code;
+    let len = known.len;
+    if 0 < code {
+        let value = i + len + 2;
+        let part = quoted_part(doc, i, len, value, b'"', place);
+        return Quick { code, part };
+    }
+    let part = tag_part_in(doc, at, place, t);
+    Quick { code: 0, part }
+}
+
 // This one where `on` says so, else the earlier one.
 fn latest(on: bool, this: usize, earlier: usize) -> usize
     ensures { λ r. ⌜ r ≡ pick on this earlier ⌝ }
@@ -209,6 +237,118 @@ fn noted_with(
     }
 }
 
+// The same with a known attribute.
+fn noted_known(code: usize, codes: Codes, value: usize, len: usize, earlier: Notes) -> Notes
+    requires { ⌜ (0 < code) × (code < 14) × (value < 2 ^ 63) ⌝ }
+    ensures { λ r. ⌜ ((k : Keys) → CodesOf k codes → NotedMore (knownName code) value len k earlier r) ⌝ }
+{
+    // Names that matter in no tag.
+    if 7 < code {
+        return earlier;
+    }
+    let at = value + 1;
+    let is1 = code == codes.first;
+    let is2 = code == codes.second;
+    let is3 = code == codes.third;
+    let is4 = code == codes.fourth;
+    Notes {
+        first: latest(is1, at, earlier.first),
+        len1: latest(is1, len, earlier.len1),
+        second: latest(is2, at, earlier.second),
+        len2: latest(is2, len, earlier.len2),
+        third: latest(is3, at, earlier.third),
+        len3: latest(is3, len, earlier.len3),
+        fourth: latest(is4, at, earlier.fourth),
+        len4: latest(is4, len, earlier.len4),
+    }
+}
+
+// The same with an attribute of another name, in a tag with these keys.
+fn noted_other(
+    doc: &[u8],
+    raw: usize,
+    n: usize,
+    value: usize,
+    len: usize,
+    keys: usize,
+    earlier: Notes,
+) -> Notes
+    requires { ⌜ value < length (now doc) ⌝ }
+    ensures { λ r. ⌜ NotedMore (piece (now (doc .entry)) raw n) value len (keysBy keys) earlier r ⌝ }
+{
+    match keys {
+        1 => noted_with(
+            doc,
+            raw,
+            n,
+            value,
+            len,
+            b"id",
+            b"version",
+            b"package",
+            b"",
+            earlier,
+        ),
+        2 => noted_with(
+            doc,
+            raw,
+            n,
+            value,
+            len,
+            b"length",
+            b"name",
+            b"primitiveType",
+            b"characterEncoding",
+            earlier,
+        ),
+        3 => noted_with(
+            doc,
+            raw,
+            n,
+            value,
+            len,
+            b"name",
+            b"encodingType",
+            b"",
+            b"",
+            earlier,
+        ),
+        _ => noted_with(
+            doc,
+            raw,
+            n,
+            value,
+            len,
+            b"id",
+            b"name",
+            b"type",
+            b"",
+            earlier,
+        ),
+    }
+}
+
+// What is noted with one more attribute, of a known name or another.
+fn noted_by(
+    code: usize,
+    codes: Codes,
+    doc: &[u8],
+    raw: usize,
+    n: usize,
+    value: usize,
+    len: usize,
+    keys: usize,
+    earlier: Notes,
+) -> Notes
+    requires { ⌜ (value < length (now doc)) × CodesOf (keysBy keys) codes × NamedAs (now doc) raw n code ⌝ }
+    ensures { λ r. ⌜ NotedMore (piece (now (doc .entry)) raw n) value len (keysBy keys) earlier r ⌝ }
+{
+    if 0 < code {
+        return noted_known(code, codes, value, len, earlier);
+    }
+    noted_other(doc, raw, n, value, len, keys, earlier)
+}
+
 // Nothing found.
 pub fn nothing() -> Notes
     ensures { λ r. ⌜ r ≡ noNotes ⌝ }
@@ -253,23 +393,17 @@ pub fn noted_of(notes: Notes) -> Noted
 }
 
 // The tag whose attributes begin at `at`: how it ends, and the raw values of the last attributes of four names.
-fn tag_noting(
-    doc: &[u8],
-    at: usize,
-    place: usize,
-    t: &[u8; 256],
-    first: &[u8],
-    second: &[u8],
-    third: &[u8],
-    fourth: &[u8],
-) -> Whole
+fn tag_noting(doc: &[u8], at: usize, place: usize, t: &[u8; 256], keys: usize) -> Whole
     requires { ⌜ IsTable (now t) ⌝ }
-    ensures { λ r. ⌜ (r .ending ≡ tagAt (now (doc .entry)) at place .ending) × NotedBy (record { first = now (first .entry); second = now (second .entry); third = now (third .entry); fourth = now (fourth .entry) }) (now (doc .entry)) at (r .noted) ⌝ }
+    ensures { λ r. ⌜ (r .ending ≡ tagAt (now (doc .entry)) at place .ending) × NotedBy (keysBy keys) (now (doc .entry)) at (r .noted) ⌝ }
 {
+    let codes = codes_of(keys);
     let mut i = at;
     let mut noted = nothing();
     loop {
-        let part = tag_part_in(doc, i, place, t);
+        let quick = quick_part(doc, i, place, t);
+        let code = quick.code;
+        let part = quick.part;
         match part {
             TagPart::Attribute {
                 name,
@@ -278,16 +412,15 @@ fn tag_noting(
                 value_len,
                 next,
             } => {
-                noted = noted_with(
+                noted = noted_by(
+                    code,
+                    codes,
                     doc,
                     name,
                     name_len,
                     value,
                     value_len,
-                    first,
-                    second,
-                    third,
-                    fourth,
+                    keys,
                     noted,
                 );
                 i = next;
@@ -304,30 +437,28 @@ fn tag_noting(
     }
 }
 
+// Which names matter in a tag of the element `name`, by number.
+fn keys_of(name: &[u8]) -> usize
+    ensures { λ r. ⌜ keysBy r ≡ keysOf (now (name .entry)) ⌝ }
+{
+    if texts::equal(name, b"messageSchema") {
+        return 1;
+    }
+    if texts::equal(name, b"type") {
+        return 2;
+    }
+    if texts::equal(name, b"enum") {
+        return 3;
+    }
+    0
+}
+
 // A tag of an element that is called `name`: what is noted are the names that matter there.
 pub fn tag_of(name: &[u8], doc: &[u8], at: usize, place: usize, t: &[u8; 256]) -> Whole
     requires { ⌜ IsTable (now t) ⌝ }
     ensures { λ r. ⌜ (r .ending ≡ tagAt (now (doc .entry)) at place .ending) × NotedBy (keysOf (now (name .entry))) (now (doc .entry)) at (r .noted) ⌝ }
 {
-    if texts::equal(name, b"messageSchema") {
-        return tag_noting(doc, at, place, t, b"id", b"version", b"package", b"");
-    }
-    if texts::equal(name, b"type") {
-        return tag_noting(
-            doc,
-            at,
-            place,
-            t,
-            b"length",
-            b"name",
-            b"primitiveType",
-            b"characterEncoding",
-        );
-    }
-    if texts::equal(name, b"enum") {
-        return tag_noting(doc, at, place, t, b"name", b"encodingType", b"", b"");
-    }
-    tag_noting(doc, at, place, t, b"id", b"name", b"type", b"")
+    tag_noting(doc, at, place, t, keys_of(name))
 }
 
 // The raw value of the last attribute of that name, in the tag whose attributes begin at `at`.
@@ -335,8 +466,39 @@ pub fn attribute(doc: &[u8], at: usize, name: &[u8]) -> Found
     ensures { λ r. ⌜ r ≡ attributeAt (now (doc .entry)) at (now (name .entry)) ⌝ }
 {
     let t = table();
-    // The place matters to refusals alone, and none is told here.
-    let tag = tag_noting(doc, at, 0, &t, name, b"", b"", b"");
-    let noted = noted_of(tag.noted);
-    noted.first
+    let mut i = at;
+    let mut noted = nothing();
+    loop {
+        // The place matters to refusals alone, and none is told here.
+        let part = tag_part_in(doc, i, 0, &t);
+        match part {
+            TagPart::Attribute {
+                name: raw,
+                name_len,
+                value,
+                value_len,
+                next,
+            } => {
+                noted = noted_with(
+                    doc,
+                    raw,
+                    name_len,
+                    value,
+                    value_len,
+                    name,
+                    b"",
+                    b"",
+                    b"",
+                    noted,
+                );
+                i = next;
+            }
+            TagPart::TagEnd { next, self_closed } => {
+                return found_of(noted.first, noted.len1);
+            }
+            TagPart::Bad(refusal) => {
+                return found_of(noted.first, noted.len1);
+            }
+        }
+    }
 }

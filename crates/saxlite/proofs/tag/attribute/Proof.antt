@@ -1,48 +1,114 @@
 use Rattle.saxlite.proofs.Laws.{laws}
+use Prim.Native.Nat.{_-_}
+use lib.ListN.{length}
+use Rattle.classes.specs.Table.{IsTable}
+use Rattle.saxlite.specs.Noting.{foundAt}
+use Rattle.saxlite.proofs.Looking.{Looking, looking-start}
 use Rattle.saxlite.proofs.tag.attribute.Statement.{statement}
 use Rattle.saxlite.proofs.tag.attribute.Tie as tie
 use Rattle.saxlite.proofs.tag.attribute.Reads as reads
 use Rattle.saxlite.proofs.tag.attribute.Lts as lts
 use Rattle.classes.proofs.table.Reads as table-reads
-use Rattle.saxlite.proofs.tag.noted_of.Reads as noted-of-reads
-use Rattle.saxlite.proofs.tag.tag_noting.Reads as tag-noting-reads
+use Rattle.saxlite.proofs.tag.found_of.Reads as found-of-reads
+use Rattle.saxlite.proofs.tag.noted_with.Reads as noted-with-reads
+use Rattle.saxlite.proofs.tag.nothing.Reads as nothing-reads
+use Rattle.saxlite.proofs.tag.tag_part_in.Reads as tag-part-in-reads
 
--- src/tag.rt:339:13
-table-requires : tie.Need-table-requires
+abbrev Inv-loop : tie.InvT-loop
+Inv-loop doc at name t i₀ noted₀ t16 t17 t18 i noted = Looking doc at name i (foundAt (noted .first) (noted .len1)) × IsTable t
+
+abbrev μ-loop : tie.MeasureT-loop
+μ-loop doc at name t i₀ noted₀ t16 t17 t18 i noted = length doc - i
+
+-- src/tag.rt:464:13
+table-requires : tie.Need-table-requires Inv-loop μ-loop
 table-requires c κs = search laws
 
--- src/tag.rt:341:48
-slice-aggregate-tag-noting : tie.Need-slice-aggregate-tag-noting
-slice-aggregate-tag-noting c = search laws
+-- src/tag.rt:466:9
+nothing-requires : tie.Need-nothing-requires Inv-loop μ-loop
+nothing-requires c κs = search laws
 
--- src/tag.rt:341:53
-slice-aggregate-tag-noting-2 : tie.Need-slice-aggregate-tag-noting-2
-slice-aggregate-tag-noting-2 c = search laws
+-- src/tag.rt:467:5
+loop-holds : tie.Need-loop-holds Inv-loop μ-loop
+unfolding foundAt
+loop-holds c = let e = c .nothing .ensures in (rw e looking-start, search laws)
 
--- src/tag.rt:341:58
-slice-aggregate-tag-noting-3 : tie.Need-slice-aggregate-tag-noting-3
-slice-aggregate-tag-noting-3 c = search laws
+-- src/tag.rt:469:13
+tag-part-in-requires : tie.Need-tag-part-in-requires Inv-loop μ-loop
+tag-part-in-requires c κs = search laws
 
--- src/tag.rt:341:9
-tag-noting-requires : tie.Need-tag-noting-requires
-tag-noting-requires c κs = search laws
+-- src/tag.rt:472:23
+enum-known-part : tie.Need-enum-known-part Inv-loop μ-loop
+enum-known-part c = search laws
 
--- src/tag.rt:342:9
-noted-of-requires : tie.Need-noted-of-requires
-noted-of-requires c κs = search laws
+-- src/tag.rt:485:21
+slice-aggregate-noted-with : tie.Need-slice-aggregate-noted-with Inv-loop μ-loop
+slice-aggregate-noted-with c = search laws
 
--- src/tag.rt:336:1
-returns : tie.Need-returns
+-- src/tag.rt:486:21
+slice-aggregate-noted-with-2 : tie.Need-slice-aggregate-noted-with-2 Inv-loop μ-loop
+slice-aggregate-noted-with-2 c = search laws
+
+-- src/tag.rt:487:21
+slice-aggregate-noted-with-3 : tie.Need-slice-aggregate-noted-with-3 Inv-loop μ-loop
+slice-aggregate-noted-with-3 c = search laws
+
+-- src/tag.rt:478:17
+noted-with-requires : tie.Need-noted-with-requires Inv-loop μ-loop
+noted-with-requires c κs = search laws
+
+-- src/tag.rt:467:5
+loop-less : tie.Need-loop-less Inv-loop μ-loop
+loop-less c = search laws
+
+-- src/tag.rt:467:5
+loop-again : tie.Need-loop-again Inv-loop μ-loop
+loop-again c = (search laws, search laws)
+
+-- src/tag.rt:492:31
+enum-known-part-2 : tie.Need-enum-known-part-2 Inv-loop μ-loop
+enum-known-part-2 c = search laws
+
+-- src/tag.rt:493:17
+found-of-requires : tie.Need-found-of-requires Inv-loop μ-loop
+found-of-requires c κs = search laws
+
+-- src/tag.rt:493:17
+returns : tie.Need-returns Inv-loop μ-loop
 returns c = search laws
+
+-- src/tag.rt:495:26
+enum-known-part-3 : tie.Need-enum-known-part-3 Inv-loop μ-loop
+enum-known-part-3 c = search laws
+
+-- src/tag.rt:496:17
+found-of-requires-2 : tie.Need-found-of-requires-2 Inv-loop μ-loop
+found-of-requires-2 c κs = search laws
+
+-- src/tag.rt:496:17
+returns-2 : tie.Need-returns-2 Inv-loop μ-loop
+returns-2 c = search laws
 
 pub attribute-spec : {M : Type 1} → statement M
 attribute-spec =
     tie.close
     (tie.spec
+    Inv-loop
+    μ-loop
     table-requires
-    slice-aggregate-tag-noting
-    slice-aggregate-tag-noting-2
-    slice-aggregate-tag-noting-3
-    tag-noting-requires
-    noted-of-requires
-    returns)
+    nothing-requires
+    loop-holds
+    tag-part-in-requires
+    enum-known-part
+    slice-aggregate-noted-with
+    slice-aggregate-noted-with-2
+    slice-aggregate-noted-with-3
+    noted-with-requires
+    loop-less
+    loop-again
+    enum-known-part-2
+    found-of-requires
+    returns
+    enum-known-part-3
+    found-of-requires-2
+    returns-2)

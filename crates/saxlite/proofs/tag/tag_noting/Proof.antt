@@ -1,51 +1,69 @@
 use Rattle.saxlite.proofs.Laws.{laws}
 use Prim.Native.Nat.{_-_}
 use lib.ListN.{length}
-use Rattle.saxlite.specs.Noting.{foundAt}
+use Rattle.saxlite.specs.Known.{keysBy, CodesOf}
 use Rattle.saxlite.proofs.Tagging.{Going}
-use Rattle.saxlite.proofs.Looking.{Looking, looking-start}
+use Rattle.saxlite.proofs.Knowing.{LookingAll}
 use Rattle.saxlite.proofs.tag.tag_noting.Statement.{statement}
 use Rattle.saxlite.proofs.tag.tag_noting.Tie as tie
+use Rattle.saxlite.proofs.tag.tag_noting.Reads as reads
+use Rattle.saxlite.proofs.tag.tag_noting.Lts as lts
+use Rattle.saxlite.proofs.known.codes_of.Reads as codes-of-reads
+use Rattle.saxlite.proofs.tag.noted_by.Reads as noted-by-reads
+use Rattle.saxlite.proofs.tag.nothing.Reads as nothing-reads
+use Rattle.saxlite.proofs.tag.quick_part.Reads as quick-part-reads
 
 abbrev Inv-loop : tie.InvT-loop
-Inv-loop doc at place t first second third fourth i₀ noted₀ i noted = Going doc at place i × Looking doc at first i (foundAt (noted .first) (noted .len1)) × Looking doc at second i (foundAt (noted .second) (noted .len2)) × Looking doc at third i (foundAt (noted .third) (noted .len3)) × Looking doc at fourth i (foundAt (noted .fourth) (noted .len4))
+Inv-loop doc at place t keys codes i₀ noted₀ i noted = Going doc at place i × LookingAll doc at (keysBy keys) i noted × CodesOf (keysBy keys) codes
 
 abbrev μ-loop : tie.MeasureT-loop
-μ-loop doc at place t first second third fourth i₀ noted₀ i noted = length doc - i
+μ-loop doc at place t keys codes i₀ noted₀ i noted = length doc - i
 
+-- src/tag.rt:396:9
+codes-of-requires : tie.Need-codes-of-requires Inv-loop μ-loop
+codes-of-requires c κs = search laws
+
+-- src/tag.rt:398:9
 nothing-requires : tie.Need-nothing-requires Inv-loop μ-loop
 nothing-requires c κs = search laws
 
+-- src/tag.rt:399:5
 loop-holds : tie.Need-loop-holds Inv-loop μ-loop
-unfolding foundAt
-loop-holds c =
-    let e = c .nothing .ensures in
-    (search laws, rw e looking-start, rw e looking-start, rw e looking-start, rw e looking-start)
+loop-holds c = (search laws, search laws, search laws)
 
-tag-part-in-requires : tie.Need-tag-part-in-requires Inv-loop μ-loop
-tag-part-in-requires c κs = search laws
+-- src/tag.rt:400:13
+quick-part-requires : tie.Need-quick-part-requires Inv-loop μ-loop
+quick-part-requires c κs = search laws
 
+-- src/tag.rt:405:17
 enum-known-part : tie.Need-enum-known-part Inv-loop μ-loop
 enum-known-part c = search laws
 
-noted-with-requires : tie.Need-noted-with-requires Inv-loop μ-loop
-noted-with-requires c κs = search laws
+-- src/tag.rt:411:17
+noted-by-requires : tie.Need-noted-by-requires Inv-loop μ-loop
+noted-by-requires c κs = search laws
 
+-- src/tag.rt:399:5
 loop-less : tie.Need-loop-less Inv-loop μ-loop
 loop-less c = search laws
 
+-- src/tag.rt:399:5
 loop-again : tie.Need-loop-again Inv-loop μ-loop
-loop-again c = (search laws, search laws, search laws, search laws, search laws)
+loop-again c = (search laws, search laws, search laws)
 
+-- src/tag.rt:424:31
 enum-known-part-2 : tie.Need-enum-known-part-2 Inv-loop μ-loop
 enum-known-part-2 c = search laws
 
+-- src/tag.rt:426:17
 returns : tie.Need-returns Inv-loop μ-loop
 returns c = search laws
 
+-- src/tag.rt:428:26
 enum-known-part-3 : tie.Need-enum-known-part-3 Inv-loop μ-loop
 enum-known-part-3 c = search laws
 
+-- src/tag.rt:430:17
 returns-2 : tie.Need-returns-2 Inv-loop μ-loop
 returns-2 c = search laws
 
@@ -55,11 +73,12 @@ tag-noting-spec =
     (tie.spec
     Inv-loop
     μ-loop
+    codes-of-requires
     nothing-requires
     loop-holds
-    tag-part-in-requires
+    quick-part-requires
     enum-known-part
-    noted-with-requires
+    noted-by-requires
     loop-less
     loop-again
     enum-known-part-2

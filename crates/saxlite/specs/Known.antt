@@ -1,0 +1,78 @@
+-- Attributes whose names are known beforehand, by numbers from 1 on; 0 is none. Internal.
+use mathlib.Core.Path.{_≡_}
+use mathlib.Core.Bool.{Bool, true, false}
+use mathlib.Core.List.{List, [], _∷_, _++_}
+use Prim.Native.Nat.{ℕ, zero, suc, _+_, _<_}
+use lib.Dec.{T, eqb, leb}
+use lib.ListN.{length, drop}
+use Rattle.texts.specs.Choice.{pick, _and_}
+use Rattle.texts.specs.Text.{ascii, piece, same, startsWith}
+use Rattle.saxlite.specs.declared.known.Known.{Known}
+use Rattle.saxlite.specs.declared.known.Codes.{Codes}
+use Rattle.saxlite.specs.declared.tag.TagPart.{TagPart}
+use Rattle.saxlite.specs.declared.tag.TagPart.the-variants.{Attribute as Part, TagEnd, Bad}
+use Rattle.saxlite.specs.declared.tag.Quick.{Quick}
+use Rattle.saxlite.specs.declared.tag.Notes.{Notes}
+use Rattle.saxlite.specs.Attributes.{tagPartAt, later}
+use Rattle.saxlite.specs.Noting.{Keys, schemaKeys, typeKeys, enumKeys, fieldKeys, foundAt, valueIfNamed}
+
+abbrev nth : List (List ℕ) → ℕ → List ℕ
+nth [] k = []
+nth (w ∷ ws) zero = w
+nth (w ∷ ws) (suc k) = nth ws k
+
+abbrev pub knownName : ℕ → List ℕ
+knownName = nth ([] ∷ ascii "name" ∷ ascii "id" ∷ ascii "type" ∷ ascii "length" ∷ ascii "primitiveType" ∷ ascii "encodingType" ∷ ascii "characterEncoding" ∷ ascii "description" ∷ ascii "semanticType" ∷ ascii "offset" ∷ ascii "blockLength" ∷ ascii "presence" ∷ ascii "sinceVersion" ∷ [])
+
+-- as it is nearly always written
+abbrev pub knownText : ℕ → List ℕ
+knownText code = knownName code ++ ascii "=\""
+
+-- r is none, or what stands at `at`
+pub record KnownAt (doc : List ℕ) (at : ℕ) (r : Known) : Type 0 where
+  pub numbered : r .code < 14
+  pub stands : 0 < r .code → startsWith (knownText (r .code)) (drop at doc) ≡ true
+  pub length : 0 < r .code → r .len ≡ length (knownName (r .code))
+
+-- ---- the names that matter in a tag, by a number and by their numbers
+
+abbrev pub keysBy : ℕ → Keys
+keysBy n = pick (eqb n 1) schemaKeys (pick (eqb n 2) typeKeys (pick (eqb n 3) enumKeys fieldKeys))
+
+-- a test holds of 1 to n
+abbrev pub upTo : ℕ → (ℕ → Bool) → Bool
+upTo zero p = true
+upTo (suc n) p = p (suc n) and upTo n p
+
+-- c is the number of the key, or of none where the key is not known; the names up to 7 are those that matter in some tag
+abbrev pub codes : List ℕ → ℕ → Bool
+codes key c = leb c 7 and upTo 13 (λ k. pick (eqb k c) (same (knownName k) key) (pick (same (knownName k) key) false true))
+
+pub record CodesOf (k : Keys) (c : Codes) : Type 0 where
+  pub first : T (codes (k .first) (c .first))
+  pub second : T (codes (k .second) (c .second))
+  pub third : T (codes (k .third) (c .third))
+  pub fourth : T (codes (k .fourth) (c .fourth))
+
+-- ---- a part of a tag
+
+-- the attribute has the name of that number
+abbrev pub Named : List ℕ → ℕ → TagPart → Type 0
+Named doc code (Part name n value len next) = (code < 14) × (piece doc name n ≡ knownName code)
+Named doc code (TagEnd next closed) = Unit {0}
+Named doc code (Bad refusal) = Unit {0}
+
+pub record QuickAt (doc : List ℕ) (at place : ℕ) (r : Quick) : Type 0 where
+  pub is : r .part ≡ tagPartAt doc at place
+  pub named : 0 < r .code → Named doc (r .code) (r .part)
+
+-- a raw name is that of the number
+pub record NamedAs (doc : List ℕ) (name n code : ℕ) : Type 0 where
+  pub named : 0 < code → (code < 14) × (piece doc name n ≡ knownName code)
+
+-- what is noted under the four names after one more attribute with that raw name
+pub record NotedMore (raw : List ℕ) (value len : ℕ) (k : Keys) (was r : Notes) : Type 0 where
+  pub first : foundAt (r .first) (r .len1) ≡ later (valueIfNamed raw value len (k .first)) (foundAt (was .first) (was .len1))
+  pub second : foundAt (r .second) (r .len2) ≡ later (valueIfNamed raw value len (k .second)) (foundAt (was .second) (was .len2))
+  pub third : foundAt (r .third) (r .len3) ≡ later (valueIfNamed raw value len (k .third)) (foundAt (was .third) (was .len3))
+  pub fourth : foundAt (r .fourth) (r .len4) ≡ later (valueIfNamed raw value len (k .fourth)) (foundAt (was .fourth) (was .len4))
