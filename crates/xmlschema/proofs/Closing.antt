@@ -232,19 +232,16 @@ closed-no : (place : ℕ) (name : List ℕ) (b : Builder) → same name (top (b 
 unfolding closed
 closed-no place name b t = rw t
 
-module _ (place name len : ℕ) (s : State) (doc rec text : List ℕ) {w u : List ℕ} (ew : w ≡ piece doc name len) (eu : u ≡ top (stackOf (s .place .depth) rec doc)) {b : Bool} (eb : b ≡ same w u) where
-  told : same (piece doc name len) (top (stackOf (s .place .depth) rec doc)) ≡ b
-  told = sym (eb ∙ ap (λ x. same x u) ew ∙ ap (same (piece doc name len)) eu)
-
+module _ (place name len : ℕ) (s : State) (doc rec text : List ℕ) {b : Bool} (eb : b ≡ same (piece doc name len) (top (stackOf (s .place .depth) rec doc))) where
   pub close-wrong : b ≡ false → After (closed place (piece doc name len) (builderOf s doc rec text)) s 0 doc (record { state = s; verdict = Refused (WrongClose place) }) rec text
-  close-wrong f = after-refused s 0 doc rec text (WrongClose place) refl (closed-no place (piece doc name len) (builderOf s doc rec text) (told ∙ f))
+  close-wrong f = after-refused s 0 doc rec text (WrongClose place) refl (closed-no place (piece doc name len) (builderOf s doc rec text) (sym eb ∙ f))
 
-  pub close-right : b ≡ true → {e : Element} → e ≡ elementOf w → {p : State} → p ≡ higher s → {a : Stepped} {rec′ text′ : List ℕ} → After (on (closeBy e (builderOf p doc rec text))) p 0 doc a rec′ text′ → After (closed place (piece doc name len) (builderOf s doc rec text)) s 0 doc a rec′ text′
-  close-right t {e} ee {p} ep f =
+  pub close-right : b ≡ true → {w : List ℕ} → w ≡ piece doc name len → {e : Element} → e ≡ elementOf w → {p : State} → p ≡ higher s → {a : Stepped} {rec′ text′ : List ℕ} → After (on (closeBy e (builderOf p doc rec text))) p 0 doc a rec′ text′ → After (closed place (piece doc name len) (builderOf s doc rec text)) s 0 doc a rec′ text′
+  close-right t ew {e} ee {p} ep f =
       let q : on (closeBy e (builderOf p doc rec text)) ≡ closed place (piece doc name len) (builderOf s doc rec text) =
       ap (λ x. on (closeBy e x)) (pop-builder s p doc rec text ep)
       ∙ ap (λ x. on (closeBy x (withStack (rest (stackOf (s .place .depth) rec doc)) (builderOf s doc rec text)))) (ee ∙ ap elementOf ew)
-      ∙ closed-yes place (piece doc name len) (builderOf s doc rec text) (told ∙ t) in
+      ∙ closed-yes place (piece doc name len) (builderOf s doc rec text) (sym eb ∙ t) in
       let c = after-as q f in
       record { is = c .is; kept = c .kept; used = λ x. omega (arith, c .used x, ap usedBy ep) }
 

@@ -4,7 +4,7 @@ use Rattle.texts.proofs.Pieces.{byte-past}
 use Rattle.xmlschema.proofs.Showing.{count-shown, item-shown, no-item-shown, package-shown, name-shown, second-shown, encoding-shown}
 use Rattle.xmlschema.proofs.Searching.{kind-and, kind-named, kind-not, seeking-start, seeking-on, next-none, next-found, next-under-none, next-under-found, backward-start, named-on, last-none, last-found, any-start, any-on, any-none, any-found}
 use Rattle.xmlschema.proofs.Takes.{value-least, taken-absent, taken-value, taken-none, number-absent, number-value, number-none, given-not, given-yes, made-named, made-typed, made-type}
-use Rattle.xmlschema.proofs.Stacking.{top-none, top-some, pop-none, pop-kept}
+use Rattle.xmlschema.proofs.Stacking.{top-none, top-some, top-here, top-same, pop-none, pop-kept}
 use Rattle.xmlschema.proofs.Adding.{after-refused, after-same, add-full, add-fine, made-kept, made-steady, made-added, made-low, made-high}
 use Rattle.xmlschema.proofs.Opening.{number-room, high-text, high-top, ready-high, type-ready, named-ready, field-ready, enum-ready, number-ready, number-kept, bad-message, bad-group, bad-field, bad-type, bad-id, bad-version, ref-dropped, member-dropped, group-dropped, field-dropped, ref-on, composite-on, enum-on, value-on, value-lost, member-on, type-on, message-on, group-on, field-message, field-group, field-misplaced}
 use Rattle.xmlschema.proofs.Dispatching.{version-room, package-high, package-text, package-fits, package-long, schema-on, owner-shown, owner-none, by-schema, by-type, by-ref, by-composite, by-enum, by-value, by-message, by-group, by-field, by-other, open-deep, pushed-ready, open-done}
@@ -17,7 +17,7 @@ pub ruleset laws = (byte-past, count-shown, item-shown, no-item-shown, package-s
 
 pub ruleset taking = (value-least, taken-absent, taken-value, taken-none, number-absent, number-value, number-none, given-not, given-yes, made-named, made-typed, made-type, needs)
 
-pub ruleset stacking = (top-none, top-some, pop-none, needs)
+pub ruleset stacking = (top-none, top-some, top-here, top-same, pop-none, needs)
 
 pub ruleset opening = (after-refused, after-same, add-full, add-fine, made-kept, made-steady, made-added, made-low, made-high, number-room, high-text, high-top, ready-high, type-ready, named-ready, field-ready, enum-ready, number-ready, number-kept, bad-message, bad-group, bad-field, bad-type, bad-id, bad-version, ref-dropped, member-dropped, group-dropped, field-dropped, ref-on, composite-on, enum-on, value-on, value-lost, member-on, type-on, message-on, group-on, field-message, field-group, field-misplaced, version-room, package-high, package-text, package-fits, package-long, schema-on, owner-shown, owner-none, needs)
 

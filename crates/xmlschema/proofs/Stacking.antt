@@ -1,12 +1,14 @@
 -- Laws of the stack of open names.
 use mathlib.Core.Path.{_≡_, refl, sym, ap, _∙_}
+use mathlib.Core.Bool.{Bool, true}
 use mathlib.Core.List.{List, [], _∷_}
 use Prim.Native.Nat.{ℕ, zero, suc, _+_, _*_, _-_, _≤_, _<_}
 use native.Mathlib.Numerals.{add-one}
 use native.Mathlib.Omega.{arith}
 use lib.ListN.{length, getD, set, length-set}
 use lib.Seq.{sets, getD-set-same, getD-set-other}
-use Rattle.texts.specs.Text.{piece}
+use Rattle.texts.specs.Text.{piece, same}
+use Rattle.texts.proofs.Comparing.{equal-same}
 use Rattle.texts.proofs.Stores.{getD-sets-above}
 use Rattle.xmlschema.specs.Builder.{top, rest, withStack}
 use Rattle.xmlschema.specs.Store.{entryAt, wordsOf, itemsOf, schemaOf}
@@ -92,6 +94,13 @@ top-some w doc rec zero a b h e ea eb = absurd (h refl)
 top-some w doc rec (suc d) a b h e ea eb =
     let z : suc d - 1 ≡ d = omega arith in
     e ∙ rw (rw z at ea, rw z at eb)
+
+-- a name is the innermost one: where it is the same range, or the same text
+pub top-here : (doc rec : List ℕ) (d name len : ℕ) → 0 < d → {a b : ℕ} → a ≡ getD rec (15360 + 2 * (d - 1)) 0 → a ≡ name → b ≡ getD rec (15360 + 2 * (d - 1) + 1) 0 → b ≡ len → true ≡ same (piece doc name len) (top (stackOf d rec doc))
+top-here doc rec d name len h e i f j = sym (equal-same (top-some (piece doc name len) doc rec d name len (λ z. omega arith) refl (sym i ∙ e) (sym j ∙ f)))
+
+pub top-same : (doc rec : List ℕ) (d name len : ℕ) {v w : List ℕ} → v ≡ piece doc name len → w ≡ top (stackOf d rec doc) → {b : Bool} → b ≡ same v w → b ≡ same (piece doc name len) (top (stackOf d rec doc))
+top-same doc rec d name len e f g = rw (← e, ← f) g
 
 pub pop-none : (s : State) → s .place .depth ≡ 0 → s ≡ higher s
 pop-none s h =

@@ -5,8 +5,8 @@ use crate::items::VALUE;
 use crate::items::entry_at;
 use crate::items::last_under;
 use crate::items::put_entry;
+use crate::stack::is_top;
 use crate::stack::pop;
-use crate::stack::top_name;
 use crate::state::Current;
 use crate::state::Place;
 use crate::state::State;
@@ -18,7 +18,6 @@ use refusals::Refusal;
 use saxlite::entities::Decoded;
 use saxlite::entities::decode;
 use texts::Range;
-use texts::equal;
 use texts::part;
 use texts::trim_range;
 ghost use mathlib.Core.Path.{_≡_};
@@ -165,9 +164,8 @@ pub fn on_close(
     requires { ⌜ Kept s (now rec) (now text) ⌝ }
     ensures { λ r. ⌜ After (closed place (piece (now (doc .entry)) name len) (builderOf s (now (doc .entry)) (now (rec .entry)) (now (text .entry)))) s 0 (now (doc .entry)) r (now (rec .exit)) (now (text .entry)) ⌝ }
 {
-    let closing = part(doc, name, len);
-    if equal(closing, top_name(s.place.depth, doc, rec)) {
-        let e = element_of(closing);
+    if is_top(s.place.depth, name, len, doc, rec) {
+        let e = element_of(part(doc, name, len));
         let p = pop(s);
         return close_by(p, e, doc, rec, text);
     }

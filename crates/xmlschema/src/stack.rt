@@ -2,10 +2,12 @@
 use crate::items::word;
 use crate::state::Place;
 use crate::state::State;
+use texts::equal;
 use texts::part;
 ghost use mathlib.Core.Path.{_≡_};
 ghost use Prim.Native.Nat.{_+_, _≤_, _<_};
 ghost use lib.ListN.{length};
+ghost use Rattle.texts.specs.Text.{piece, same};
 ghost use Rattle.xmlschema.specs.Builder.{top};
 ghost use Rattle.xmlschema.specs.Layout.{stackOf, deeper, pushed, higher};
 
@@ -49,6 +51,23 @@ pub fn top_name<'a>(depth: usize, doc: &'a [u8], rec: &[u32]) -> &'a [u8]
     let from = word(rec, k) as usize;
     let len = word(rec, k1) as usize;
     part(doc, from, len)
+}
+
+// Whether the name at `name` is the innermost open one: at once, where a self-closed tag closes itself.
+pub fn is_top(depth: usize, name: usize, len: usize, doc: &[u8], rec: &[u32]) -> bool
+    requires { ⌜ depth ≤ 64 ⌝ }
+    ensures { λ r. ⌜ r ≡ same (piece (now (doc .entry)) name len) (top (stackOf depth (now (rec .entry)) (now (doc .entry)))) ⌝ }
+{
+    if 0 < depth {
+        let k = 15360 + 2 * (depth - 1);
+        let k1 = k + 1;
+        if word(rec, k) as usize == name {
+            if word(rec, k1) as usize == len {
+                return true;
+            }
+        }
+    }
+    equal(part(doc, name, len), top_name(depth, doc, rec))
 }
 
 pub fn pop(s: State) -> State

@@ -3,50 +3,45 @@ use Rattle.xmlschema.proofs.close.on_close.Statement.{statement}
 use Rattle.xmlschema.proofs.close.on_close.Tie as tie
 use Rattle.xmlschema.proofs.close.on_close.Reads as reads
 use Rattle.xmlschema.proofs.close.on_close.Lts as lts
-use Rattle.texts.proofs.equal.Reads as equal-reads
+use Rattle.elements.proofs.element_of.Reads as element-of-reads
 use Rattle.texts.proofs.part.Reads as part-reads
 use Rattle.xmlschema.proofs.close.close_by.Reads as close-by-reads
-use Rattle.elements.proofs.element_of.Reads as element-of-reads
+use Rattle.xmlschema.proofs.stack.is_top.Reads as is-top-reads
 use Rattle.xmlschema.proofs.stack.pop.Reads as pop-reads
-use Rattle.xmlschema.proofs.stack.top_name.Reads as top-name-reads
 
--- src/close.rt:162:9
+-- src/close.rt:167:8
+is-top-requires : tie.Need-is-top-requires
+is-top-requires c κs = search closing
+
+-- src/close.rt:168:28
 part-requires : tie.Need-part-requires
 part-requires c κs = search closing
 
--- src/close.rt:163:23
-top-name-requires : tie.Need-top-name-requires
-top-name-requires c κs = search closing
-
--- src/close.rt:163:8
-equal-requires : tie.Need-equal-requires
-equal-requires c κs = search closing
-
--- src/close.rt:164:13
+-- src/close.rt:168:13
 element-of-requires : tie.Need-element-of-requires
 element-of-requires c κs = search closing
 
--- src/close.rt:165:13
+-- src/close.rt:169:13
 pop-requires : tie.Need-pop-requires
 pop-requires c κs = search closing
 
--- src/close.rt:166:9
+-- src/close.rt:170:9
 close-by-requires : tie.Need-close-by-requires
 close-by-requires c κs = search closing
 
--- src/close.rt:166:9
+-- src/close.rt:170:9
 same-length : tie.Need-same-length
 same-length c = search closing
 
--- src/close.rt:166:9
+-- src/close.rt:170:9
 returns : tie.Need-returns
 returns c = search closing
 
--- src/close.rt:158:1
+-- src/close.rt:155:1
 same-length-2 : tie.Need-same-length-2
 same-length-2 c = search closing
 
--- src/close.rt:158:1
+-- src/close.rt:155:1
 returns-2 : tie.Need-returns-2
 returns-2 c = search closing
 
@@ -54,9 +49,8 @@ pub on-close-spec : {M : Type 1} → statement M
 on-close-spec =
     tie.close
     (tie.spec
+    is-top-requires
     part-requires
-    top-name-requires
-    equal-requires
     element-of-requires
     pop-requires
     close-by-requires
