@@ -1,0 +1,5 @@
+-- Laws of words: what this crate's proofs cite, and what the crates above need.
+pub mod Digits
+pub mod Lanes
+pub mod Finding
+pub mod Laws

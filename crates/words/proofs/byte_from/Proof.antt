@@ -1,0 +1,72 @@
+use Prim.Native.Nat.{_-_, _≤_}
+use lib.ListN.{length}
+use Rattle.texts.specs.Scan.{until, is}
+use Rattle.texts.proofs.Scanning.{Scanning}
+use Rattle.words.proofs.Laws.{laws}
+use Rattle.words.proofs.byte_from.Statement.{statement}
+use Rattle.words.proofs.byte_from.Tie as tie
+use Rattle.words.proofs.byte_from.Reads as reads
+use Rattle.words.proofs.byte_from.Lts as lts
+use Rattle.words.proofs.byte_each.Reads as byte-each-reads
+use Rattle.words.proofs.marks.Reads as marks-reads
+
+abbrev Inv-loop : tie.InvT-loop
+Inv-loop s at x i₀ i = Scanning (until (is x)) s at i × (i ≤ length s)
+
+abbrev μ-loop : tie.MeasureT-loop
+μ-loop s at x i₀ i = length s - i
+
+returns : tie.Need-returns Inv-loop μ-loop
+returns c = search laws
+
+loop-holds : tie.Need-loop-holds Inv-loop μ-loop
+loop-holds c = search laws
+
+add-loop : tie.Need-add-loop Inv-loop μ-loop
+add-loop c = search laws
+
+marks-requires : tie.Need-marks-requires Inv-loop μ-loop
+marks-requires c κs = search laws
+
+cast-result : tie.Need-cast-result Inv-loop μ-loop
+cast-result c = search laws
+
+add-result : tie.Need-add-result Inv-loop μ-loop
+add-result c = search laws
+
+returns-2 : tie.Need-returns-2 Inv-loop μ-loop
+returns-2 c = search laws
+
+add-i : tie.Need-add-i Inv-loop μ-loop
+add-i c = search laws
+
+loop-less : tie.Need-loop-less Inv-loop μ-loop
+loop-less c = search laws
+
+loop-again : tie.Need-loop-again Inv-loop μ-loop
+loop-again c = search laws
+
+byte-each-requires : tie.Need-byte-each-requires Inv-loop μ-loop
+byte-each-requires c κs = search laws
+
+returns-3 : tie.Need-returns-3 Inv-loop μ-loop
+returns-3 c = search laws
+
+pub byte-from-spec : {M : Type 1} → statement M
+byte-from-spec =
+    tie.close
+    (tie.spec
+    Inv-loop
+    μ-loop
+    returns
+    loop-holds
+    add-loop
+    marks-requires
+    cast-result
+    add-result
+    returns-2
+    add-i
+    loop-less
+    loop-again
+    byte-each-requires
+    returns-3)

@@ -1,0 +1,3 @@
+-- Eight bytes as one number.
+pub mod Word
+pub mod Marks

@@ -1,0 +1,91 @@
+// Words: eight bytes of a lent slice at once, as one number.
+//
+// `word_at` gives the number of the eight bytes at a place, the first one lowest (specs/Word.antt); a word tells its
+// bytes (proofs/Digits.antt). By words `byte_from` finds where a byte first stands, whatever the bytes are, and
+// `lacks_word` tells that it is not among eight. What looks at one word asks that eight bytes are there, and no more.
+ghost use mathlib.Core.Path.{_≡_};
+ghost use mathlib.Core.Bool.{true};
+ghost use Prim.Native.Nat.{_+_, _≤_, _<_};
+ghost use lib.ListN.{length};
+ghost use Rattle.texts.specs.Text.{piece};
+ghost use Rattle.texts.specs.Scan.{scan, until, is};
+ghost use Rattle.words.specs.Word.{IsWord};
+ghost use Rattle.words.specs.Marks.{Marked};
+
+// A 1, the seven low bits, and the high bit, in each of the eight bytes.
+const ONES: u64 = 0x0101_0101_0101_0101;
+
+const LOW: u64 = 0x7f7f_7f7f_7f7f_7f7f;
+
+const HIGH: u64 = 0x8080_8080_8080_8080;
+
+fn wide(b: u8) -> u64
+    ensures { λ r. ⌜ (r ≡ b) × (b < 256) ⌝ }
+{
+    b as u64
+}
+
+// The number of the 8 bytes from `i` on, the first one lowest. Written as this sum it is one load.
+pub fn word_at(s: &[u8], i: usize) -> u64
+    requires { ⌜ i + 8 ≤ length (now s) ⌝ }
+    ensures { λ r. ⌜ IsWord (piece (now (s .entry)) i 8) r ⌝ }
+{
+    wide(s[i])
+        + wide(s[i + 1]) * 256
+        + wide(s[i + 2]) * 65536
+        + wide(s[i + 3]) * 16777216
+        + wide(s[i + 4]) * 4294967296
+        + wide(s[i + 5]) * 1099511627776
+        + wide(s[i + 6]) * 281474976710656
+        + wide(s[i + 7]) * 72057594037927936
+}
+
+// The high bit of each of the 8 bytes from `i` on that is `x`, and no other bit. No byte carries into the next.
+fn marks(s: &[u8], i: usize, x: u8) -> u64
+    requires { ⌜ i + 8 ≤ length (now s) ⌝ }
+    ensures { λ r. ⌜ Marked x (now (s .entry)) i r ⌝ }
+{
+    let differs = word_at(s, i) ^ (wide(x) * ONES);
+    let full = ((differs & LOW) + LOW) | differs;
+    HIGH - (full & HIGH)
+}
+
+// Whether none of the 8 bytes from `i` on is `x`.
+pub fn lacks_word(s: &[u8], i: usize, x: u8) -> bool
+    requires { ⌜ i + 8 ≤ length (now s) ⌝ }
+    ensures { λ r. ⌜ (r ≡ true → scan (until (is x)) (now (s .entry)) (i + 8) ≡ scan (until (is x)) (now (s .entry)) i) ⌝ }
+{
+    marks(s, i, x) == 0
+}
+
+// Where the first `x` from `at` on stands, or the end, byte by byte.
+fn byte_each(s: &[u8], at: usize, x: u8) -> usize
+    ensures { λ r. ⌜ r ≡ scan (until (is x)) (now (s .entry)) at ⌝ }
+{
+    let mut i = at;
+    while i < s.len() {
+        if s[i] == x {
+            return i;
+        }
+        i += 1;
+    }
+    i
+}
+
+// Where the first `x` from `at` on stands, or the end.
+pub fn byte_from(s: &[u8], at: usize, x: u8) -> usize
+    ensures { λ r. ⌜ r ≡ scan (until (is x)) (now (s .entry)) at ⌝ }
+{
+    if s.len() <= at {
+        return at;
+    }
+    let mut i = at;
+    while i + 8 <= s.len() {
+        let m = marks(s, i, x);
+        if m != 0 {
+            return i + (u64::trailing_zeros(m) / 8) as usize;
+        }
+        i += 8;
+    }
+    byte_each(s, i, x)
+}
