@@ -104,14 +104,7 @@ pub fn lacking_to(s: &[u8], from: usize, x: u8) -> usize
 pub fn byte_from(doc: &[u8], at: usize, b: u8) -> usize
     ensures { λ r. ⌜ r ≡ scan (until (is b)) (now (doc .entry)) at ⌝ }
 {
-    let mut i = lacking_to(doc, at, b);
-    while i < doc.len() {
-        if doc[i] == b {
-            return i;
-        }
-        i += 1;
-    }
-    i
+    words::byte_from(doc, at, b)
 }
 
 // Where a text occurs.
