@@ -1,29 +1,26 @@
 -- Laws of entities and of decoding.
-use mathlib.Core.Path.{_≡_, refl, sym, ap, subst, _∙_}
-use mathlib.Core.Bool.{Bool, true, false, not}
-use mathlib.Core.List.{List, [], _∷_, _++_}
+use mathlib.Core.Path.{_≡_, refl, sym, subst, _∙_}
+use mathlib.Core.Bool.{Bool, true, false}
+use mathlib.Core.List.{List, [], _∷_}
 use Prim.Native.Nat.{ℕ, zero, suc, _+_, _-_, _≤_, _<_, _^_, zero-le, suc-le-suc}
-use native.Mathlib.Nat.{add-zero}
 use native.Mathlib.Numerals.{add-one}
 use native.Mathlib.Omega.{arith}
 use lib.Dec.{eqb}
-use lib.ListN.{length, take, drop, getD, set, length-set, length-append, length-drop, drop-of-length-le}
-use lib.Seq.{drop-cons, drop-drop, sets, length-sets, length-take-le, take-suc, take-all}
+use lib.ListN.{length, drop, getD, set, length-set, length-drop, drop-of-length-le}
+use lib.Seq.{drop-cons, drop-drop, sets}
 use mir.Val.{Fits}
 use mir.Syntax.{w64}
 use borrow.Author.Tests.{eq-eqb, ne-eqb, le-leb, lt-leb}
 use Rattle.texts.specs.Choice.{pick}
-use Rattle.texts.specs.Scan.{countWhile, scan, until, is}
-use Rattle.texts.specs.Text.{ascii, piece, startsWith}
-use Rattle.texts.proofs.Choosing.{by-test, pick-yes, pick-no}
-use Rattle.texts.proofs.Scanning.{count-yes, count-no, Scanning, scan-start, until-on}
+use Rattle.texts.specs.Text.{ascii, startsWith}
+use Rattle.texts.proofs.Choosing.{pick-yes, pick-no}
 use Rattle.texts.proofs.Comparing.{starts-length}
 use Rattle.saxlite.proofs.Picking.{pick-by}
 use Rattle.saxlite.specs.declared.entities.Unit.{Unit}
 use Rattle.saxlite.specs.declared.entities.Decoded.{Decoded}
 use Rattle.saxlite.specs.declared.entities.Decoded.the-variants.{Written, NoRoom}
-use Rattle.saxlite.specs.Lacking.{LackingTo}
 use Rattle.saxlite.specs.Entities.{entity, front, decodedPast, decoded, DecodedInto}
+use Rattle.saxlite.specs.Copying.{RestInto}
 
 -- ---- a unit is some bytes, and no more than there are
 
@@ -102,7 +99,7 @@ past-drop zero s = refl
 past-drop (suc k) [] = refl
 past-drop (suc k) (x ∷ xs) = past-drop k xs
 
-decoded-cons : (x : ℕ) (xs : List ℕ) (u : Unit) → u ≡ front (x ∷ xs) → decoded (x ∷ xs) ≡ u .byte ∷ decoded (drop (u .len - 1) xs)
+pub decoded-cons : (x : ℕ) (xs : List ℕ) (u : Unit) → u ≡ front (x ∷ xs) → decoded (x ∷ xs) ≡ u .byte ∷ decoded (drop (u .len - 1) xs)
 unfolding decodedPast
 decoded-cons x xs u e = rw (e, ← past-drop)
 
@@ -141,20 +138,18 @@ module _ (s : List ℕ) (i : ℕ) {u : Unit} (h : i < length s) (e : u ≡ front
       let k : suc i + (u .len - 1) ≡ i + u .len = omega (arith, unit-some) in
       rw (drop-cons s i 0 h, decoded-cons (getD s i 0) (drop (suc i) s) u unit-is, drop-drop, k)
 
--- a loop that decodes s into d₀ at `at` has read up to i, and written up to o, where d stands now
-pub record Decoding (s d₀ : List ℕ) (at : ℕ) (d : List ℕ) (i o : ℕ) : Type 0 where
-  pub out : sets d o (decoded (drop i s)) ≡ sets d₀ at (decoded s)
-  pub past : o + length (decoded (drop i s)) ≡ at + length (decoded s)
+-- a loop that decodes s from `from` on into d₀ from `to` on has read up to i, and written up to o, where d stands now
+pub record Decoding (s : List ℕ) (from : ℕ) (d₀ : List ℕ) (to : ℕ) (d : List ℕ) (i o : ℕ) : Type 0 where
+  pub out : sets d o (decoded (drop i s)) ≡ sets d₀ to (decoded (drop from s))
+  pub past : o + length (decoded (drop i s)) ≡ to + length (decoded (drop from s))
   pub room : o + (length s - i) ≤ length d
   pub long : length d ≡ length d₀
-  pub first : at + length s ≤ length d₀
-  pub on : at ≤ o
 
-pub decoding-start : {s d : List ℕ} {at : ℕ} → at ≤ length d → length s ≤ length d - at → Decoding s d at d 0 at
-decoding-start h l = record { out = refl; past = refl; room = omega arith; long = refl; first = omega arith; on = omega arith }
+pub decoding-start : {s d : List ℕ} {from to : ℕ} → to + (length s - from) ≤ length d → Decoding s from d to d from to
+decoding-start h = record { out = refl; past = refl; room = h; long = refl }
 
-module _ {s d₀ d : List ℕ} {at i o : ℕ} (inv : Decoding s d₀ at d i o) where
-  pub decoding-on : {u : Unit} → i < length s → u ≡ front (drop i s) → Decoding s d₀ at (set d o (u .byte)) (i + u .len) (o + 1)
+module _ {s d₀ d : List ℕ} {from to i o : ℕ} (inv : Decoding s from d₀ to d i o) where
+  pub decoding-on : {u : Unit} → i < length s → u ≡ front (drop i s) → Decoding s from d₀ to (set d o (u .byte)) (i + u .len) (o + 1)
   decoding-on {u} h e =
       let z = decoded-at s i h e in
       record {
@@ -162,20 +157,13 @@ module _ {s d₀ d : List ℕ} {at i o : ℕ} (inv : Decoding s d₀ at d i o) w
         past = omega (arith, rw z at (inv .past));
         room = rw length-set (omega (arith, inv .room, unit-some s i h e, unit-fits s i h e));
         long = length-set d o (u .byte) ∙ inv .long;
-        first = inv .first;
-        on = omega (arith, inv .on);
       }
 
-  pub decoding-end : length s ≤ i → DecodedInto s d₀ at (Written (o - at)) d
+  pub decoding-end : length s ≤ i → RestInto (drop from s) d₀ to o d
   unfolding decodedPast
   decoding-end h =
       let e : drop i s ≡ [] = drop-of-length-le s h in
-      let n : o - at ≡ length (decoded s) = omega (arith, rw e at (inv .past)) in
-      let t = le-leb (at + length s) (length d₀) (inv .first) in
-      record {
-        says = rw (t, n);
-        left = rw t (rw e at (inv .out));
-      }
+      record { left = rw e at (inv .out); ends = omega (arith, rw e at (inv .past)) }
 
 pub decoding-not : (s d : List ℕ) (at : ℕ) → length d < at → DecodedInto s d at NoRoom d
 decoding-not s d at h = let t = lt-leb (at + length s) (length d) (omega arith) in record { says = rw t; left = rw t }
@@ -195,98 +183,3 @@ module _ (raw d e : List ℕ) (at : ℕ) {r : Decoded} (q : DecodedInto raw d at
 
   pub decoded-short : length d < at + length raw → (r ≡ NoRoom) × (e ≡ d)
   decoded-short h = let t = lt-leb (at + length raw) (length d) h in (rw t at (q .says), rw t at (q .left))
-
--- ---- what stands before the first '&' is copied
-
-plain-front : (x : ℕ) (xs : List ℕ) → eqb x 38 ≡ false → decoded (x ∷ xs) ≡ x ∷ decoded xs
-unfolding front
-plain-front x xs f = decoded-cons x xs (record { byte = x; len = 1 }) (sym (pick-no (eqb x 38) _ _ f))
-
-plain-split : (n : ℕ) (s : List ℕ) → n ≤ length s → n + countWhile (until (is 38)) (drop n s) ≡ countWhile (until (is 38)) s → decoded s ≡ take n s ++ decoded (drop n s)
-plain-split zero s h e = refl
-plain-split (suc n) [] h e = absurd (omega arith)
-plain-split (suc n) (x ∷ xs) h e =
-    by-test (eqb x 38)
-    (λ t. absurd (omega (arith, e, count-no (until (is 38)) x xs (ap not t))))
-    (λ f.
-    let c : suc n + countWhile (until (is 38)) (drop n xs) ≡ suc (countWhile (until (is 38)) xs) = e ∙ count-yes (until (is 38)) x xs (ap not f) in
-    plain-front x xs f ∙ ap (λ t. x ∷ t) (plain-split n xs (omega arith) (omega arith)))
-
--- no '&' stands before i
-pub plain-to : {s : List ℕ} {i : ℕ} → LackingTo 38 s 0 i → (i ≤ length s) × (scan (until (is 38)) s i ≡ scan (until (is 38)) s 0)
-plain-to l = (l .bound (omega arith), l .rest)
-
--- i of the n bytes are copied
-sets-append : (d : List ℕ) (at : ℕ) (xs ys : List ℕ) → sets d at (xs ++ ys) ≡ sets (sets d at xs) (at + length xs) ys
-sets-append d at [] ys = rw add-zero
-sets-append d at (x ∷ xs) ys =
-    let z : suc at + length xs ≡ at + suc (length xs) = omega arith in
-    rw (← z) (sets-append (set d at x) (suc at) xs ys)
-
-pub record Pasted (s d₀ : List ℕ) (n at : ℕ) (d : List ℕ) (i : ℕ) : Type 0 where
-  pub is : d ≡ sets d₀ at (take i s)
-  pub bound : i ≤ n
-  pub within : n ≤ length s
-  pub room : at + n ≤ length d₀
-
-module _ {s d₀ : List ℕ} {n at : ℕ} {d : List ℕ} {i : ℕ} (inv : Pasted s d₀ n at d i) where
-  pub pasted-length : length d ≡ length d₀
-  pasted-length = ap length (inv .is) ∙ length-sets d₀ at (take i s)
-
-  module _ (h : i < n) where
-    pub pasted-source : i < length s
-    pasted-source = omega (arith, inv .within)
-
-    pub pasted-place : at + i < length d
-    pasted-place = omega (arith, inv .room, pasted-length)
-
-    pub pasted-on : Pasted s d₀ n at (set d (at + i) (getD s i 0)) (i + 1)
-    pasted-on =
-        let l : length (take i s) ≡ i = length-take-le i s (omega (arith, pasted-source)) in
-        let t : take (i + 1) s ≡ take i s ++ (getD s i 0 ∷ []) = rw (add-one i, take-suc s i 0 pasted-source) in
-        record { is = rw (t, sets-append d₀ at (take i s) (getD s i 0 ∷ []), l, ← (inv .is)); bound = omega arith; within = inv .within; room = inv .room }
-
-  pub pasted-end : n ≤ i → d ≡ sets d₀ at (take n s)
-  pasted-end h =
-      let z : i ≡ n = omega (arith, inv .bound) in
-      rw z at (inv .is)
-
--- the rest is decoded after what was copied
-module _ (s d d₁ : List ℕ) (at n : ℕ) (p : (n ≤ length s) × (scan (until (is 38)) s n ≡ scan (until (is 38)) s 0)) (h : at ≤ length d) (l : length s ≤ length d - at) (c : d₁ ≡ sets d at (take n s))
-    (w d₂ : List ℕ) {r : Decoded} (e : w ≡ piece s n (length s)) (q : DecodedInto w d₁ (at + n) r d₂) where
-  rest-is : w ≡ drop n s
-  rest-is = e ∙ take-all (length s) (drop n s) (omega (arith, length-drop n s))
-
-  rest-fits : at + n + length w ≤ length d₁
-  rest-fits = omega (arith, ap length rest-is, length-drop n s, ap length c, length-sets d at (take n s), p .0)
-
-  whole : decoded s ≡ take n s ++ decoded w
-  whole =
-      let k : n + countWhile (until (is 38)) (drop n s) ≡ countWhile (until (is 38)) s = omega (arith, p .1) in
-      rw rest-is (plain-split n s (p .0) k)
-
-  written : (r ≡ Written (length (decoded w))) × (d₂ ≡ sets d₁ (at + n) (decoded w))
-  written = decoded-fits w d₁ d₂ (at + n) q rest-fits
-
-  copied : length (take n s) ≡ n
-  copied = length-take-le n s (p .0)
-
-  pub long-end : {m : ℕ} → r ≡ Written m → DecodedInto s d at (Written (n + m)) d₂
-  long-end {m} f =
-      let t = le-leb (at + length s) (length d) (omega arith) in
-      let k : m ≡ length (decoded w) = cc (sym f ∙ written .0) in
-      let z : length (decoded s) ≡ n + m = ap length whole ∙ length-append (take n s) (decoded w) ∙ rw (copied, k) in
-      record {
-        says = rw (t, z);
-        left = rw t (written .1 ∙ rw (c, whole, sets-append d at (take n s) (decoded w), copied));
-      }
-
-  pub long-add : {m : ℕ} → r ≡ Written m → length s < 2 ^ 64 → Fits w64 (n + m)
-  long-add {m} f l =
-      let k : m ≡ length (decoded w) = cc (sym f ∙ written .0) in
-      omega (arith, k, decoded-length w, ap length rest-is, length-drop n s, p .0)
-
-  pub long-never : r ≡ NoRoom → DecodedInto s d at NoRoom d₂
-  long-never f = absurd (let z : _≡_ {A = ℕ} 0 1 = cc (sym f ∙ written .0) in omega arith)
-
-pub ruleset plain = (pasted-length, pasted-source, pasted-place, pasted-on, pasted-end)

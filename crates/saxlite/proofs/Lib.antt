@@ -1,8 +1,8 @@
 -- Laws of the reader: what its own proofs cite, and what the crates above need.
 pub mod Picking
 pub mod Searching
-pub mod Lacking
 pub mod Decoding
+pub mod Copying
 pub mod Naming
 pub mod Parting
 pub mod Tagging

@@ -1,7 +1,7 @@
 -- 01, "Reading markup": what the reader answers at each place of a document.
 pub mod Find
-pub mod Lacking
 pub mod Entities
+pub mod Copying
 pub mod Names
 pub mod Attributes
 pub mod Step

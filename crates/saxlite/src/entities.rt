@@ -1,15 +1,12 @@
 // The five entities.
-use crate::scan::lacking_to;
+use words::copy_word;
+use words::lacks_word;
 ghost use mathlib.Core.Path.{_≡_};
-ghost use mathlib.Core.Bool.{true, false};
-ghost use Prim.Native.Nat.{_+_, _≤_, _<_};
-ghost use lib.Dec.{eqb};
-ghost use lib.ListN.{length, take, drop};
-ghost use lib.Seq.{sets};
-ghost use Rattle.texts.specs.Choice.{pick};
+ghost use Prim.Native.Nat.{_+_, _-_, _≤_, _<_};
+ghost use lib.ListN.{length, drop};
 ghost use Rattle.texts.specs.Text.{piece};
-ghost use Rattle.texts.specs.Scan.{scan, until, is};
 ghost use Rattle.saxlite.specs.Entities.{front, DecodedInto};
+ghost use Rattle.saxlite.specs.Copying.{PlainTo, RestInto};
 
 // The byte that stands at a place, and of how many bytes it is written.
 pub struct Unit {
@@ -53,63 +50,65 @@ fn unit_at(s: &[u8], at: usize) -> Unit
     Unit { byte: b'&', len: 1 }
 }
 
-// Unit by unit. Decoding never lengthens, so that room for the raw text is room enough.
-fn decode_each(raw: &[u8], dst: &mut [u8], at: usize) -> Decoded
-    ensures { λ r. ⌜ DecodedInto (now (raw .entry)) (now (dst .entry)) at r (now (dst .exit)) ⌝ }
+// Unit by unit from `from` on, into `dst` from `to` on: the place where they end. Decoding never lengthens, so that room
+// for the raw bytes is room enough.
+fn decode_each(raw: &[u8], from: usize, dst: &mut [u8], to: usize) -> usize
+    requires { ⌜ to + (length (now raw) - from) ≤ length (now dst) ⌝ }
+    ensures { λ r. ⌜ RestInto (drop from (now (raw .entry))) (now (dst .entry)) to r (now (dst .exit)) ⌝ }
 {
-    if dst.len() < at {
-        return Decoded::NoRoom;
-    }
-    if dst.len() - at < raw.len() {
-        return Decoded::NoRoom;
-    }
-    let mut i = 0;
-    let mut o = at;
+    let mut i = from;
+    let mut o = to;
     while i < raw.len() {
         let u = unit_at(raw, i);
         dst[o] = u.byte;
         o += 1;
         i += u.len;
     }
-    Decoded::Written(o - at)
+    o
 }
 
-// A place before which no '&' stands: the first one, or up to 7 bytes before it.
-fn plain_end(s: &[u8]) -> usize
-    ensures { λ r. ⌜ (r ≤ length (now (s .entry))) × (scan (until (is 38)) (now (s .entry)) r ≡ scan (until (is 38)) (now (s .entry)) 0) ⌝ }
-{
-    lacking_to(s, 0, b'&')
-}
-
-// Copies the first `n` bytes of `s`.
-fn copy(s: &[u8], n: usize, dst: &mut [u8], at: usize)
-    requires { ⌜ (n ≤ length (now s)) × (at + n ≤ length (now dst)) ⌝ }
-    ensures { λ r. ⌜ now (dst .exit) ≡ sets (now (dst .entry)) at (take n (now (s .entry))) ⌝ }
+// Copies the words at the front that lack '&': how many bytes they are.
+fn copy_plain(raw: &[u8], dst: &mut [u8], at: usize) -> usize
+    requires { ⌜ at + length (now raw) ≤ length (now dst) ⌝ }
+    ensures { λ r. ⌜ PlainTo (now (raw .entry)) (now (dst .entry)) at (now (dst .exit)) r ⌝ }
 {
     let mut i = 0;
-    while i < n {
-        dst[at + i] = s[i];
-        i += 1;
+    while i + 8 <= raw.len() {
+        if lacks_word(raw, i, b'&') {
+            copy_word(raw, i, dst, at + i);
+            i += 8;
+        } else {
+            return i;
+        }
     }
+    i
 }
 
-// What stands before the first '&' is copied at once.
-fn decode_long(raw: &[u8], dst: &mut [u8], at: usize) -> Decoded
+// Eight bytes at once as long as they lack '&', the last eight over what is copied already; the rest unit by unit.
+fn decode_words(raw: &[u8], dst: &mut [u8], at: usize) -> Decoded
     ensures { λ r. ⌜ DecodedInto (now (raw .entry)) (now (dst .entry)) at r (now (dst .exit)) ⌝ }
 {
     if dst.len() < at {
         return Decoded::NoRoom;
     }
-    let room = dst.len() - at;
-    if room < raw.len() {
+    let n = raw.len();
+    if dst.len() - at < n {
         return Decoded::NoRoom;
     }
-    let n = plain_end(raw);
-    copy(raw, n, dst, at);
-    match decode_each(texts::part(raw, n, raw.len()), dst, at + n) {
-        Decoded::Written(m) => Decoded::Written(n + m),
-        Decoded::NoRoom => Decoded::NoRoom,
+    let i = copy_plain(raw, dst, at);
+    if i == n {
+        return Decoded::Written(n);
     }
+    if 8 <= n {
+        let last = n - 8;
+        if last < i {
+            if lacks_word(raw, last, b'&') {
+                copy_word(raw, last, dst, at + last);
+                return Decoded::Written(n);
+            }
+        }
+    }
+    Decoded::Written(decode_each(raw, i, dst, at + i) - at)
 }
 
 // Writes `len` bytes of the document from `from` on, entities decoded, into `dst` at `at`. Room is
@@ -117,9 +116,5 @@ fn decode_long(raw: &[u8], dst: &mut [u8], at: usize) -> Decoded
 pub fn decode(doc: &[u8], from: usize, len: usize, dst: &mut [u8], at: usize) -> Decoded
     ensures { λ r. ⌜ DecodedInto (piece (now (doc .entry)) from len) (now (dst .entry)) at r (now (dst .exit)) ⌝ }
 {
-    let raw = texts::part(doc, from, len);
-    if raw.len() < 16 {
-        return decode_each(raw, dst, at);
-    }
-    decode_long(raw, dst, at)
+    decode_words(texts::part(doc, from, len), dst, at)
 }

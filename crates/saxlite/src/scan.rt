@@ -3,16 +3,10 @@ use classes::is_attribute_name_end_in;
 use classes::is_space_in;
 use classes::is_tag_name_end_in;
 ghost use mathlib.Core.Path.{_≡_};
-ghost use mathlib.Core.Bool.{true, false};
-ghost use Prim.Native.Nat.{_+_, _≤_};
-ghost use lib.Dec.{eqb};
-ghost use lib.ListN.{length};
-ghost use Rattle.texts.specs.Choice.{pick};
 ghost use Rattle.texts.specs.Scan.{scan, until, is};
 ghost use Rattle.classes.specs.Table.{IsTable};
 ghost use Rattle.classes.specs.Class.{isSpace, isTagNameEnd, isAttributeNameEnd};
 ghost use Rattle.saxlite.specs.Find.{findFrom};
-ghost use Rattle.saxlite.specs.Lacking.{LackingTo};
 ghost use Rattle.saxlite.specs.Names.{prefixLength, isXmlns};
 
 // Past the spaces at `at`.
@@ -57,45 +51,6 @@ pub fn attribute_name_end(doc: &[u8], at: usize, t: &[u8; 256]) -> usize
             return i;
         }
         i += 1;
-    }
-    i
-}
-
-// Whether what lacked `x` so far still does with the byte `b`.
-fn still_lacks(lacks: bool, b: u8, x: u8) -> bool
-    ensures { λ r. ⌜ r ≡ pick (eqb b x) false lacks ⌝ }
-{
-    if b == x { false } else { lacks }
-}
-
-// Whether none of the 8 bytes from `i` on is `x`: all are looked at, so that one comparison does for all of them.
-fn lacks_eight(s: &[u8], i: usize, x: u8) -> bool
-    requires { ⌜ i + 8 ≤ length (now s) ⌝ }
-    ensures { λ r. ⌜ (r ≡ true → scan (until (is x)) (now (s .entry)) (i + 8) ≡ scan (until (is x)) (now (s .entry)) i) ⌝ }
-{
-    let mut lacks = true;
-    let mut k = 0;
-    while k < 8 {
-        lacks = still_lacks(lacks, s[i + k], x);
-        k += 1;
-    }
-    lacks
-}
-
-// A place before which no `x` stands from `from` on: the first one, or up to 7 bytes before it.
-pub fn lacking_to(s: &[u8], from: usize, x: u8) -> usize
-    ensures { λ r. ⌜ LackingTo x (now (s .entry)) from r ⌝ }
-{
-    if s.len() <= from {
-        return from;
-    }
-    let mut i = from;
-    while i + 8 <= s.len() {
-        if lacks_eight(s, i, x) {
-            i += 8;
-        } else {
-            return i;
-        }
     }
     i
 }

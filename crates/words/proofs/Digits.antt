@@ -1,5 +1,5 @@
 -- Laws of the number of a run of bytes: it tells the bytes.
-use mathlib.Core.Path.{_≡_, refl, sym, ap, ap₂, subst, _∙_}
+use mathlib.Core.Path.{_≡_, refl, sym, ap, ap₂, _∙_}
 use mathlib.Core.Bool.{true}
 use mathlib.Core.List.{List, [], _∷_}
 use Prim.Native.Nat.{ℕ, zero, suc, _+_, _*_, _%_, _^_, _≤_, _<_}
@@ -9,9 +9,9 @@ use native.Mathlib.Omega.{arith}
 use lib.Arith.{digits-div, digits-mod, mod-mul}
 use lib.Dec.{T, eqb, ltb, lit<}
 use lib.Ieee.Fits.{and-l, and-r}
-use lib.ListN.{length, take, drop, getD}
+use lib.ListN.{length, take, drop, getD, set}
 use lib.Pow.{areBytes}
-use lib.Seq.{drop-cons, length-take-le, take-all, take-take}
+use lib.Seq.{drop-cons, length-take-le, take-all, take-take, sets}
 use borrow.Author.Tests.{eq-eqb, ne-eqb, eqb-true}
 use Rattle.texts.specs.Lists.{Every}
 use Rattle.texts.specs.Text.{piece, startsWith}
@@ -100,48 +100,42 @@ module _ (s : List ℕ) (i : ℕ) {w : ℕ} (q : IsWord (piece s i 8) w) (t : Li
 
 -- ---- eight bytes of a text
 
-module _ (s : List ℕ) (i : ℕ) where
-  piece-next : (k n : ℕ) → i + k < length s → piece s (i + k) (suc n) ≡ getD s (i + k) 0 ∷ piece s (i + suc k) n
-  piece-next k n h =
+module _ (s : List ℕ) (i : ℕ) (room : i + 8 ≤ length s) where
+  next : (k n : ℕ) → i + k < length s → piece s (i + k) (suc n) ≡ getD s (i + k) 0 ∷ piece s (i + suc k) n
+  next k n h =
       let z : suc (i + k) ≡ i + suc k = omega arith in
       ap (take (suc n)) (drop-cons s (i + k) 0 h) ∙ ap (λ (j : ℕ). getD s (i + k) 0 ∷ piece s j n) z
 
--- each of the eight is read by itself: the number read, and that it is a byte
-module _ (s : List ℕ) (i : ℕ) (room : i + 8 ≤ length s)
-    {a b c d e f g h : ℕ}
-    (pa : (a ≡ getD s i 0) × (getD s i 0 < 256))
-    (pb : (b ≡ getD s (i + 1) 0) × (getD s (i + 1) 0 < 256))
-    (pc : (c ≡ getD s (i + 2) 0) × (getD s (i + 2) 0 < 256))
-    (pd : (d ≡ getD s (i + 3) 0) × (getD s (i + 3) 0 < 256))
-    (pe : (e ≡ getD s (i + 4) 0) × (getD s (i + 4) 0 < 256))
-    (pf : (f ≡ getD s (i + 5) 0) × (getD s (i + 5) 0 < 256))
-    (pg : (g ≡ getD s (i + 6) 0) × (getD s (i + 6) 0 < 256))
-    (ph : (h ≡ getD s (i + 7) 0) × (getD s (i + 7) 0 < 256)) where
-  at : ℕ → ℕ
-  at k = getD s (i + k) 0
+  pub eight-bytes : piece s i 8 ≡ getD s i 0 ∷ getD s (i + 1) 0 ∷ getD s (i + 2) 0 ∷ getD s (i + 3) 0 ∷ getD s (i + 4) 0 ∷ getD s (i + 5) 0 ∷ getD s (i + 6) 0 ∷ getD s (i + 7) 0 ∷ []
+  eight-bytes =
+      let at : ℕ → List ℕ → List ℕ = λ k t. getD s (i + k) 0 ∷ t in
+      ap (take 8) (drop-cons s i 0 (omega arith)) ∙ ap (λ (j : ℕ). getD s i 0 ∷ piece s j 7) (sym (add-one i))
+      ∙ ap (λ (t : List ℕ). getD s i 0 ∷ t) (next 1 6 (omega arith) ∙ ap (at 1) (next 2 5 (omega arith) ∙ ap (at 2) (next 3 4 (omega arith)
+      ∙ ap (at 3) (next 4 3 (omega arith) ∙ ap (at 4) (next 5 2 (omega arith) ∙ ap (at 5) (next 6 1 (omega arith) ∙ ap (at 6) (next 7 0 (omega arith))))))))
 
-  abbrev listed : List ℕ
-  listed = getD s i 0 ∷ at 1 ∷ at 2 ∷ at 3 ∷ at 4 ∷ at 5 ∷ at 6 ∷ at 7 ∷ []
-
-  pieces : piece s i 8 ≡ listed
-  unfolding at
-  pieces =
-      ap (take 8) (drop-cons s i 0 (omega arith))
-      ∙ ap (λ (j : ℕ). getD s i 0 ∷ piece s j 7) (sym (add-one i))
-      ∙ ap (λ (t : List ℕ). getD s i 0 ∷ t) (piece-next s i 1 6 (omega arith)
-      ∙ ap (λ (t : List ℕ). at 1 ∷ t) (piece-next s i 2 5 (omega arith)
-      ∙ ap (λ (t : List ℕ). at 2 ∷ t) (piece-next s i 3 4 (omega arith)
-      ∙ ap (λ (t : List ℕ). at 3 ∷ t) (piece-next s i 4 3 (omega arith)
-      ∙ ap (λ (t : List ℕ). at 4 ∷ t) (piece-next s i 5 2 (omega arith)
-      ∙ ap (λ (t : List ℕ). at 5 ∷ t) (piece-next s i 6 1 (omega arith)
-      ∙ ap (λ (t : List ℕ). at 6 ∷ t) (piece-next s i 7 0 (omega arith))))))))
-
-  pub word-read : IsWord (piece s i 8) (a + b * 256 + c * 65536 + d * 16777216 + e * 4294967296 + f * 1099511627776 + g * 281474976710656 + h * 72057594037927936)
-  unfolding at wordOf Every
-  word-read =
-      subst (λ (t : List ℕ). IsWord t (a + b * 256 + c * 65536 + d * 16777216 + e * 4294967296 + f * 1099511627776 + g * 281474976710656 + h * 72057594037927936)) (sym pieces)
-      (record {
+  -- each of the eight is read by itself: the number read, and that it is a byte
+  pub word-read : {a b c d e f g h : ℕ}
+      → (a ≡ getD s i 0) × (getD s i 0 < 256)
+      → (b ≡ getD s (i + 1) 0) × (getD s (i + 1) 0 < 256)
+      → (c ≡ getD s (i + 2) 0) × (getD s (i + 2) 0 < 256)
+      → (d ≡ getD s (i + 3) 0) × (getD s (i + 3) 0 < 256)
+      → (e ≡ getD s (i + 4) 0) × (getD s (i + 4) 0 < 256)
+      → (f ≡ getD s (i + 5) 0) × (getD s (i + 5) 0 < 256)
+      → (g ≡ getD s (i + 6) 0) × (getD s (i + 6) 0 < 256)
+      → (h ≡ getD s (i + 7) 0) × (getD s (i + 7) 0 < 256)
+      → IsWord (piece s i 8) (a + b * 256 + c * 65536 + d * 16777216 + e * 4294967296 + f * 1099511627776 + g * 281474976710656 + h * 72057594037927936)
+  unfolding wordOf Every
+  word-read pa pb pc pd pe pf pg ph =
+      rw eight-bytes (record {
         is = omega (arith, pa .0, pb .0, pc .0, pd .0, pe .0, pf .0, pg .0, ph .0);
         eight = refl;
         bytes = (pa .1, (pb .1, (pc .1, (pd .1, (pe .1, (pf .1, (pg .1, (ph .1, tt))))))));
       })
+
+  -- and written by itself
+  pub word-written : (d : List ℕ) (at : ℕ)
+      → set (set (set (set (set (set (set (set d at (getD s i 0)) (at + 1) (getD s (i + 1) 0)) (at + 2) (getD s (i + 2) 0)) (at + 3) (getD s (i + 3) 0)) (at + 4) (getD s (i + 4) 0)) (at + 5) (getD s (i + 5) 0)) (at + 6) (getD s (i + 6) 0)) (at + 7) (getD s (i + 7) 0)
+      ≡ sets d at (piece s i 8)
+  word-written d at =
+      let z : (k : ℕ) → at + suc k ≡ suc (at + k) = λ k. omega arith in
+      rw (eight-bytes, z 6, z 5, z 4, z 3, z 2, z 1, add-one)

@@ -2,7 +2,7 @@
 use mathlib.Core.Path.{_≡_, refl, sym, ap, ap₂, _∙_}
 use mathlib.Core.Bool.{Bool, not}
 use mathlib.Core.List.{List, [], _∷_, map}
-use Prim.Native.Nat.{ℕ, zero, suc, _+_, _*_, _/_, _^_, _≤_, _<_}
+use Prim.Native.Nat.{ℕ, zero, suc, _+_, _*_, _/_, _^_, _≤_, _<_, zero-le}
 use native.Mathlib.Nat.{zero-lt-suc, mul-one, mul-assoc, pow-suc, mul-div-cancel, mul-mod-left}
 use native.Mathlib.Omega.{arith}
 use lib.Arith.{digits-mod}
@@ -85,13 +85,22 @@ module _ (p : ℕ → Bool) where
       (λ t. count-yes p b s t ∙ ap suc (count-part n s (omega (arith, count-yes p b (take n s) t)) (omega arith)) ∙ sym (count-yes p b (take n s) t))
       (λ f. count-no p b s f ∙ sym (count-no p b (take n s) f))
 
-  count-past : (n : ℕ) (s : List ℕ) → n ≤ countWhile p (take n s) → countWhile p s ≡ n + countWhile p (drop n s)
+  count-front : (n : ℕ) (s : List ℕ) → countWhile p (take n s) ≤ countWhile p s
+  count-front zero s = zero-le
+  count-front (suc n) [] = zero-le
+  count-front (suc n) (b ∷ s) =
+      by-test (p b)
+      (λ t. omega (arith, count-yes p b s t, count-yes p b (take n s) t, count-front n s))
+      (λ f. omega (arith, count-no p b (take n s) f))
+
+  -- what is passed is counted, and the rest
+  pub count-past : (n : ℕ) (s : List ℕ) → n ≤ countWhile p s → countWhile p s ≡ n + countWhile p (drop n s)
   count-past zero s h = omega arith
   count-past (suc n) [] h = absurd (omega arith)
   count-past (suc n) (b ∷ s) h =
       by-test (p b)
-      (λ t. omega (arith, count-yes p b s t, count-past n s (omega (arith, count-yes p b (take n s) t))))
-      (λ f. absurd (omega (arith, count-no p b (take n s) f)))
+      (λ t. omega (arith, count-yes p b s t, count-past n s (omega (arith, count-yes p b s t))))
+      (λ f. absurd (omega (arith, count-no p b s f)))
 
 -- a word has at most 64 zeros
 pub zeros-fit : (m : ℕ) → Fits w64 (trailingZeros 64 m / 8)
@@ -108,7 +117,7 @@ module _ {x : ℕ} {s : List ℕ} {i m : ℕ} (e : Marked x s i m) (room : i + 8
   word-lacks z =
       let all : 64 / 8 ≡ countWhile (until (is x)) (piece s i 8) = ap (λ (k : ℕ). k / 8) (sym (ap (trailingZeros 64) z ∙ trailing-of-zero 64)) ∙ before in
       let c : countWhile (until (is x)) (drop i s) ≡ 8 + countWhile (until (is x)) (drop (i + 8) s) =
-      rw (← drop-drop 8 i s) (count-past (until (is x)) 8 (drop i s) (omega arith)) in
+      rw (← drop-drop 8 i s) (count-past (until (is x)) 8 (drop i s) (omega (arith, count-front (until (is x)) 8 (drop i s)))) in
       omega arith
 
   module _ {at : ℕ} (inv : Scanning (until (is x)) s at i) where

@@ -1,8 +1,8 @@
 -- The laws that the proofs of functions over words cite, in one set: `search laws` at each need.
 use borrow.Author.Needs.{needs}
 use Rattle.texts.proofs.Scanning.{scan-start, scan-end, byte-on, byte-stop}
-use Rattle.words.proofs.Digits.{word-read}
+use Rattle.words.proofs.Digits.{word-read, word-written}
 use Rattle.words.proofs.Lanes.{marks-fit, marks-less, marks-made}
 use Rattle.words.proofs.Finding.{zeros-fit, word-lacks, word-on, word-stop, word-fits, scan-rest}
 
-pub ruleset laws = (scan-start, scan-end, byte-on, byte-stop, word-read, marks-fit, marks-less, marks-made, zeros-fit, word-lacks, word-on, word-stop, word-fits, scan-rest, needs)
+pub ruleset laws = (scan-start, scan-end, byte-on, byte-stop, word-read, word-written, marks-fit, marks-less, marks-made, zeros-fit, word-lacks, word-on, word-stop, word-fits, scan-rest, needs)

@@ -2,11 +2,13 @@
 //
 // `word_at` gives the number of the eight bytes at a place, the first one lowest (specs/Word.antt); a word tells its
 // bytes (proofs/Digits.antt). By words `byte_from` finds where a byte first stands, whatever the bytes are, and
-// `lacks_word` tells that it is not among eight. What looks at one word asks that eight bytes are there, and no more.
+// `lacks_word` tells that it is not among eight; `copy_word` copies eight. What works on one word asks that eight bytes
+// are there, and no more.
 ghost use mathlib.Core.Path.{_≡_};
 ghost use mathlib.Core.Bool.{true};
 ghost use Prim.Native.Nat.{_+_, _≤_, _<_};
 ghost use lib.ListN.{length};
+ghost use lib.Seq.{sets};
 ghost use Rattle.texts.specs.Text.{piece};
 ghost use Rattle.texts.specs.Scan.{scan, until, is};
 ghost use Rattle.words.specs.Word.{IsWord};
@@ -56,6 +58,29 @@ pub fn lacks_word(s: &[u8], i: usize, x: u8) -> bool
     ensures { λ r. ⌜ (r ≡ true → scan (until (is x)) (now (s .entry)) (i + 8) ≡ scan (until (is x)) (now (s .entry)) i) ⌝ }
 {
     marks(s, i, x) == 0
+}
+
+// Copies the 8 bytes from `i` on to `at`. All are read before the first is written: it is one load and one store.
+pub fn copy_word(s: &[u8], i: usize, dst: &mut [u8], at: usize)
+    requires { ⌜ (i + 8 ≤ length (now s)) × (at + 8 ≤ length (now dst)) ⌝ }
+    ensures { λ r. ⌜ now (dst .exit) ≡ sets (now (dst .entry)) at (piece (now (s .entry)) i 8) ⌝ }
+{
+    let a = s[i];
+    let b = s[i + 1];
+    let c = s[i + 2];
+    let d = s[i + 3];
+    let e = s[i + 4];
+    let f = s[i + 5];
+    let g = s[i + 6];
+    let h = s[i + 7];
+    dst[at] = a;
+    dst[at + 1] = b;
+    dst[at + 2] = c;
+    dst[at + 3] = d;
+    dst[at + 4] = e;
+    dst[at + 5] = f;
+    dst[at + 6] = g;
+    dst[at + 7] = h;
 }
 
 // Where the first `x` from `at` on stands, or the end, byte by byte.

@@ -1,24 +1,18 @@
-use Rattle.saxlite.proofs.Laws.{laws}
 use Prim.Native.Nat.{_-_}
 use lib.ListN.{length}
 use Rattle.saxlite.proofs.Decoding.{Decoding}
+use Rattle.saxlite.proofs.Laws.{laws}
 use Rattle.saxlite.proofs.entities.decode_each.Statement.{statement}
 use Rattle.saxlite.proofs.entities.decode_each.Tie as tie
+use Rattle.saxlite.proofs.entities.decode_each.Reads as reads
+use Rattle.saxlite.proofs.entities.decode_each.Lts as lts
+use Rattle.saxlite.proofs.entities.unit_at.Reads as unit-at-reads
 
 abbrev Inv-loop : tie.InvT-loop
-Inv-loop raw dst₀ at i₀ o₀ dst i o = Decoding raw dst₀ at dst i o
+Inv-loop raw from dst₀ to i₀ o₀ dst i o = Decoding raw from dst₀ to dst i o
 
 abbrev μ-loop : tie.MeasureT-loop
-μ-loop raw dst₀ at i₀ o₀ dst i o = length raw - i
-
-returns : tie.Need-returns Inv-loop μ-loop
-returns c = search laws
-
-sub-if2 : tie.Need-sub-if2 Inv-loop μ-loop
-sub-if2 c = search laws
-
-returns-2 : tie.Need-returns-2 Inv-loop μ-loop
-returns-2 c = search laws
+μ-loop raw from dst₀ to i₀ o₀ dst i o = length raw - i
 
 loop-holds : tie.Need-loop-holds Inv-loop μ-loop
 loop-holds c = search laws
@@ -41,14 +35,11 @@ loop-less c = search laws
 loop-again : tie.Need-loop-again Inv-loop μ-loop
 loop-again c = search laws
 
-sub-t7 : tie.Need-sub-t7 Inv-loop μ-loop
-sub-t7 c = search laws
-
 same-length : tie.Need-same-length Inv-loop μ-loop
 same-length c = search laws
 
-returns-3 : tie.Need-returns-3 Inv-loop μ-loop
-returns-3 c = search laws
+returns : tie.Need-returns Inv-loop μ-loop
+returns c = search laws
 
 pub decode-each-spec : {M : Type 1} → statement M
 decode-each-spec =
@@ -56,9 +47,6 @@ decode-each-spec =
     (tie.spec
     Inv-loop
     μ-loop
-    returns
-    sub-if2
-    returns-2
     loop-holds
     unit-at-requires
     slice-write-dst
@@ -66,6 +54,5 @@ decode-each-spec =
     add-i
     loop-less
     loop-again
-    sub-t7
     same-length
-    returns-3)
+    returns)
