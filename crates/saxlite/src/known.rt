@@ -1,8 +1,10 @@
 // Attributes whose names are known beforehand. Nearly every attribute of a schema is one of these, written `name="`:
 // it is told by one comparison, with no walk for the name's end, a colon or the names that matter.
+use words::word_at;
 ghost use mathlib.Core.Path.{_≡_};
-ghost use Prim.Native.Nat.{_<_};
-ghost use Rattle.saxlite.specs.Known.{knownText, KnownAt, keysBy, CodesOf};
+ghost use Prim.Native.Nat.{_+_, _≤_};
+ghost use lib.ListN.{length};
+ghost use Rattle.saxlite.specs.Known.{KnownAt, keysBy, CodesOf, ToldShort, ToldLong};
 
 // A known attribute: the number of its name (specs/Known.antt), 0 where none stands there, and the name's length.
 pub struct Known {
@@ -50,46 +52,145 @@ pub fn codes_of(keys: usize) -> Codes
     }
 }
 
-// The name of a number, where it stands at `at` with '=' and '"' behind it.
-fn known_if(doc: &[u8], at: usize, code: usize, text: &[u8]) -> Known
-    requires { ⌜ (code < 14) × (now text ≡ knownText code) ⌝ }
-    ensures { λ r. ⌜ KnownAt (now (doc .entry)) at r ⌝ }
+fn none() -> Known
+    ensures { λ r. ⌜ r ≡ record { code = 0; len = 0 } ⌝ }
 {
-    if texts::starts_with(doc, at, text) {
-        let len = text.len() - 2;
-        return Known { code, len };
-    }
     Known { code: 0, len: 0 }
 }
 
-// One of two names.
-fn known_either(doc: &[u8], at: usize, one: usize, text: &[u8], other: usize, rest: &[u8]) -> Known
-    requires { ⌜ (one < 14) × (now text ≡ knownText one) × (other < 14) × (now rest ≡ knownText other) ⌝ }
+// The name of a number, where it stands at `at` with '=' and '"' behind it: a text of less than eight bytes, by the word
+// there.
+fn known_short(doc: &[u8], at: usize, code: usize, len: usize, modulus: u64, front: u64) -> Known
+    requires { ⌜ (at + 8 ≤ length (now doc)) × ToldShort code len modulus front ⌝ }
     ensures { λ r. ⌜ KnownAt (now (doc .entry)) at r ⌝ }
 {
-    let first = known_if(doc, at, one, text);
-    if 0 < first.code {
-        return first;
+    if word_at(doc, at) % modulus == front {
+        return Known { code, len };
     }
-    known_if(doc, at, other, rest)
+    none()
+}
+
+// The same for a text of 8 to 15 bytes, by two words: `back` is what stands behind the first eight bytes.
+fn known_long(
+    doc: &[u8],
+    at: usize,
+    code: usize,
+    len: usize,
+    front: u64,
+    modulus: u64,
+    back: u64,
+) -> Known
+    requires { ⌜ (at + 16 ≤ length (now doc)) × ToldLong code len front modulus back ⌝ }
+    ensures { λ r. ⌜ KnownAt (now (doc .entry)) at r ⌝ }
+{
+    if word_at(doc, at) == front {
+        if word_at(doc, at + 8) % modulus == back {
+            return Known { code, len };
+        }
+    }
+    none()
+}
+
+// And for the one that is longer.
+fn known_encoding(doc: &[u8], at: usize) -> Known
+    ensures { λ r. ⌜ KnownAt (now (doc .entry)) at r ⌝ }
+{
+    if texts::starts_with(doc, at, b"characterEncoding=\"") {
+        return Known { code: 7, len: 17 };
+    }
+    none()
 }
 
 // The known attribute that stands at `at`, by its first letter.
+fn known_by(doc: &[u8], at: usize) -> Known
+    requires { ⌜ at + 16 ≤ length (now doc) ⌝ }
+    ensures { λ r. ⌜ KnownAt (now (doc .entry)) at r ⌝ }
+{
+    match doc[at] {
+        b'n' => known_short(doc, at, 1, 4, 0x1_0000_0000_0000, 0x223d_656d_616e),
+        b'i' => known_short(doc, at, 2, 2, 0x1_0000_0000, 0x223d_6469),
+        b't' => known_short(doc, at, 3, 4, 0x1_0000_0000_0000, 0x223d_6570_7974),
+        b'd' => known_long(
+            doc,
+            at,
+            8,
+            11,
+            0x7470_6972_6373_6564,
+            0x100_0000_0000,
+            0x22_3d6e_6f69,
+        ),
+        b'p' => {
+            let first = known_long(
+                doc,
+                at,
+                5,
+                13,
+                0x7669_7469_6d69_7270,
+                0x100_0000_0000_0000,
+                0x22_3d65_7079_5465,
+            );
+            if 0 < first.code {
+                return first;
+            }
+            known_long(doc, at, 12, 8, 0x6563_6e65_7365_7270, 0x1_0000, 0x223d)
+        }
+        b's' => {
+            let first = known_long(
+                doc,
+                at,
+                9,
+                12,
+                0x6369_746e_616d_6573,
+                0x1_0000_0000_0000,
+                0x223d_6570_7954,
+            );
+            if 0 < first.code {
+                return first;
+            }
+            known_long(
+                doc,
+                at,
+                13,
+                12,
+                0x7265_5665_636e_6973,
+                0x1_0000_0000_0000,
+                0x223d_6e6f_6973,
+            )
+        }
+        b'o' => known_long(doc, at, 10, 6, 0x223d_7465_7366_666f, 1, 0),
+        b'l' => known_long(doc, at, 4, 6, 0x223d_6874_676e_656c, 1, 0),
+        b'e' => known_long(
+            doc,
+            at,
+            6,
+            12,
+            0x676e_6964_6f63_6e65,
+            0x1_0000_0000_0000,
+            0x223d_6570_7954,
+        ),
+        b'b' => known_long(
+            doc,
+            at,
+            11,
+            11,
+            0x6e65_4c6b_636f_6c62,
+            0x100_0000_0000,
+            0x22_3d68_7467,
+        ),
+        b'c' => known_encoding(doc, at),
+        _ => none(),
+    }
+}
+
+// The known attribute that stands at `at`; none is looked for in the last 15 bytes.
 pub fn known_at(doc: &[u8], at: usize) -> Known
     ensures { λ r. ⌜ KnownAt (now (doc .entry)) at r ⌝ }
 {
-    match texts::byte_at(doc, at) {
-        b'n' => known_if(doc, at, 1, b"name=\""),
-        b'i' => known_if(doc, at, 2, b"id=\""),
-        b't' => known_if(doc, at, 3, b"type=\""),
-        b'd' => known_if(doc, at, 8, b"description=\""),
-        b'p' => known_either(doc, at, 5, b"primitiveType=\"", 12, b"presence=\""),
-        b's' => known_either(doc, at, 9, b"semanticType=\"", 13, b"sinceVersion=\""),
-        b'o' => known_if(doc, at, 10, b"offset=\""),
-        b'l' => known_if(doc, at, 4, b"length=\""),
-        b'e' => known_if(doc, at, 6, b"encodingType=\""),
-        b'b' => known_if(doc, at, 11, b"blockLength=\""),
-        b'c' => known_if(doc, at, 7, b"characterEncoding=\""),
-        _ => Known { code: 0, len: 0 },
+    if doc.len() < 16 {
+        return none();
     }
+    if doc.len() - 16 < at {
+        return none();
+    }
+    known_by(doc, at)
 }
