@@ -7,6 +7,7 @@ pub mod Walking
 pub mod Looping
 pub mod Sources
 pub mod Refusals
+pub mod Arrayless
 pub mod Generating
 pub mod Converting
 pub mod Laws

@@ -17,13 +17,14 @@ use xmlschema::items::Position;
 use xmlschema::items::count;
 use xmlschema::items::next_of;
 ghost use mathlib.Core.Path.{_≡_};
+ghost use mathlib.Core.Bool.{false};
 ghost use Rattle.texts.specs.Lists.{any};
 ghost use Rattle.xmlschema.specs.Schema.{itemAt, under, allOf, aMember, aComposite, aMessage, aGroup};
 ghost use Rattle.index.specs.Index.{Indexed};
 ghost use Rattle.xmlschema.specs.Store.{schemaOf, found};
 ghost use Rattle.xmltoproto.specs.Types.{formOf, isArray, meaning};
 ghost use Rattle.xmltoproto.specs.Arrays.{firstFrom, refusedComposite, isArrayType, holdsArray, refusedMessage, arrayRefusal};
-ghost use Rattle.xmltoproto.specs.Refusing.{refusing};
+ghost use Rattle.xmltoproto.specs.Refusing.{refusing, Arrayless};
 
 // What is said of a schema before it is printed.
 pub enum Arrays {
@@ -192,8 +193,23 @@ fn first_message(m: Model, rec: &[u32], text: &[u8], ix: &[u16]) -> Position
 
 // ---- both
 
+// Whether any item has the form of such an array. Few schemas have one, and without one nothing is refused.
+fn has_arrays(m: Model, rec: &[u32], text: &[u8]) -> bool
+    ensures { λ r. ⌜ (r ≡ false → Arrayless (schemaOf m (now (rec .entry)) (now (text .entry)))) ⌝ }
+{
+    let n = count(m, rec, text);
+    let mut i = 0;
+    while i < n {
+        if is_member_array(m, rec, text, i) {
+            return true;
+        }
+        i += 1;
+    }
+    false
+}
+
 // 40 by composite, then 41 by message.
-pub fn array_refusal(m: Model, rec: &[u32], text: &[u8], ix: &[u16]) -> Arrays
+fn first_refusal(m: Model, rec: &[u32], text: &[u8], ix: &[u16]) -> Arrays
     requires { ⌜ Indexed (schemaOf m (now rec) (now text)) (now ix) ⌝ }
     ensures { λ r. ⌜ r ≡ refusing (arrayRefusal (schemaOf m (now (rec .entry)) (now (text .entry)))) ⌝ }
 {
@@ -204,4 +220,15 @@ pub fn array_refusal(m: Model, rec: &[u32], text: &[u8], ix: &[u16]) -> Arrays
             Position::Nothing => Arrays::Fine,
         },
     }
+}
+
+// The same, where there is anything to look for.
+pub fn array_refusal(m: Model, rec: &[u32], text: &[u8], ix: &[u16]) -> Arrays
+    requires { ⌜ Indexed (schemaOf m (now rec) (now text)) (now ix) ⌝ }
+    ensures { λ r. ⌜ r ≡ refusing (arrayRefusal (schemaOf m (now (rec .entry)) (now (text .entry)))) ⌝ }
+{
+    if has_arrays(m, rec, text) {
+        return first_refusal(m, rec, text, ix);
+    }
+    Arrays::Fine
 }

@@ -3,65 +3,25 @@ use Rattle.xmltoproto.proofs.arrays.array_refusal.Statement.{statement}
 use Rattle.xmltoproto.proofs.arrays.array_refusal.Tie as tie
 use Rattle.xmltoproto.proofs.arrays.array_refusal.Reads as reads
 use Rattle.xmltoproto.proofs.arrays.array_refusal.Lts as lts
-use Rattle.xmltoproto.proofs.arrays.first_composite.Reads as first-composite-reads
-use Rattle.xmltoproto.proofs.arrays.first_message.Reads as first-message-reads
+use Rattle.xmltoproto.proofs.arrays.first_refusal.Reads as first-refusal-reads
+use Rattle.xmltoproto.proofs.arrays.has_arrays.Reads as has-arrays-reads
 
--- src/arrays.rt:190:11
-first-composite-requires : tie.Need-first-composite-requires
-first-composite-requires c κs = search laws
+-- src/arrays.rt:230:8
+has-arrays-requires : tie.Need-has-arrays-requires
+has-arrays-requires c κs = search laws
 
--- src/arrays.rt:191:22
-enum-known-c : tie.Need-enum-known-c
-enum-known-c c = search laws
+-- src/arrays.rt:231:9
+first-refusal-requires : tie.Need-first-refusal-requires
+first-refusal-requires c κs = search laws
 
--- src/arrays.rt:191:79
-cast-t9 : tie.Need-cast-t9
-cast-t9 c = search laws
-
--- src/arrays.rt:192:36
-enum-told : tie.Need-enum-told
-enum-told c = search laws
-
--- src/arrays.rt:192:36
-first-message-requires : tie.Need-first-message-requires
-first-message-requires c κs = search laws
-
--- src/arrays.rt:193:26
-enum-known-i : tie.Need-enum-known-i
-enum-known-i c = search laws
-
--- src/arrays.rt:193:81
-cast-t13 : tie.Need-cast-t13
-cast-t13 c = search laws
-
--- src/arrays.rt:194:34
-enum-told-2 : tie.Need-enum-told-2
-enum-told-2 c = search laws
-
--- src/arrays.rt:187:1
+-- src/arrays.rt:231:9
 returns : tie.Need-returns
 returns c = search laws
 
--- src/arrays.rt:187:1
+-- src/arrays.rt:226:1
 returns-2 : tie.Need-returns-2
 returns-2 c = search laws
 
--- src/arrays.rt:187:1
-returns-3 : tie.Need-returns-3
-returns-3 c = search laws
-
 pub array-refusal-spec : {M : Type 1} → statement M
 array-refusal-spec =
-    tie.close
-    (tie.spec
-    first-composite-requires
-    enum-known-c
-    cast-t9
-    enum-told
-    first-message-requires
-    enum-known-i
-    cast-t13
-    enum-told-2
-    returns
-    returns-2
-    returns-3)
+    tie.close (tie.spec has-arrays-requires first-refusal-requires returns returns-2)
