@@ -11,7 +11,6 @@ use lib.Seq.{drop-cons, drop-drop, sets}
 use mir.Val.{Fits}
 use mir.Syntax.{w64}
 use borrow.Author.Tests.{eq-eqb, ne-eqb, le-leb, lt-leb}
-use Rattle.texts.specs.Choice.{pick}
 use Rattle.texts.specs.Text.{ascii, startsWith}
 use Rattle.texts.proofs.Choosing.{pick-yes, pick-no}
 use Rattle.texts.proofs.Comparing.{starts-length}
