@@ -142,7 +142,9 @@ module _ (m : Model) (rec : List ℕ) (i : ℕ) (e : Entry) (f : (t : List ℕ) 
   pub declared-searched : {w : List ℕ} → w ≡ itemOf text e .second → {r : Declaration} → r ≡ declarationOf (schemaOf m rec text) w → r ≡ declarationOf (schemaOf m rec text) (itemAt (schemaOf m rec text) i .second)
   declared-searched ew er = er ∙ ap (declarationOf (schemaOf m rec text)) (second-is m rec i e f text ew)
 
-  pub declared-told : (ix : List ℕ) → Indexed (schemaOf m rec text) ix → e .kind ≡ 9 → {n : ℕ} → n ≡ length (schemaOf m rec text .items) → n ≤ 1024 → {w : ℕ} → w ≡ getD ix (12288 + i) 0 → {r : Declaration} → ((d : Declaration) → w ≡ numberOf d → r ≡ d) → r ≡ declarationOf (schemaOf m rec text) (itemAt (schemaOf m rec text) i .second)
-  declared-told ix x ek {n} en most ew g =
-      let k : itemAt (schemaOf m rec text) i .kind ≡ 9 = sym (kind-is m rec i e f text) ∙ ek in
-      g (declarationOf (schemaOf m rec text) (itemAt (schemaOf m rec text) i .second)) (ew ∙ x .types (omega arith) .is i (inside (schemaOf m rec text) i k) k)
+  pub field-kind : e .kind ≡ 9 → itemAt (schemaOf m rec text) i .kind ≡ 9
+  field-kind ek = sym (kind-is m rec i e f text) ∙ ek
+
+pub field-told : (s : Schema) (i : ℕ) (ix : List ℕ) → Indexed s ix → length (s .items) ≤ 1024 → itemAt s i .kind ≡ 9 → {w : ℕ} → w ≡ getD ix (12288 + i) 0
+    → {r : Declaration} → ((d : Declaration) → w ≡ numberOf d → r ≡ d) → r ≡ declarationOf s (itemAt s i .second)
+field-told s i ix x most k ew g = g (declarationOf s (itemAt s i .second)) (ew ∙ x .types most .is i (inside s i k) k)

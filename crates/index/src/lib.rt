@@ -20,7 +20,7 @@ ghost use mathlib.Core.Path.{_≡_};
 ghost use mathlib.Core.Option.{Option};
 ghost use Prim.Native.Nat.{ℕ, _+_, _≤_, _<_};
 ghost use lib.ListN.{length, getD, set};
-ghost use Rattle.xmlschema.specs.Schema.{itemAt, nextUnder};
+ghost use Rattle.xmlschema.specs.Schema.{itemAt, nextUnder, aField};
 ghost use Rattle.xmlschema.specs.Store.{schemaOf, found};
 ghost use Rattle.index.specs.Index.{code, fronted, HashOf, declares, Chained, Blank, Linking, Naming, Resolving, Indexed};
 ghost use Rattle.index.specs.Declarations.{declarationOf, numberOf, keptBy};
@@ -39,7 +39,7 @@ const HEADS: usize = 11264;
 const CHAIN: usize = 12288;
 
 // As many items as the index holds, and a schema may have.
-const MOST: u32 = 1024;
+pub const MOST: u32 = 1024;
 
 fn wide(b: u8) -> usize
     ensures { λ r. ⌜ (r ≡ b) × (r < 256) ⌝ }
@@ -338,6 +338,14 @@ pub fn declaration_in(m: Model, rec: &[u32], text: &[u8], name: &[u8]) -> Declar
     }
 }
 
+// What the type name of the field at `i` is declared as: the index holds it.
+pub fn field_declared(m: Model, rec: &[u32], text: &[u8], ix: &[u16], i: u32) -> Declaration
+    requires { ⌜ Indexed (schemaOf m (now rec) (now text)) (now ix) × (length (schemaOf m (now rec) (now text) .items) ≤ 1024) × (itemAt (schemaOf m (now rec) (now text)) i .kind ≡ aField) ⌝ }
+    ensures { λ r. ⌜ r ≡ declarationOf (schemaOf m (now (rec .entry)) (now (text .entry))) (itemAt (schemaOf m (now (rec .entry)) (now (text .entry))) i .second) ⌝ }
+{
+    numbered(word(ix, CHAIN + i as usize))
+}
+
 // What the type name of the item at `i` is declared as.
 pub fn declared(m: Model, rec: &[u32], text: &[u8], ix: &[u16], i: u32) -> Declaration
     requires { ⌜ Indexed (schemaOf m (now rec) (now text)) (now ix) ⌝ }
@@ -346,7 +354,7 @@ pub fn declared(m: Model, rec: &[u32], text: &[u8], ix: &[u16], i: u32) -> Decla
     let e = item(m, rec, i);
     if e.kind == FIELD {
         if count(m, rec, text) <= MOST {
-            return numbered(word(ix, CHAIN + i as usize));
+            return field_declared(m, rec, text, ix, i);
         }
     }
     declaration_in(m, rec, text, second_of(e, text))
