@@ -9,7 +9,7 @@ use Rattle.xmltoproto.proofs.Walking.{next-of, last-of, next-child, las
 use Rattle.xmltoproto.proofs.Looping.{walking-under, walking-of, walking-on, walking-end, walking-length, numbering-members, numbering-refs, numbering-on, numbering-end, numbering-first, numbering-length, counting-under, counting-on, members-end, asking-under, asking-yes, asking-on, asking-end, seeking-of, seeking-yes, seeking-on, seeking-end}
 use Rattle.xmltoproto.proofs.Sources.{package-none, package-some, header-printed, value-printed, enum-printed, typed-printed, member-printed, ref-printed, field-declared, field-unknown, field-typed, field-built-in, parts-printed, composite-printed, printed-header, printed-other, chosen, not-chosen, composites-printed, group-head-printed, group-printed, message-printed}
 use Rattle.xmltoproto.proofs.Refusals.{array-told, composite-told, composite-unprinted, field-array-declared, field-array-unknown, field-array-built-in, field-array-typed, holds-told, message-fields, message-groups, refused-composite, refused-message, refused-none}
-use Rattle.xmltoproto.proofs.Generating.{generated-refused, generated-no-room, generated-wrote}
+use Rattle.xmltoproto.proofs.Generating.{generated-refused, generated-no-room, generated-wrote, room-bound, room-measured}
 use Rattle.xmltoproto.proofs.Arrayless.{lacking-start, lacking-on, lacking-all, lacking-not, none-told}
 
 pub ruleset view = (name-seen, second-seen, encoding-seen, number-seen, size-seen, no-size-seen, id-seen, version-seen, needs)
@@ -28,4 +28,4 @@ pub ruleset ask = (next-of, last-of, next-child, last-child, last-end, asking-un
 
 pub ruleset arrays = (array-told, composite-told, composite-unprinted, field-array-declared, field-array-unknown, field-array-built-in, field-array-typed, holds-told, message-fields, message-groups, refused-composite, refused-message, refused-none, lacking-start, lacking-on, lacking-all, lacking-not, none-told, needs)
 
-pub ruleset generate = (generated-refused, generated-no-room, generated-wrote, length-printed, needs)
+pub ruleset generate = (generated-refused, generated-no-room, generated-wrote, room-bound, room-measured, length-printed, needs)

@@ -5,6 +5,11 @@ pub mod Typing
 pub mod Laying
 pub mod Walking
 pub mod Looping
+pub mod Lengths
+pub mod Longest
+pub mod Owning
+pub mod Bounding
+pub mod Covering
 pub mod Sources
 pub mod Refusals
 pub mod Arrayless

@@ -49,7 +49,7 @@ pub record Numbering (f : ℕ → ℕ → List ℕ) (k₀ : ℕ) (l : List ℕ) 
   pub going : Going (numbered f (k₀ + 1) l) (numbered f (k + 1) (ahead q from s)) o at o′ p
   pub room : k + length (ahead q from s) ≤ n
 
-at-most : (q : Item → Bool) (k : ℕ) (xs : List Item) → length (positionsFrom k q xs) ≤ length xs
+pub at-most : (q : Item → Bool) (k : ℕ) (xs : List Item) → length (positionsFrom k q xs) ≤ length xs
 unfolding positionsFrom
 at-most q k [] = omega arith
 at-most q k (x ∷ xs) = go (q x) (at-most q (k + 1) xs)

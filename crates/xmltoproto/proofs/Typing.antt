@@ -121,12 +121,12 @@ module _ (w : List ℕ) {a : Bool} (ea : a ≡ among w signedNames) where
     built-other t g = rw (among-append w signedNames (unsignedNames ++ otherPrimitives), ← ea, fa, among-append w unsignedNames otherPrimitives, ← eb, t) g
 
 -- by what it is declared as
-abbrev declaredSo : Schema → List ℕ → Declaration → Meaning
+abbrev pub declaredSo : Schema → List ℕ → Declaration → Meaning
 declaredSo s name declaration.Named = declared
 declaredSo s name (declaration.Typed i) = typed (formOf (itemAt s i))
 declaredSo s name declaration.Nothing = typeOr s name none
 
-declared-means : (s : Schema) (name : List ℕ) → declaredSo s name (declarationOf s name) ≡ meaning s name
+pub declared-means : (s : Schema) (name : List ℕ) → declaredSo s name (declarationOf s name) ≡ meaning s name
 unfolding meaning isDeclared declarationOf
 declared-means s name = go (lastNamed anEnum name s) (lastNamed aComposite name s) (lastNamed aType name s)
   where

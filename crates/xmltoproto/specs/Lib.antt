@@ -5,6 +5,7 @@ pub mod Shapes
 pub mod Composites
 pub mod Source
 pub mod Parts
+pub mod Bound
 pub mod Arrays
 pub mod Refusing
 pub mod Generate

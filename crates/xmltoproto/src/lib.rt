@@ -1,11 +1,12 @@
 // From the model of a schema to annotated proto3 source.
 //
 // `xml_to_proto` is the entry: it reads the document into the model, and `generate` finds the array
-// refusals 40 and 41, measures the source, and then refuses by 3 or writes. Its contract, on all
+// refusals 40 and 41, then refuses by 3 or writes the source. Its contract, on all
 // inputs: the answer is the one of specs/Generate.antt, and the output is the source of
 // specs/Source.antt and then what stood there, or, after a refusal, what it held. The model is seen
 // through its accessors alone.
 pub mod arrays;
+mod bound;
 pub mod composites;
 mod enums;
 mod line;
@@ -17,7 +18,9 @@ pub mod view;
 
 use crate::arrays::Arrays;
 use crate::arrays::array_refusal;
+use crate::bound::source_most;
 use crate::source::put_source;
+use index::MOST;
 use index::SIZE;
 use index::build;
 use refusals::Answer;
@@ -25,13 +28,32 @@ use refusals::Refusal;
 use xmlschema::build::Schema;
 use xmlschema::build::read_schema;
 use xmlschema::items::Model;
+use xmlschema::items::count;
+ghost use mathlib.Core.Path.{_≡_};
+ghost use lib.Dec.{leb};
 ghost use lib.ListN.{length};
+ghost use Rattle.printing.specs.Printed.{past};
 ghost use Rattle.index.specs.Index.{Indexed};
 ghost use Rattle.xmlschema.specs.Store.{schemaOf};
+ghost use Rattle.xmltoproto.specs.Source.{source};
 ghost use Rattle.xmltoproto.specs.Generate.{Generated};
 ghost use Rattle.xmltoproto.specs.Convert.{Converts};
 
-// The array refusals, then the source: measured first, and written where it fits.
+// Whether the source fits into `room` bytes: by its bound where that is enough, else it is measured.
+fn has_room(m: Model, rec: &[u32], text: &[u8], ix: &[u16], room: usize) -> bool
+    requires { ⌜ Indexed (schemaOf m (now rec) (now text)) (now ix) ⌝ }
+    ensures { λ r. ⌜ r ≡ leb (past 0 (source (schemaOf m (now (rec .entry)) (now (text .entry))))) room ⌝ }
+{
+    if count(m, rec, text) <= MOST {
+        if source_most(m, rec, text, ix) <= room {
+            return true;
+        }
+    }
+    let mut none = [0u8; 0];
+    put_source(&mut none, 0, m, rec, text, ix) <= room
+}
+
+// The array refusals, then the source, where it fits.
 fn generate_in(m: Model, rec: &[u32], text: &[u8], ix: &[u16], out: &mut [u8]) -> Answer
     requires { ⌜ Indexed (schemaOf m (now rec) (now text)) (now ix) ⌝ }
     ensures { λ r. ⌜ Generated (schemaOf m (now (rec .entry)) (now (text .entry))) (now (out .entry)) (now (out .exit)) r ⌝ }
@@ -39,13 +61,11 @@ fn generate_in(m: Model, rec: &[u32], text: &[u8], ix: &[u16], out: &mut [u8]) -
     match array_refusal(m, rec, text, ix) {
         Arrays::Refused(r) => Answer::Refused(r),
         Arrays::Fine => {
-            let mut none = [0u8; 0];
-            let n = put_source(&mut none, 0, m, rec, text, ix);
-            if out.len() < n {
-                return Answer::Refused(Refusal::NoRoom);
+            if has_room(m, rec, text, ix, out.len()) {
+                let written = put_source(out, 0, m, rec, text, ix);
+                return Answer::Accepted(written);
             }
-            let written = put_source(out, 0, m, rec, text, ix);
-            Answer::Accepted(written)
+            Answer::Refused(Refusal::NoRoom)
         }
     }
 }
