@@ -1,38 +1,24 @@
 -- Laws of building the index: each takes what the code knows there.
 use mathlib.Core.Path.{_≡_, refl, sym, ap, _∙_}
 use mathlib.Core.Bool.{Bool, true, false}
-use mathlib.Core.List.{List, []}
+use mathlib.Core.List.{List}
+use mathlib.Core.Option.{Option, none, some}
 use Prim.Native.Nat.{ℕ, _+_, _*_, _-_, _≤_, _<_}
 use native.Mathlib.Omega.{arith}
 use lib.ListN.{length, getD, set, length-set, replicate, length-replicate, getD-replicate, List·getD-eq-default}
 use lib.Seq.{getD-set-same, getD-set-other}
 use Rattle.xmlschema.proofs.Records.{by-less}
-use Rattle.xmlschema.specs.Schema.{Item, Schema, itemAt}
+use Rattle.xmlschema.specs.Schema.{Schema, itemAt, lastNamed, aType, aComposite, anEnum}
 use Rattle.xmlschema.specs.Store.{itemOf, schemaOf}
 use Rattle.xmlschema.specs.declared.items.Entry.{Entry}
 use Rattle.xmlschema.specs.declared.items.Model.{Model}
-use Rattle.index.specs.Declarations.{declarationOf, numberOf}
-use Rattle.index.specs.Index.{code, fronted, hash, HashOf, declares, Linked, Chained, Resolved, Blank, Linking, Naming, Resolving, Indexed}
+use Rattle.ordered.specs.Ordered.{declares, numbered}
+use Rattle.ordered.proofs.Reading.{kind-is, owner-is, name-is, second-is}
+use Rattle.index.specs.Declarations.{declaredBy, declarationOf, numberOf}
+use Rattle.index.specs.Index.{code, fronted, hash, HashOf, Chained, Blank, Linking, Naming, Resolving, Indexed}
 use Rattle.index.proofs.Fronting.{fronted-length, fronted-other}
 use Rattle.index.proofs.Linking.{linked-start, linked-on, linked-off, linked-frame}
 use Rattle.index.proofs.Chaining.{chained-start, chained-on, chained-off, chained-aside}
-
--- ---- the item that the code reads
-
-module _ (m : Model) (rec : List ℕ) (i : ℕ) (e : Entry) (f : (t : List ℕ) → itemOf t e ≡ itemAt (schemaOf m rec t) i) (text : List ℕ) where
-  pub kind-is : e .kind ≡ itemAt (schemaOf m rec text) i .kind
-  unfolding itemOf
-  kind-is = ap (λ (x : Item). x .kind) (f text)
-
-  pub owner-is : e .owner ≡ itemAt (schemaOf m rec text) i .owner
-  unfolding itemOf
-  owner-is = ap (λ (x : Item). x .owner) (f text)
-
-  pub name-is : {w : List ℕ} → w ≡ itemOf text e .name → w ≡ itemAt (schemaOf m rec text) i .name
-  name-is q = q ∙ ap (λ (x : Item). x .name) (f text)
-
-  pub second-is : {w : List ℕ} → w ≡ itemOf text e .second → w ≡ itemAt (schemaOf m rec text) i .second
-  second-is q = q ∙ ap (λ (x : Item). x .second) (f text)
 
 -- ---- an array of zeros
 
@@ -113,6 +99,16 @@ resolving-end s ix {i} {n} c a e b = let q : i ≡ length (s .items) = omega ari
 pub resolving-chained : (s : Schema) (ix : List ℕ) {i : ℕ} → Resolving s i ix → Chained s (length (s .items)) ix
 resolving-chained s ix c = c .chained
 
+-- an array that holds the names in order
+pub zeros-long : 1024 ≤ length {A = ℕ} (replicate 1024 0)
+zeros-long = let e = length-replicate {A = ℕ} 1024 0 in omega arith
+
+numbered-is : (e c t : Option ℕ) → numbered e c t ≡ numberOf (declaredBy e c t)
+numbered-is (some i) c t = refl
+numbered-is none (some i) t = refl
+numbered-is none none (some i) = refl
+numbered-is none none none = refl
+
 field-aside : declares 9 ≡ false
 unfolding declares
 field-aside = refl
@@ -127,7 +123,7 @@ module _ (m : Model) (rec text : List ℕ) (i : ℕ) (e : Entry) (f : (t : List 
         resolved = record { is = λ j l k. by-less j i (λ b. c .resolved .is j b k) (λ b. let q : j ≡ i = omega arith in absurd (n (kind-is m rec i e f text ∙ (rw q at k)))) };
       }
 
-  pub resolve-on : e .kind ≡ 9 → length (schemaOf m rec text .items) ≤ 1024 → i < length (schemaOf m rec text .items) → {w : List ℕ} → w ≡ itemOf text e .second → {d : ℕ} → d ≡ numberOf (declarationOf (schemaOf m rec text) w) → {ix′ : List ℕ} → ix′ ≡ set ix (12288 + i) d → Resolving (schemaOf m rec text) (i + 1) ix′
+  resolve-on : e .kind ≡ 9 → length (schemaOf m rec text .items) ≤ 1024 → i < length (schemaOf m rec text .items) → {w : List ℕ} → w ≡ itemOf text e .second → {d : ℕ} → d ≡ numberOf (declarationOf (schemaOf m rec text) w) → {ix′ : List ℕ} → ix′ ≡ set ix (12288 + i) d → Resolving (schemaOf m rec text) (i + 1) ix′
   resolve-on ek most h {w} ew {d} ed {ix′} q =
       record {
         long = rw (q, length-set) (c .long);
@@ -141,6 +137,15 @@ module _ (m : Model) (rec text : List ℕ) (i : ℕ) (e : Entry) (f : (t : List 
 
       aside : declares (itemAt (schemaOf m rec text) i .kind) ≡ false
       aside = ap declares (sym (kind-is m rec i e f text) ∙ ek) ∙ field-aside
+
+  -- by a chain that is short
+  pub resolve-short : e .kind ≡ 9 → length (schemaOf m rec text .items) ≤ 1024 → i < length (schemaOf m rec text .items) → {w : List ℕ} → w ≡ itemOf text e .second → {d : ℕ} → (d < 1026 → d ≡ numberOf (declarationOf (schemaOf m rec text) w)) × (d ≤ 1026) → (d ≡ 1026 → ⊥) → {ix′ : List ℕ} → ix′ ≡ set ix (12288 + i) d → Resolving (schemaOf m rec text) (i + 1) ix′
+  resolve-short ek most h ew {d} g n q = resolve-on ek most h ew (g .0 (by-less d 1026 (λ l. l) (λ l. let u = g .1 in absurd (n (omega arith))))) q
+
+  -- by the names in order
+  pub resolve-ordered : e .kind ≡ 9 → length (schemaOf m rec text .items) ≤ 1024 → i < length (schemaOf m rec text .items) → {w : List ℕ} → w ≡ itemOf text e .second → {d : ℕ} → (d ≡ numbered (lastNamed anEnum w (schemaOf m rec text)) (lastNamed aComposite w (schemaOf m rec text)) (lastNamed aType w (schemaOf m rec text))) × (d < 1026) → {ix′ : List ℕ} → ix′ ≡ set ix (12288 + i) d → Resolving (schemaOf m rec text) (i + 1) ix′
+  unfolding declarationOf
+  resolve-ordered ek most h {w} ew g q = resolve-on ek most h ew (g .0 ∙ numbered-is (lastNamed anEnum w (schemaOf m rec text)) (lastNamed aComposite w (schemaOf m rec text)) (lastNamed aType w (schemaOf m rec text))) q
 
 -- ---- all
 

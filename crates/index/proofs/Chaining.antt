@@ -2,40 +2,25 @@
 use mathlib.Core.Path.{_≡_, refl, sym, ap, _∙_}
 use mathlib.Core.Bool.{Bool, true, false}
 use mathlib.Core.Option.{Option, none, some}
-use mathlib.Core.List.{List, [], _∷_, _++_}
-use Prim.Native.Nat.{ℕ, zero, suc, _+_, _*_, _-_, _≤_, _<_}
+use mathlib.Core.List.{List}
+use Prim.Native.Nat.{ℕ, zero, suc, _+_, _-_, _≤_, _<_}
 use native.Mathlib.Numerals.{add-one}
 use native.Mathlib.Omega.{arith}
 use lib.Dec.{T, eqb}
-use lib.ListN.{length, getD, set, take, length-take}
-use lib.Seq.{take-suc, length-take-le, take-length, getD-set-other}
+use lib.ListN.{length, getD, set}
+use lib.Seq.{getD-set-other}
 use borrow.Author.Tests.{eqb-true, eq-eqb}
-use Rattle.texts.specs.Choice.{pick, _and_}
-use Rattle.texts.specs.Text.{same}
+use Rattle.texts.specs.Choice.{_and_}
 use Rattle.texts.proofs.Choosing.{by-test, both-true, is-true}
-use Rattle.xmlschema.specs.Schema.{Item, Schema, itemAt, noItem, positionsFrom, last, lastNamed}
+use Rattle.xmlschema.specs.Schema.{Item, Schema, itemAt, positionsFrom, last}
 use Rattle.xmlschema.proofs.Records.{by-less}
-use Rattle.xmlschema.proofs.Searching.{last-snoc, positions-snoc, append-none}
-use Rattle.index.specs.Index.{code, fronted, hash, declares, hashed, lastHashed, Chained}
-use Rattle.index.proofs.Fronting.{by-equal, fronted-head, fronted-at, fronted-other}
+use Rattle.ordered.specs.Ordered.{declares, lastBy}
+use Rattle.ordered.proofs.Lasts.{last-yes, last-no}
+use Rattle.ordered.proofs.Numbering.{by-equal}
+use Rattle.index.specs.Index.{code, fronted, hash, hashed, lastHashed, Chained}
+use Rattle.index.proofs.Fronting.{fronted-head, fronted-at, fronted-other}
 
 -- ---- the last of the first n items that pass a test
-
-abbrev pub lastBy : (Item → Bool) → ℕ → Schema → Option ℕ
-lastBy p n s = last (positionsFrom 0 p (take n (s .items)))
-
-module _ (p : Item → Bool) (s : Schema) (n : ℕ) (h : n < length (s .items)) where
-  front : take (n + 1) (s .items) ≡ take n (s .items) ++ (itemAt s n ∷ [])
-  front = rw add-one (take-suc (s .items) n noItem h)
-
-  many : 0 + length (take n (s .items)) ≡ n
-  many = let e = length-take-le n (s .items) (omega arith) in omega arith
-
-  pub last-yes : p (itemAt s n) ≡ true → lastBy p (n + 1) s ≡ some n
-  last-yes t = rw (front, positions-snoc p 0 (take n (s .items)) (itemAt s n), t, many) (last-snoc (positionsFrom 0 p (take n (s .items))) n)
-
-  pub last-no : p (itemAt s n) ≡ false → lastBy p (n + 1) s ≡ lastBy p n s
-  last-no t = rw (front, positions-snoc p 0 (take n (s .items)) (itemAt s n), t, append-none)
 
 -- p is a narrower test than q: the last that passes q tells where to look for the last that passes p
 module _ (p q : Item → Bool) (s : Schema) (narrow : (it : Item) → p it ≡ true → q it ≡ true) where

@@ -1,18 +1,13 @@
 -- Laws of the searches by the index: each takes what the code knows there.
 use mathlib.Core.Path.{_≡_, refl, sym, ap, _∙_}
-use mathlib.Core.Bool.{Bool, true, false}
 use mathlib.Core.Option.{Option, none, some}
-use mathlib.Core.List.{List, [], _∷_}
-use Prim.Native.Nat.{ℕ, suc, _+_, _*_, _-_, _%_, _≤_, _<_}
-use native.Mathlib.Nat.{suc-add}
+use mathlib.Core.List.{List}
+use Prim.Native.Nat.{ℕ, _+_, _*_, _-_, _%_, _≤_, _<_}
 use native.Mathlib.Numerals.{add-one}
 use native.Mathlib.Omega.{arith}
-use lib.Dec.{eqb}
 use lib.ListN.{length, getD, drop, drop-of-length-le, List·getD-eq-default}
 use lib.Seq.{drop-cons}
-use borrow.Author.Tests.{eq-eqb, ne-eqb}
-use Rattle.texts.specs.Choice.{_or_}
-use Rattle.xmlschema.specs.Schema.{Item, Schema, itemAt, noItem, nextUnder, lastNamed, aType, aComposite, anEnum}
+use Rattle.xmlschema.specs.Schema.{Schema, itemAt, noItem, nextUnder, lastNamed, aType, aComposite, anEnum}
 use Rattle.xmlschema.proofs.Records.{by-less}
 use Rattle.xmlschema.specs.Store.{itemOf, schemaOf, found}
 use Rattle.xmlschema.specs.declared.items.Entry.{Entry}
@@ -22,8 +17,8 @@ use Rattle.xmlschema.specs.declared.items.Position.the-variants.{At, Nothing}
 use Rattle.index.specs.Declarations.{declarationOf, numberOf}
 use Rattle.index.specs.declared.Declaration.{Declaration}
 use Rattle.index.specs.declared.Declaration.the-variants as declaration
-use Rattle.index.specs.Index.{code, hashFrom, hash, HashOf, declares, Indexed}
-use Rattle.index.proofs.Building.{kind-is, owner-is, second-is}
+use Rattle.index.specs.Index.{code, hashFrom, hash, HashOf, Indexed}
+use Rattle.ordered.proofs.Reading.{kind-is, owner-is, second-is}
 
 -- ---- the hash: what is still to come is unchanged
 
@@ -41,21 +36,6 @@ hashing-on {s} {i} {h} {g} k l e = record { rest = rw (add-one, e .0) (rw (drop-
 pub hashing-end : {s : List ℕ} {i h g : ℕ} → Hashing s i h g → length s ≤ i → HashOf s ((h * 37 + g) % 1021)
 unfolding hashFrom
 hashing-end {s} {i} {h} {g} k l = record { is = rw (drop-of-length-le s l) at (k .rest); low = omega arith }
-
--- ---- kinds that declare
-
-module _ (kind : ℕ) where
-  pub declares-type : kind ≡ 1 → true ≡ declares kind
-  unfolding declares
-  declares-type e = rw e
-
-  pub declares-composite : kind ≡ 4 → true ≡ declares kind
-  unfolding declares
-  declares-composite e = rw e
-
-  pub declares-enum : (kind ≡ 1 → ⊥) → (kind ≡ 4 → ⊥) → eqb kind 5 ≡ declares kind
-  unfolding declares
-  declares-enum a b = rw (ne-eqb kind 1 a, ne-eqb kind 4 b)
 
 -- ---- positions
 

@@ -1,18 +1,10 @@
 -- An item put in front of a list of the index: what changes, and what stays.
-use mathlib.Core.Path.{_≡_, refl, sym, ap, _∙_}
+use mathlib.Core.Path.{_≡_, _∙_}
 use mathlib.Core.List.{List}
-use Prim.Native.Nat.{ℕ, _+_, _<_, _≤_}
-use native.Mathlib.Omega.{arith}
-use lib.Dec.{eqb}
+use Prim.Native.Nat.{ℕ, _+_, _<_}
 use lib.ListN.{length, getD, set, length-set}
 use lib.Seq.{getD-set-same, getD-set-other}
-use borrow.Author.Tests.{eqb-true, eqb-false}
-use Rattle.texts.proofs.Choosing.{by-test}
 use Rattle.index.specs.Index.{fronted}
-
--- go by whether two numbers are equal
-pub by-equal {ℓ} : {X : Type ℓ} (a b : ℕ) → (a ≡ b → X) → ((a ≡ b → ⊥) → X) → X
-by-equal a b f g = by-test (eqb a b) (λ t. f (eqb-true a b t)) (λ t. g (eqb-false a b t))
 
 module _ (ix : List ℕ) (head at i : ℕ) where
   pub fronted-length : length (fronted ix head at i) ≡ length ix

@@ -15,8 +15,9 @@ use Rattle.texts.proofs.Choosing.{by-test, both-true}
 use Rattle.xmlschema.specs.Schema.{Item, Schema, itemAt, noItem, positionsFrom, first, nextUnder}
 use Rattle.xmlschema.proofs.Records.{by-less}
 use Rattle.xmlschema.proofs.Searching.{ownedSo, first-yes, first-no}
+use Rattle.ordered.proofs.Numbering.{by-equal}
 use Rattle.index.specs.Index.{code, fronted, Linked}
-use Rattle.index.proofs.Fronting.{by-equal, fronted-head, fronted-at, fronted-other}
+use Rattle.index.proofs.Fronting.{fronted-head, fronted-at, fronted-other}
 
 -- ---- one step of the model's search
 

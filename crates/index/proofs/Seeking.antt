@@ -18,11 +18,13 @@ use Rattle.xmlschema.proofs.Searching.{namedSo}
 use Rattle.xmlschema.specs.Store.{itemOf, schemaOf}
 use Rattle.xmlschema.specs.declared.items.Entry.{Entry}
 use Rattle.xmlschema.specs.declared.items.Model.{Model}
+use Rattle.ordered.specs.Ordered.{declares, lastBy}
+use Rattle.ordered.proofs.Reading.{kind-is, name-is}
+use Rattle.ordered.proofs.Lasts.{last-step}
+use Rattle.ordered.proofs.Numbering.{by-kind}
 use Rattle.index.specs.Declarations.{declaredBy, declarationOf, numberOf, keptBy}
-use Rattle.index.specs.Index.{code, hash, HashOf, declares, hashed, lastHashed, Chained}
-use Rattle.index.proofs.Fronting.{by-equal}
-use Rattle.index.proofs.Building.{kind-is, name-is}
-use Rattle.index.proofs.Chaining.{lastBy, none-passes, some-passes, last-yes, last-no, code-none, code-some, hashed-as}
+use Rattle.index.specs.Index.{code, hash, HashOf, hashed, lastHashed, Chained}
+use Rattle.index.proofs.Chaining.{none-passes, some-passes, code-none, code-some, hashed-as}
 
 -- ---- what is kept
 
@@ -79,15 +81,7 @@ module _ (kept j : ℕ) where
 
   step-any : (k : ℕ) → declares k ≡ true → (b : Bool) (e c t : Option ℕ)
       → chosen kept (pick (eqb k anEnum and b) (some j) e) (pick (eqb k aComposite and b) (some j) c) (pick (eqb k aType and b) (some j) t) ≡ chosen (pick (eqb k aType) (pick (ltb 0 kept) kept (pick b (j + 2) 0)) (pick b 1 kept)) e c t
-  unfolding declares
-  step-any k d b e c t =
-      by-equal k aType
-      (λ q. rw q (step-type b e c t))
-      (λ n. by-equal k aComposite
-      (λ q. rw q (step-composite b e c t))
-      (λ m. by-equal k anEnum
-      (λ q. rw q (step-enum b e c t))
-      (λ l. absurd (let f : false ≡ true = rw (ne-eqb k aType n, ne-eqb k aComposite m, ne-eqb k anEnum l) at d in let z : _≡_ {A = ℕ} 0 1 = cc in omega arith))))
+  step-any k d b e c t = by-kind k d (λ q. rw q (step-type b e c t)) (λ q. rw q (step-composite b e c t)) (λ q. rw q (step-enum b e c t))
 
 -- ---- along the chain
 
@@ -99,9 +93,6 @@ narrow kind name d it t =
     let k : it .kind ≡ kind = eqb-true (it .kind) kind (e .0) in
     let n : it .name ≡ name = same-equal (it .name) name (e .1) in
     rw (k, n, d, eq-eqb (hash name) (hash name) refl)
-
-last-step : (q : Item → Bool) (s : Schema) (j : ℕ) → j < length (s .items) → lastBy q (j + 1) s ≡ pick (q (itemAt s j)) (some j) (lastBy q j s)
-last-step q s j h = by-test (q (itemAt s j)) (λ t. rw t (last-yes q s j h t)) (λ f. rw f (last-no q s j h f))
 
 -- p leads to the last of the first n items that may be named so, and `kept` is what those behind them say
 pub record Seeking (name : List ℕ) (s : Schema) (p kept : ℕ) : Type 0 where
@@ -175,6 +166,10 @@ module _ (name : List ℕ) (s : Schema) {p kept : ℕ} (k : Seeking name s p kep
           below (some i) f e =
               let l : i < p - 1 = some-passes (namedSo aType name) (hashed (hash name)) s (narrow aType name refl) (p - 1) (let w = seeking-low in omega arith) i f .0 in
               omega arith
+
+-- a chain that is too long tells nothing
+pub untold : (name : List ℕ) (s : Schema) → 1026 < 1026 → 1026 ≡ numberOf (declarationOf s name)
+untold name s l = absurd (omega arith)
 
 -- ---- what is kept, by the tests of an item
 

@@ -9,8 +9,9 @@ use mathlib.Core.Option.{Option, none, some}
 use Prim.Native.Nat.{ℕ, zero, suc, _+_, _*_, _%_, _≤_, _<_}
 use lib.Dec.{T, eqb}
 use lib.ListN.{length, getD, take, set}
-use Rattle.texts.specs.Choice.{_and_, _or_}
-use Rattle.xmlschema.specs.Schema.{Item, Schema, itemAt, positionsFrom, last, nextUnder, aType, aComposite, anEnum, aField}
+use Rattle.texts.specs.Choice.{_and_}
+use Rattle.xmlschema.specs.Schema.{Item, Schema, itemAt, positionsFrom, last, nextUnder, aField}
+use Rattle.ordered.specs.Ordered.{declares}
 use Rattle.index.specs.Declarations.{declarationOf, numberOf}
 
 -- a position as the index holds it
@@ -42,10 +43,6 @@ hash name = hashFrom 0 0 name
 pub record HashOf (name : List ℕ) (b : ℕ) : Type 0 where
   pub is : b ≡ hash name
   pub low : b < 1024
-
--- the kinds that a type name is looked up among
-unfoldable pub declares : ℕ → Bool
-declares kind = eqb kind aType or eqb kind aComposite or eqb kind anEnum
 
 unfoldable pub hashed : ℕ → Item → Bool
 hashed b it = declares (it .kind) and eqb (hash (it .name)) b

@@ -1,9 +1,14 @@
 // An index over a model, for its searches: children by links, declarations by chains of a short hash.
 //
 // `build` fills a lent array from any model in one pass each; `child` then promises what the model's own `next_under`
-// promises, and `declared` what its `last_named` says of a field's type name, without walking all items. Nothing is
-// asked of the model: where it has more than 1,024 items, which no document gives, the model's searches answer.
-use texts::equal;
+// promises, and `declared` what its `last_named` says of a field's type name, without walking all items. Where a chain
+// is long, as names that collide make it, the names in order (crate ordered) answer, so no name is compared with all.
+// Nothing is asked of the model: where it has more than 1,024 items, which no document gives, the model's searches answer.
+use ordered::SIZE as NAMES;
+use ordered::is_declaring;
+use ordered::number_of;
+use ordered::put_ordered;
+use ordered::same_name;
 use xmlschema::items::COMPOSITE;
 use xmlschema::items::ENUM;
 use xmlschema::items::FIELD;
@@ -22,7 +27,8 @@ ghost use Prim.Native.Nat.{ℕ, _+_, _≤_, _<_};
 ghost use lib.ListN.{length, getD, set};
 ghost use Rattle.xmlschema.specs.Schema.{itemAt, nextUnder, aField};
 ghost use Rattle.xmlschema.specs.Store.{schemaOf, found};
-ghost use Rattle.index.specs.Index.{code, fronted, HashOf, declares, Chained, Blank, Linking, Naming, Resolving, Indexed};
+ghost use Rattle.ordered.specs.Ordered.{Ordered};
+ghost use Rattle.index.specs.Index.{code, fronted, HashOf, Chained, Blank, Linking, Naming, Resolving, Indexed};
 ghost use Rattle.index.specs.Declarations.{declarationOf, numberOf, keptBy};
 ghost use Rattle.index.specs.declared.Declaration.{Declaration};
 
@@ -40,6 +46,12 @@ const CHAIN: usize = 12288;
 
 // As many items as the index holds, and a schema may have.
 pub const MOST: u32 = 1024;
+
+// How many items of a chain are looked at.
+const STEPS: u32 = 8;
+
+// In place of a declaration's number: its chain is longer.
+const UNTOLD: u32 = 1026;
 
 fn wide(b: u8) -> usize
     ensures { λ r. ⌜ (r ≡ b) × (r < 256) ⌝ }
@@ -110,18 +122,6 @@ fn put_links(m: Model, rec: &[u32], text: &[u8], ix: &mut [u16])
     }
 }
 
-fn is_declaring(kind: u32) -> bool
-    ensures { λ r. ⌜ r ≡ declares kind ⌝ }
-{
-    if kind == TYPE {
-        return true;
-    }
-    if kind == COMPOSITE {
-        return true;
-    }
-    kind == ENUM
-}
-
 fn name_item(m: Model, rec: &[u32], text: &[u8], i: u32, ix: &mut [u16])
     requires { ⌜ Naming (schemaOf m (now rec) (now text)) i (now ix) × (i < length (schemaOf m (now rec) (now text) .items)) × (length (schemaOf m (now rec) (now text) .items) ≤ 1024) ⌝ }
     ensures { λ r. ⌜ Naming (schemaOf m (now (rec .entry)) (now (text .entry))) (i + 1) (now (ix .exit)) ⌝ }
@@ -170,25 +170,30 @@ fn kept_at(m: Model, rec: &[u32], text: &[u8], i: u32, name: &[u8], kept: u32) -
         if 0 < kept {
             return kept;
         }
-        if equal(name_of(e, text), name) {
+        if same_name(name_of(e, text), name) {
             return i + 2;
         }
         return 0;
     }
-    if equal(name_of(e, text), name) {
+    if same_name(name_of(e, text), name) {
         return 1;
     }
     kept
 }
 
-// Along the chain of the name's hash: an enum or composite ends it, the first type is kept.
+// Along the chain of the name's hash, if it is short: an enum or composite ends it, the first type is kept.
 fn resolved(m: Model, rec: &[u32], text: &[u8], ix: &[u16], name: &[u8]) -> u32
     requires { ⌜ Chained (schemaOf m (now rec) (now text)) (length (schemaOf m (now rec) (now text) .items)) (now ix) × (length (schemaOf m (now rec) (now text) .items) ≤ 1024) ⌝ }
-    ensures { λ r. ⌜ (r ≡ numberOf (declarationOf (schemaOf m (now (rec .entry)) (now (text .entry))) (now (name .entry)))) × (r < 1026) ⌝ }
+    ensures { λ r. ⌜ (r < 1026 → r ≡ numberOf (declarationOf (schemaOf m (now (rec .entry)) (now (text .entry))) (now (name .entry)))) × (r ≤ 1026) ⌝ }
 {
     let mut kept = 0;
+    let mut left = STEPS;
     let mut p = word(ix, HEADS + hash_of(name));
     while 0 < p {
+        if left == 0 {
+            return UNTOLD;
+        }
+        left -= 1;
         let i = p - 1;
         kept = kept_at(m, rec, text, i, name, kept);
         if kept == 1 {
@@ -199,18 +204,52 @@ fn resolved(m: Model, rec: &[u32], text: &[u8], ix: &[u16], name: &[u8]) -> u32
     kept
 }
 
-fn resolve_item(m: Model, rec: &[u32], text: &[u8], i: u32, ix: &mut [u16])
+// The type name of item `i`, if it is a field: 1 further, or still at `i` where its chain is long.
+fn resolve_item(m: Model, rec: &[u32], text: &[u8], i: u32, ix: &mut [u16]) -> u32
     requires { ⌜ Resolving (schemaOf m (now rec) (now text)) i (now ix) × (i < length (schemaOf m (now rec) (now text) .items)) × (length (schemaOf m (now rec) (now text) .items) ≤ 1024) ⌝ }
-    ensures { λ r. ⌜ Resolving (schemaOf m (now (rec .entry)) (now (text .entry))) (i + 1) (now (ix .exit)) ⌝ }
+    ensures { λ r. ⌜ Resolving (schemaOf m (now (rec .entry)) (now (text .entry))) r (now (ix .exit)) × (i ≤ r) × (r ≤ i + 1) ⌝ }
 {
     let e = item(m, rec, i);
     if e.kind == FIELD {
         let d = resolved(m, rec, text, ix, second_of(e, text));
+        if d == UNTOLD {
+            return i;
+        }
+        let at = CHAIN + i as usize;
+        put_number(ix, at, d);
+        return i + 1;
+    }
+    i + 1
+}
+
+fn order_item(m: Model, rec: &[u32], text: &[u8], names: &[u16], n: usize, i: u32, ix: &mut [u16])
+    requires { ⌜ Resolving (schemaOf m (now rec) (now text)) i (now ix) × Ordered (schemaOf m (now rec) (now text)) (length (schemaOf m (now rec) (now text) .items)) (now names) n × (i < length (schemaOf m (now rec) (now text) .items)) × (length (schemaOf m (now rec) (now text) .items) ≤ 1024) ⌝ }
+    ensures { λ r. ⌜ Resolving (schemaOf m (now (rec .entry)) (now (text .entry))) (i + 1) (now (ix .exit)) ⌝ }
+{
+    let e = item(m, rec, i);
+    if e.kind == FIELD {
+        let d = number_of(m, rec, text, names, n, second_of(e, text));
         let at = CHAIN + i as usize;
         put_number(ix, at, d);
     }
 }
 
+// The type names from item `from` on, by the names in order.
+fn put_rest(m: Model, rec: &[u32], text: &[u8], from: u32, ix: &mut [u16])
+    requires { ⌜ Resolving (schemaOf m (now rec) (now text)) from (now ix) × (from ≤ length (schemaOf m (now rec) (now text) .items)) × (length (schemaOf m (now rec) (now text) .items) ≤ 1024) ⌝ }
+    ensures { λ r. ⌜ Resolving (schemaOf m (now (rec .entry)) (now (text .entry))) (length (schemaOf m (now (rec .entry)) (now (text .entry)) .items)) (now (ix .exit)) ⌝ }
+{
+    let mut names = [0u16; NAMES];
+    let n = put_ordered(m, rec, text, &mut names);
+    let c = count(m, rec, text);
+    let mut i = from;
+    while i < c {
+        order_item(m, rec, text, &names, n, i, ix);
+        i += 1;
+    }
+}
+
+// All type names: by the chains as far as these are short, and the rest by the names in order.
 fn put_resolved(m: Model, rec: &[u32], text: &[u8], ix: &mut [u16])
     requires { ⌜ Naming (schemaOf m (now rec) (now text)) (length (schemaOf m (now rec) (now text) .items)) (now ix) × (length (schemaOf m (now rec) (now text) .items) ≤ 1024) ⌝ }
     ensures { λ r. ⌜ Resolving (schemaOf m (now (rec .entry)) (now (text .entry))) (length (schemaOf m (now (rec .entry)) (now (text .entry)) .items)) (now (ix .exit)) ⌝ }
@@ -218,8 +257,12 @@ fn put_resolved(m: Model, rec: &[u32], text: &[u8], ix: &mut [u16])
     let n = count(m, rec, text);
     let mut i = 0;
     while i < n {
-        resolve_item(m, rec, text, i, ix);
-        i += 1;
+        let next = resolve_item(m, rec, text, i, ix);
+        if next == i {
+            put_rest(m, rec, text, next, ix);
+            return;
+        }
+        i = next;
     }
 }
 

@@ -83,6 +83,13 @@ fn colliding(prefix: &str, count: usize) -> Vec<String> {
     names
 }
 
+/// A type of each name, and as many fields as there is room for, each of the type that is told.
+fn naming<'a>(names: &'a [String], field: impl Fn(usize) -> &'a String) -> String {
+    let types: String = names.iter().map(|name| format!("<type name='{name}'/>")).collect();
+    let room = 1_023 - names.len();
+    most(&format!("{types}<message>"), |k| format!("<field type='{}'/>", field(k)), "</message>", room)
+}
+
 /// What may be slow for either side, within the limits.
 pub fn hard() -> Vec<(&'static str, String)> {
     vec![
@@ -176,11 +183,26 @@ pub fn hard() -> Vec<(&'static str, String)> {
                 format!("<type name='t' primitiveType='char' characterEncoding='{encoding}'/><message>");
             most(&types, |_| "<field type='t'/>".into(), "</message>", 1_020)
         }),
-        ("fields of type names that collide", {
-            let names = colliding(&"p".repeat(30), 230);
-            let types: String = names.iter().map(|name| format!("<type name='{name}'/>")).collect();
-            let field = format!("<field type='{}'/>", names[0]);
-            most(&format!("{types}<message>"), |_| field.clone(), "</message>", 700)
+        ("fields of type names that collide, the first", {
+            let names = colliding(&"p".repeat(30), 216);
+            naming(&names, |_| &names[0])
+        }),
+        ("fields of type names that collide, each another", {
+            let names = colliding(&"p".repeat(30), 216);
+            naming(&names, |k| &names[k * 7 % names.len()])
+        }),
+        ("fields of type names that collide, as many as one chain is walked for", {
+            let names = colliding(&"p".repeat(30), 8);
+            naming(&names, |_| &names[0])
+        }),
+        ("fields of one type name, declared 500 times", {
+            let names = vec!["abc".to_string(); 500];
+            naming(&names, |_| &names[0])
+        }),
+        ("fields of type names in falling order, a few collide", {
+            let mut names: Vec<String> = (0..500).map(|k| format!("{:03}", 999 - k)).collect();
+            names.extend(colliding("", 20));
+            naming(&names, |k| &names[519 - k * 7 % 520])
         }),
         ("deep", "<a>".repeat(64) + &"</a>".repeat(64)),
     ]

@@ -3,51 +3,51 @@ use Rattle.index.proofs.kept_at.Statement.{statement}
 use Rattle.index.proofs.kept_at.Tie as tie
 use Rattle.index.proofs.kept_at.Reads as reads
 use Rattle.index.proofs.kept_at.Lts as lts
-use Rattle.texts.proofs.equal.Reads as equal-reads
+use Rattle.ordered.proofs.same_name.Reads as same-name-reads
 use Rattle.xmlschema.proofs.items.item.Reads as item-reads
 use Rattle.xmlschema.proofs.items.name_of.Reads as name-of-reads
 
--- src/lib.rt:161:9
+-- src/lib.rt:168:9
 item-requires : tie.Need-item-requires
 item-requires c κs = search laws
 
--- src/lib.rt:164:13
+-- src/lib.rt:171:13
 returns : tie.Need-returns
 returns c = search laws
 
--- src/lib.rt:166:18
+-- src/lib.rt:173:22
 name-of-requires : tie.Need-name-of-requires
 name-of-requires c κs = search laws
 
--- src/lib.rt:166:12
-equal-requires : tie.Need-equal-requires
-equal-requires c κs = search laws
+-- src/lib.rt:173:12
+same-name-requires : tie.Need-same-name-requires
+same-name-requires c κs = search laws
 
--- src/lib.rt:167:20
+-- src/lib.rt:174:20
 add-result : tie.Need-add-result
 add-result c = search laws
 
--- src/lib.rt:167:13
+-- src/lib.rt:174:13
 returns-2 : tie.Need-returns-2
 returns-2 c = search laws
 
--- src/lib.rt:169:9
+-- src/lib.rt:176:9
 returns-3 : tie.Need-returns-3
 returns-3 c = search laws
 
--- src/lib.rt:171:14
+-- src/lib.rt:178:18
 name-of-requires-2 : tie.Need-name-of-requires-2
 name-of-requires-2 c κs = search laws
 
--- src/lib.rt:171:8
-equal-requires-2 : tie.Need-equal-requires-2
-equal-requires-2 c κs = search laws
+-- src/lib.rt:178:8
+same-name-requires-2 : tie.Need-same-name-requires-2
+same-name-requires-2 c κs = search laws
 
--- src/lib.rt:172:9
+-- src/lib.rt:179:9
 returns-4 : tie.Need-returns-4
 returns-4 c = search laws
 
--- src/lib.rt:157:1
+-- src/lib.rt:164:1
 returns-5 : tie.Need-returns-5
 returns-5 c = search laws
 
@@ -58,11 +58,11 @@ kept-at-spec =
     item-requires
     returns
     name-of-requires
-    equal-requires
+    same-name-requires
     add-result
     returns-2
     returns-3
     name-of-requires-2
-    equal-requires-2
+    same-name-requires-2
     returns-4
     returns-5)

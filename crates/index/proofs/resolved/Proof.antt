@@ -11,62 +11,70 @@ use Rattle.index.proofs.kept_at.Reads as kept-at-reads
 use Rattle.index.proofs.word.Reads as word-reads
 
 abbrev Inv-loop : tie.InvT-loop
-Inv-loop m rec text ix name kept₀ p₀ kept p = Seeking name (schemaOf m rec text) p kept × (p < 4294967296) × (kept < 1026)
+Inv-loop m rec text ix name kept₀ left₀ p₀ kept left p = Seeking name (schemaOf m rec text) p kept × (p < 4294967296) × (kept < 1026)
 
 abbrev μ-loop : tie.MeasureT-loop
-μ-loop m rec text ix name kept₀ p₀ kept p = p
+μ-loop m rec text ix name kept₀ left₀ p₀ kept left p = p
 
--- src/lib.rt:183:34
+-- src/lib.rt:191:34
 hash-of-requires : tie.Need-hash-of-requires Inv-loop μ-loop
 hash-of-requires c κs = search laws
 
--- src/lib.rt:183:26
+-- src/lib.rt:191:26
 add-word : tie.Need-add-word Inv-loop μ-loop
 add-word c = search laws
 
--- src/lib.rt:183:9
+-- src/lib.rt:191:9
 word-requires : tie.Need-word-requires Inv-loop μ-loop
 word-requires c κs = search laws
 
--- src/lib.rt:184:5
+-- src/lib.rt:192:5
 loop-holds : tie.Need-loop-holds Inv-loop μ-loop
 loop-holds c = search laws
 
--- src/lib.rt:185:17
-sub-i : tie.Need-sub-i Inv-loop μ-loop
-sub-i c = search laws
-
--- src/lib.rt:186:9
-kept-at-requires : tie.Need-kept-at-requires Inv-loop μ-loop
-kept-at-requires c κs = search laws
-
--- src/lib.rt:188:13
+-- src/lib.rt:194:13
 returns : tie.Need-returns Inv-loop μ-loop
 returns c = search laws
 
--- src/lib.rt:190:30
+-- src/lib.rt:196:9
+sub-left : tie.Need-sub-left Inv-loop μ-loop
+sub-left c = search laws
+
+-- src/lib.rt:197:17
+sub-i : tie.Need-sub-i Inv-loop μ-loop
+sub-i c = search laws
+
+-- src/lib.rt:198:9
+kept-at-requires : tie.Need-kept-at-requires Inv-loop μ-loop
+kept-at-requires c κs = search laws
+
+-- src/lib.rt:200:13
+returns-2 : tie.Need-returns-2 Inv-loop μ-loop
+returns-2 c = search laws
+
+-- src/lib.rt:202:30
 cast-word : tie.Need-cast-word Inv-loop μ-loop
 cast-word c = search laws
 
--- src/lib.rt:190:22
+-- src/lib.rt:202:22
 add-word-2 : tie.Need-add-word-2 Inv-loop μ-loop
 add-word-2 c = search laws
 
--- src/lib.rt:190:9
+-- src/lib.rt:202:9
 word-requires-2 : tie.Need-word-requires-2 Inv-loop μ-loop
 word-requires-2 c κs = search laws
 
--- src/lib.rt:184:5
+-- src/lib.rt:192:5
 loop-less : tie.Need-loop-less Inv-loop μ-loop
 loop-less c = search laws
 
--- src/lib.rt:184:5
+-- src/lib.rt:192:5
 loop-again : tie.Need-loop-again Inv-loop μ-loop
 loop-again c = search laws
 
--- src/lib.rt:178:1
-returns-2 : tie.Need-returns-2 Inv-loop μ-loop
-returns-2 c = search laws
+-- src/lib.rt:185:1
+returns-3 : tie.Need-returns-3 Inv-loop μ-loop
+returns-3 c = search laws
 
 pub resolved-spec : {M : Type 1} → statement M
 resolved-spec =
@@ -78,12 +86,14 @@ resolved-spec =
     add-word
     word-requires
     loop-holds
+    returns
+    sub-left
     sub-i
     kept-at-requires
-    returns
+    returns-2
     cast-word
     add-word-2
     word-requires-2
     loop-less
     loop-again
-    returns-2)
+    returns-3)

@@ -1,0 +1,2 @@
+-- What names in order are.
+pub mod Ordered
