@@ -1,13 +1,13 @@
 -- Laws of copying words that lack '&': the loop that copies them, the last word over what is copied already, and the rest.
 use mathlib.Core.Path.{_≡_, refl, sym, ap, _∙_}
 use mathlib.Core.Bool.{Bool, true, false, not}
-use mathlib.Core.List.{List, [], _∷_, _++_}
+use mathlib.Core.List.{List, [], _∷_, _++_, append-nil}
 use Prim.Native.Nat.{ℕ, zero, suc, _+_, _-_, _≤_, _<_}
 use native.Mathlib.Nat.{add-zero}
 use native.Mathlib.Omega.{arith}
 use lib.Dec.{eqb}
 use lib.ListN.{length, take, drop, set, length-append, length-drop, take-append-drop, drop-of-length-le}
-use lib.Seq.{sets, length-sets, length-take-le, take-all, take-add, take-length, set-set, set-comm}
+use lib.Seq.{sets, length-sets, length-take-le, take-all, take-add, take-length, drop-length, set-set, set-comm}
 use borrow.Author.Tests.{le-leb}
 use Rattle.texts.specs.Scan.{countWhile, scan, until, is}
 use Rattle.texts.specs.Text.{piece}
@@ -32,6 +32,10 @@ plain-split (suc n) (x ∷ xs) h =
     by-test (eqb x 38)
     (λ t. absurd (omega (arith, count-no (until (is 38)) x xs (ap not t))))
     (λ f. plain-front x xs f ∙ ap (λ t. x ∷ t) (plain-split n xs (omega (arith, count-yes (until (is 38)) x xs (ap not f)))))
+
+pub plain-decoded : (s : List ℕ) → countWhile (until (is 38)) s ≡ length s → decoded s ≡ s
+unfolding decodedPast
+plain-decoded s e = plain-split (length s) s (omega arith) ∙ rw (take-length, drop-length) (append-nil s)
 
 -- ---- runs of stores
 

@@ -1,12 +1,18 @@
 -- Laws of taking texts, of numbers read on the way, and of the entries made of them.
 use mathlib.Core.Path.{_≡_, refl, sym, ap, _∙_}
+use mathlib.Core.Bool.{true, not}
 use mathlib.Core.List.{List, [], _∷_}
 use mathlib.Core.Option.{Option, none, some}
-use Prim.Native.Nat.{ℕ, _+_, _-_, _≤_, _<_}
+use Prim.Native.Nat.{ℕ, suc, _+_, _-_, _≤_, _<_}
 use native.Mathlib.Omega.{arith}
-use lib.Dec.{eqb}
+use lib.Dec.{eqb, leb}
 use lib.ListN.{length, take, drop, length-take}
 use lib.Seq.{sets, length-sets}
+use borrow.Author.Tests.{eqb-true, ne-eqb, leb-true}
+use Rattle.texts.specs.Choice.{_and_}
+use Rattle.texts.specs.Scan.{countWhile, until, is}
+use Rattle.texts.proofs.Choosing.{by-test, both-true}
+use Rattle.texts.proofs.Scanning.{count-yes}
 use Rattle.texts.specs.Text.{piece}
 use Rattle.texts.proofs.Stores.{piece-stored, piece-above}
 use Rattle.saxlite.specs.declared.entities.Decoded.{Decoded}
@@ -18,12 +24,13 @@ use Rattle.saxlite.specs.Entities.{decoded, DecodedInto}
 use Rattle.saxlite.specs.Attributes.{rawLength}
 use Rattle.saxlite.specs.Event.{valueIn}
 use Rattle.saxlite.proofs.Decoding.{decoded-fits, decoded-length}
+use Rattle.saxlite.proofs.Copying.{plain-decoded}
 use Rattle.xmlschema.specs.Builder.{orEmpty, isGiven, plainItem}
 use Rattle.xmlschema.specs.Store.{itemOf}
 use Rattle.xmlschema.specs.Layout.{Alike, Steady}
 use Rattle.xmlschema.specs.Taking.{TakenAt, ReadAt, Made, typeItemOf, typeLength}
 use Rattle.xmlschema.specs.declared.items.Entry.{Entry}
-use Rattle.numbers.specs.Numbers.{numberOf, parsed}
+use Rattle.numbers.specs.Numbers.{isDigit, allDigits, boundedFrom, digitsOf, unsigned, numberOf, parsed}
 use Rattle.numbers.specs.declared.Number.{Number}
 use Rattle.numbers.specs.declared.Number.the-variants as number
 use Rattle.xmlschema.specs.declared.take.Taken.{Taken}
@@ -90,31 +97,76 @@ module _ (doc text : List ℕ) (low : ℕ) {f : Found} where
   unfolding numberOf
   number-absent e = rw e (record { is = refl; scratch = record { alike = λ h k. alike-self; long = refl } })
 
-  module _ {from len : ℕ} (e : f ≡ Value from len) {d : Decoded} {text′ : List ℕ} (p : DecodedInto (piece doc from len) text low d text′) (h : low + rawLength f ≤ length text) where
-    fits : low + len ≤ length text
-    fits = rw e at h
+  module _ {from len : ℕ} (e : f ≡ Value from len) where
+    pub number-fits : low + rawLength f ≤ length text → low + len ≤ length text
+    number-fits h = rw e at h
 
-    within : Stored doc from len text low d text′
-    within = stored doc from len text low text′ p fits
+    pub number-at : {r : Number} {text′ : List ℕ} → ReadAt (Value from len) doc low text r text′ → ReadAt f doc low text r text′
+    number-at q = rw e q
 
-    pub number-value : {n : ℕ} → d ≡ Written n → {w : List ℕ} → w ≡ piece text′ low n → {r : Number} → r ≡ parsed (numberOf (some w)) → ReadAt f doc low text r text′
-    number-value {n} g {w} ew er =
-        let v = decoded (piece doc from len) in
-        let q : n ≡ length v = written (length v) (within .told) g in
-        let z : length v ≤ len = within .most in
-        let s : piece text′ low n ≡ v = rw (within .is, q) (piece-stored v text low (length v) refl (omega (arith, fits))) in
-        rw e
-        (record {
-          is = er ∙ ap (λ x. parsed (numberOf (some x))) (ew ∙ s);
-          scratch =
-              record {
-                alike = λ a b. rw (within .is) (alike-sets text v low a low (omega arith) (omega arith));
-                long = rw (within .is) (length-sets text low v);
-              };
-        })
+module _ (doc text : List ℕ) (low : ℕ) {from len : ℕ} {d : Decoded} {text′ : List ℕ} (p : DecodedInto (piece doc from len) text low d text′) (fits : low + len ≤ length text) where
+  within : Stored doc from len text low d text′
+  within = stored doc from len text low text′ p fits
 
-    pub number-none : d ≡ NoRoom → ReadAt f doc low text number.Bad text′
-    number-none g = absurd (never (length (decoded (piece doc from len))) (within .told) g)
+  pub number-value : {n : ℕ} → d ≡ Written n → {w : List ℕ} → w ≡ piece text′ low n → {r : Number} → r ≡ parsed (numberOf (some w)) → ReadAt (Value from len) doc low text r text′
+  number-value {n} g {w} ew er =
+      let v = decoded (piece doc from len) in
+      let q : n ≡ length v = written (length v) (within .told) g in
+      let z : length v ≤ len = within .most in
+      let s : piece text′ low n ≡ v = rw (within .is, q) (piece-stored v text low (length v) refl (omega (arith, fits))) in
+      record {
+        is = er ∙ ap (λ x. parsed (numberOf (some x))) (ew ∙ s);
+        scratch =
+            record {
+              alike = λ a b. rw (within .is) (alike-sets text v low a low (omega arith) (omega arith));
+              long = rw (within .is) (length-sets text low v);
+            };
+      }
+
+  pub number-none : d ≡ NoRoom → ReadAt (Value from len) doc low text number.Bad text′
+  number-none g = absurd (never (length (decoded (piece doc from len))) (within .told) g)
+
+-- bytes that are a number as they stand hold no '&'
+digit-plain : (s : List ℕ) → allDigits s ≡ true → countWhile (until (is 38)) s ≡ length s
+unfolding allDigits isDigit
+digit-plain [] t = refl
+digit-plain (b ∷ s) t =
+    let h = both-true (leb 48 b and leb b 57) (allDigits s) t in
+    let l : 48 ≤ b = leb-true 48 b (both-true (leb 48 b) (leb b 57) (h .0) .0) in
+    count-yes (until (is 38)) b s (ap not (ne-eqb b 38 (λ e. omega arith))) ∙ ap suc (digit-plain s (h .1))
+
+bounded-digits : (n : ℕ) (s : List ℕ) {v : ℕ} → boundedFrom n s ≡ some v → allDigits s ≡ true
+unfolding boundedFrom
+bounded-digits n s e =
+    by-test (allDigits s) (λ t. t)
+    (λ f. absurd (let z : _≡_ {A = Option ℕ} none (some _) = rw f at e in let w : _≡_ {A = ℕ} 0 1 = cc in omega arith))
+
+digits-plain : (s : List ℕ) {v : ℕ} → digitsOf s ≡ some v → countWhile (until (is 38)) s ≡ length s
+unfolding digitsOf
+digits-plain [] e = refl
+digits-plain (b ∷ s) e = digit-plain (b ∷ s) (bounded-digits 0 (b ∷ s) e)
+
+number-plain : (s : List ℕ) {v : ℕ} → numberOf (some s) ≡ some v → countWhile (until (is 38)) s ≡ length s
+unfolding numberOf unsigned
+number-plain [] e = refl
+number-plain (b ∷ s) e =
+    by-test (eqb b 43)
+    (λ t. count-yes (until (is 38)) b s (ap not (ne-eqb b 38 (λ q. omega (arith, eqb-true b 43 t)))) ∙ ap suc (digits-plain s (rw t at e)))
+    (λ f. digits-plain (b ∷ s) (rw f at e))
+
+parsed-value : (o : Option ℕ) {v : ℕ} → parsed o ≡ number.Value v → o ≡ some v
+parsed-value none e = absurd (let z : _≡_ {A = ℕ} 0 1 = cc in omega arith)
+parsed-value (some n) {v} e = let q : n ≡ v = cc in ap some q
+
+pub number-told : (doc text : List ℕ) (low : ℕ) {f : Found} {from len : ℕ} → f ≡ Value from len → {w : List ℕ} → w ≡ piece doc from len → {r : Number} → r ≡ parsed (numberOf (some w)) → {n : ℕ} → r ≡ number.Value n → ReadAt f doc low text (number.Value n) text
+number-told doc text low {from = from} {len = len} e {w} ew er {n} en =
+    let o : numberOf (some w) ≡ some n = parsed-value (numberOf (some w)) (sym er ∙ en) in
+    let d : decoded w ≡ w = plain-decoded w (number-plain w o) in
+    rw e
+    (record {
+      is = sym (ap (λ x. parsed (numberOf (some x))) (ap decoded (sym ew) ∙ d) ∙ ap parsed o);
+      scratch = record { alike = λ h k. alike-self; long = refl };
+    })
 
 -- whether a value is there
 pub given-not : {f : Found} → f ≡ Absent → (doc : List ℕ) → eqb 0 1 ≡ isGiven (valueIn doc f)

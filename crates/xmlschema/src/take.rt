@@ -16,6 +16,7 @@ ghost use lib.Dec.{eqb};
 ghost use lib.ListN.{length};
 ghost use Rattle.texts.specs.Text.{ascii};
 ghost use Rattle.saxlite.specs.Attributes.{attributeAt, rawLength};
+ghost use Rattle.saxlite.specs.declared.tag.Found.the-variants.{Value};
 ghost use Rattle.saxlite.specs.Event.{valueIn};
 ghost use Rattle.saxlite.specs.Noting.{NotedBy, schemaKeys, typeKeys, enumKeys, fieldKeys};
 ghost use Rattle.xmlschema.specs.Builder.{plainItem, isGiven, orEmpty};
@@ -80,16 +81,27 @@ pub fn take_value(doc: &[u8], found: Found, text: &mut [u8], high: usize) -> Tak
     }
 }
 
-// The value that was found as a number, decoded into the free text from `low` on.
+// A piece of the document as a number, decoded into the free text from `low` on.
+fn decoded_number(doc: &[u8], from: usize, len: usize, text: &mut [u8], low: usize) -> Number
+    requires { ⌜ low + len ≤ length (now text) ⌝ }
+    ensures { λ r. ⌜ ReadAt (Value from len) (now (doc .entry)) low (now (text .entry)) r (now (text .exit)) ⌝ }
+{
+    match decode(doc, from, len, text, low) {
+        Decoded::Written(n) => number_of(part(text, low, n)),
+        Decoded::NoRoom => Number::Bad,
+    }
+}
+
+// The value that was found as a number. What is one as it stands has nothing to decode.
 pub fn read_number(doc: &[u8], found: Found, text: &mut [u8], low: usize) -> Number
     requires { ⌜ low + rawLength found ≤ length (now text) ⌝ }
     ensures { λ r. ⌜ ReadAt found (now (doc .entry)) low (now (text .entry)) r (now (text .exit)) ⌝ }
 {
     match found {
         Found::Absent => Number::Value(0),
-        Found::Value { from, len } => match decode(doc, from, len, text, low) {
-            Decoded::Written(n) => number_of(part(text, low, n)),
-            Decoded::NoRoom => Number::Bad,
+        Found::Value { from, len } => match number_of(part(doc, from, len)) {
+            Number::Value(n) => Number::Value(n),
+            Number::Bad => decoded_number(doc, from, len, text, low),
         },
     }
 }
