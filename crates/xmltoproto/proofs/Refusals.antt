@@ -3,8 +3,9 @@ use mathlib.Core.Path.{_≡_, refl, sym, ap, _∙_}
 use mathlib.Core.Bool.{Bool, true, false}
 use mathlib.Core.Option.{Option, none, some}
 use mathlib.Core.List.{List, []}
-use Prim.Native.Nat.{ℕ}
+use Prim.Native.Nat.{ℕ, _≤_}
 use native.Mathlib.Omega.{arith}
+use borrow.Author.Tests.{le-ltb}
 use Rattle.refusals.specs.declared.Refusal.the-variants.{ArrayInComposite, ArrayInMessage}
 use Rattle.texts.specs.Lists.{any}
 use Rattle.xmlschema.specs.Schema.{Item, Schema, itemAt, allOf, under, aMember, aComposite, aMessage, aGroup, aField}
@@ -30,6 +31,11 @@ pub array-told : (it : Item) {u : List ℕ} {n : ℕ} → u ≡ it .second → n
 unfolding formOf
 array-told it {u} {n} eu en eb =
     eb ∙ ap (λ (x : List ℕ). isArray (form x n [])) eu ∙ ap (λ (x : ℕ). isArray (form (it .second) x [])) en ∙ array-form (it .second) (formOf it .size) (it .encoding)
+
+-- a length of 1 at most is no array's
+pub array-small : (it : Item) {n : ℕ} → n ≡ formOf it .size → n ≤ 1 → false ≡ isArray (formOf it)
+unfolding isArray
+array-small it {n} e h = rw (← e, le-ltb 1 n h)
 
 -- ---- composites
 

@@ -37,7 +37,11 @@ pub enum Arrays {
 fn is_member_array(m: Model, rec: &[u32], text: &[u8], i: u32) -> bool
     ensures { λ r. ⌜ r ≡ isArray (formOf (itemAt (schemaOf m (now (rec .entry)) (now (text .entry))) i)) ⌝ }
 {
-    is_array(second_at(m, rec, text, i), size_at(m, rec, text, i))
+    let size = size_at(m, rec, text, i);
+    if 1 < size {
+        return is_array(second_at(m, rec, text, i), size);
+    }
+    false
 }
 
 fn has_member_array(m: Model, rec: &[u32], text: &[u8], ix: &[u16], c: u32) -> bool
