@@ -22,17 +22,19 @@ use Rattle.index.proofs.Chaining.{chained-start, chained-on, chained-of
 
 -- ---- an array of zeros
 
-pub blank-zeros : Blank (replicate 13312 0)
-blank-zeros =
-    record {
-      long = let e = length-replicate {A = ℕ} 13312 0 in omega arith;
-      zero = λ k. by-less k 13312 (λ l. getD-replicate 13312 k 0 0 l) (λ l. let e = length-replicate {A = ℕ} 13312 0 in let h : length {A = ℕ} (replicate 13312 0) ≤ k = omega arith in List·getD-eq-default (replicate 13312 0) 0 h);
-    }
+zeros : (n k : ℕ) → getD {A = ℕ} (replicate n 0) k 0 ≡ 0
+zeros n k = by-less k n (λ l. getD-replicate n k 0 0 l) (λ l. let e = length-replicate {A = ℕ} n 0 in let h : length {A = ℕ} (replicate n 0) ≤ k = omega arith in List·getD-eq-default (replicate n 0) 0 h)
+
+pub blank-few : (s : Schema) {n : ℕ} → n ≡ length (s .items) → n ≤ 64 → Blank s (replicate 3712 0)
+blank-few s e h = record { long = λ _. let z = length-replicate {A = ℕ} 3712 0 in omega arith; zero = zeros 3712 }
+
+pub blank-all : (s : Schema) → Blank s (replicate 13312 0)
+blank-all s = record { long = λ most. let z = length-replicate {A = ℕ} 13312 0 in omega arith; zero = zeros 13312 }
 
 -- ---- links
 
-pub linking-start : (s : Schema) (ix : List ℕ) → Blank ix → {n : ℕ} → n ≡ length (s .items) → Linking s n ix
-linking-start s ix b {n} e = record { long = b .long; linked = linked-start s ix (b .zero) n (omega arith); zero = λ k _. b .zero k }
+pub linking-start : (s : Schema) (ix : List ℕ) → Blank s ix → length (s .items) ≤ 1024 → {n : ℕ} → n ≡ length (s .items) → Linking s n ix
+linking-start s ix b most {n} e = record { long = b .long most; linked = linked-start s ix (b .zero) n (omega arith); zero = λ k _ _. b .zero k }
 
 pub linking-here : (s : Schema) (ix : List ℕ) {n : ℕ} → Linking s n ix → 0 < n → Linking s (n - 1 + 1) ix
 linking-here s ix {n} l h = let e : n - 1 + 1 ≡ n = omega arith in rw e l
@@ -41,25 +43,25 @@ pub linking-end : (s : Schema) (ix : List ℕ) {n : ℕ} → Linking s n ix → 
 linking-end s ix {n} l h = let e : n ≡ 0 = omega arith in rw e at l
 
 module _ (m : Model) (rec text : List ℕ) (i : ℕ) (e : Entry) (f : (t : List ℕ) → itemOf t e ≡ itemAt (schemaOf m rec t) i) (ix : List ℕ) (l : Linking (schemaOf m rec text) (i + 1) ix) (h : i < length (schemaOf m rec text .items)) where
-  off : (itemAt (schemaOf m rec text) i .kind < 10 → itemAt (schemaOf m rec text) i .owner < 1024 → ⊥) → Linking (schemaOf m rec text) i ix
+  off : (itemAt (schemaOf m rec text) i .kind < 10 → itemAt (schemaOf m rec text) i .owner < length (schemaOf m rec text .items) → ⊥) → Linking (schemaOf m rec text) i ix
   off n = record { long = l .long; linked = linked-off (schemaOf m rec text) ix i (l .linked) h n; zero = l .zero }
 
   pub link-kind : 9 < e .kind → Linking (schemaOf m rec text) i ix
   link-kind g = off (λ a b. let k = kind-is m rec i e f text in omega arith)
 
-  pub link-owner : 1023 < e .owner → Linking (schemaOf m rec text) i ix
-  link-owner g = off (λ a b. let k = owner-is m rec i e f text in omega arith)
+  pub link-owner : {c : ℕ} → c ≡ length (schemaOf m rec text .items) → c ≤ e .owner → Linking (schemaOf m rec text) i ix
+  link-owner ec g = off (λ a b. let k = owner-is m rec i e f text in omega arith)
 
-  pub link-on : length (schemaOf m rec text .items) ≤ 1024 → e .kind ≤ 9 → e .owner ≤ 1023 → {ix′ : List ℕ} → ix′ ≡ fronted ix (10 * e .owner + e .kind) (10240 + i) i → Linking (schemaOf m rec text) i ix′
-  link-on most hk ho {ix′} q =
+  pub link-on : length (schemaOf m rec text .items) ≤ 1024 → e .kind ≤ 9 → {c : ℕ} → c ≡ length (schemaOf m rec text .items) → e .owner < c → {ix′ : List ℕ} → ix′ ≡ fronted ix (3072 + 10 * e .owner + e .kind) i i → Linking (schemaOf m rec text) i ix′
+  link-on most hk ec ho {ix′} q =
       let k = kind-is m rec i e f text in
       let o = owner-is m rec i e f text in
       let on = linked-on (schemaOf m rec text) ix i (l .linked) h (l .long) most (omega arith) (omega arith) in
-      let r : ix′ ≡ fronted ix (10 * itemAt (schemaOf m rec text) i .owner + itemAt (schemaOf m rec text) i .kind) (10240 + i) i = rw (← k, ← o) q in
+      let r : ix′ ≡ fronted ix (3072 + 10 * itemAt (schemaOf m rec text) i .owner + itemAt (schemaOf m rec text) i .kind) i i = rw (← k, ← o) q in
       record {
-        long = rw (q, fronted-length ix (10 * e .owner + e .kind) (10240 + i) i) (l .long);
+        long = rw (q, fronted-length ix (3072 + 10 * e .owner + e .kind) i i) (l .long);
         linked = rw r on;
-        zero = λ j b. rw q (fronted-other ix (10 * e .owner + e .kind) (10240 + i) i j (λ x. omega arith) (λ x. omega arith) ∙ l .zero j b);
+        zero = λ j b d. rw q (fronted-other ix (3072 + 10 * e .owner + e .kind) i i j (λ x. omega arith) (λ x. omega arith) ∙ l .zero j b d);
       }
 
 -- ---- names
@@ -77,14 +79,14 @@ module _ (m : Model) (rec text : List ℕ) (i : ℕ) (e : Entry) (f : (t : List 
   pub name-off : b ≡ false → Naming (schemaOf m rec text) (i + 1) ix
   name-off g = record { long = c .long; linked = c .linked; chained = chained-off (schemaOf m rec text) ix i (c .chained) h (told ∙ g) }
 
-  pub name-on : b ≡ true → length (schemaOf m rec text .items) ≤ 1024 → {w : List ℕ} → w ≡ itemOf text e .name → {k : ℕ} → HashOf w k → {ix′ : List ℕ} → ix′ ≡ fronted ix (11264 + k) (12288 + i) i → Naming (schemaOf m rec text) (i + 1) ix′
+  pub name-on : b ≡ true → length (schemaOf m rec text .items) ≤ 1024 → {w : List ℕ} → w ≡ itemOf text e .name → {k : ℕ} → HashOf w k → {ix′ : List ℕ} → ix′ ≡ fronted ix (1024 + k) (2048 + i) i → Naming (schemaOf m rec text) (i + 1) ix′
   name-on t most {w} ew {k} ek {ix′} q =
       let z : k ≡ hash (itemAt (schemaOf m rec text) i .name) = ek .is ∙ ap hash (name-is m rec i e f text ew) in
       let low : k < 1024 = ek .low in
       let on = chained-on (schemaOf m rec text) ix i (c .chained) h (c .long) most (told ∙ t) (rw (← z) low) in
       record {
-        long = rw (q, fronted-length ix (11264 + k) (12288 + i) i) (c .long);
-        linked = linked-frame (schemaOf m rec text) 0 ix ix′ most (λ j l. rw q (fronted-other ix (11264 + k) (12288 + i) i j (λ x. omega arith) (λ x. omega arith))) (c .linked);
+        long = rw (q, fronted-length ix (1024 + k) (2048 + i) i) (c .long);
+        linked = linked-frame (schemaOf m rec text) 0 ix ix′ most (λ j l. rw q (fronted-other ix (1024 + k) (2048 + i) i j (λ x. l (omega arith) (omega arith)) (λ x. l (omega arith) (omega arith)))) (c .linked);
         chained = rw (q, z) on;
       }
 
@@ -123,34 +125,34 @@ module _ (m : Model) (rec text : List ℕ) (i : ℕ) (e : Entry) (f : (t : List 
         resolved = record { is = λ j l k. by-less j i (λ b. c .resolved .is j b k) (λ b. let q : j ≡ i = omega arith in absurd (n (kind-is m rec i e f text ∙ (rw q at k)))) };
       }
 
-  resolve-on : e .kind ≡ 9 → length (schemaOf m rec text .items) ≤ 1024 → i < length (schemaOf m rec text .items) → {w : List ℕ} → w ≡ itemOf text e .second → {d : ℕ} → d ≡ numberOf (declarationOf (schemaOf m rec text) w) → {ix′ : List ℕ} → ix′ ≡ set ix (12288 + i) d → Resolving (schemaOf m rec text) (i + 1) ix′
+  resolve-on : e .kind ≡ 9 → length (schemaOf m rec text .items) ≤ 1024 → i < length (schemaOf m rec text .items) → {w : List ℕ} → w ≡ itemOf text e .second → {d : ℕ} → d ≡ numberOf (declarationOf (schemaOf m rec text) w) → {ix′ : List ℕ} → ix′ ≡ set ix (2048 + i) d → Resolving (schemaOf m rec text) (i + 1) ix′
   resolve-on ek most h {w} ew {d} ed {ix′} q =
       record {
         long = rw (q, length-set) (c .long);
-        linked = linked-frame (schemaOf m rec text) 0 ix ix′ most (λ k l. rw q (getD-set-other ix (12288 + i) k d 0 (λ x. omega arith))) (c .linked);
+        linked = linked-frame (schemaOf m rec text) 0 ix ix′ most (λ k l. rw q (getD-set-other ix (2048 + i) k d 0 (λ x. l (omega arith) (omega arith)))) (c .linked);
         chained = rw q (chained-aside (schemaOf m rec text) (length (schemaOf m rec text .items)) ix i d aside (c .chained));
-        resolved = record { is = λ j l k. by-less j i (λ b. rw q (getD-set-other ix (12288 + i) (12288 + j) d 0 (λ x. omega arith) ∙ c .resolved .is j b k)) (λ b. let z : j ≡ i = omega arith in rw (z, q) (here ∙ ed ∙ ap (λ x. numberOf (declarationOf (schemaOf m rec text) x)) (second-is m rec i e f text ew))) };
+        resolved = record { is = λ j l k. by-less j i (λ b. rw q (getD-set-other ix (2048 + i) (2048 + j) d 0 (λ x. omega arith) ∙ c .resolved .is j b k)) (λ b. let z : j ≡ i = omega arith in rw (z, q) (here ∙ ed ∙ ap (λ x. numberOf (declarationOf (schemaOf m rec text) x)) (second-is m rec i e f text ew))) };
       }
     where
-      here : getD (set ix (12288 + i) d) (12288 + i) 0 ≡ d
-      here = let l = c .long in getD-set-same ix (12288 + i) d 0 (omega arith)
+      here : getD (set ix (2048 + i) d) (2048 + i) 0 ≡ d
+      here = let l = c .long in getD-set-same ix (2048 + i) d 0 (omega arith)
 
       aside : declares (itemAt (schemaOf m rec text) i .kind) ≡ false
       aside = ap declares (sym (kind-is m rec i e f text) ∙ ek) ∙ field-aside
 
   -- by a chain that is short
-  pub resolve-short : e .kind ≡ 9 → length (schemaOf m rec text .items) ≤ 1024 → i < length (schemaOf m rec text .items) → {w : List ℕ} → w ≡ itemOf text e .second → {d : ℕ} → (d < 1026 → d ≡ numberOf (declarationOf (schemaOf m rec text) w)) × (d ≤ 1026) → (d ≡ 1026 → ⊥) → {ix′ : List ℕ} → ix′ ≡ set ix (12288 + i) d → Resolving (schemaOf m rec text) (i + 1) ix′
+  pub resolve-short : e .kind ≡ 9 → length (schemaOf m rec text .items) ≤ 1024 → i < length (schemaOf m rec text .items) → {w : List ℕ} → w ≡ itemOf text e .second → {d : ℕ} → (d < 1026 → d ≡ numberOf (declarationOf (schemaOf m rec text) w)) × (d ≤ 1026) → (d ≡ 1026 → ⊥) → {ix′ : List ℕ} → ix′ ≡ set ix (2048 + i) d → Resolving (schemaOf m rec text) (i + 1) ix′
   resolve-short ek most h ew {d} g n q = resolve-on ek most h ew (g .0 (by-less d 1026 (λ l. l) (λ l. let u = g .1 in absurd (n (omega arith))))) q
 
   -- by the names in order
-  pub resolve-ordered : e .kind ≡ 9 → length (schemaOf m rec text .items) ≤ 1024 → i < length (schemaOf m rec text .items) → {w : List ℕ} → w ≡ itemOf text e .second → {d : ℕ} → (d ≡ numbered (lastNamed anEnum w (schemaOf m rec text)) (lastNamed aComposite w (schemaOf m rec text)) (lastNamed aType w (schemaOf m rec text))) × (d < 1026) → {ix′ : List ℕ} → ix′ ≡ set ix (12288 + i) d → Resolving (schemaOf m rec text) (i + 1) ix′
+  pub resolve-ordered : e .kind ≡ 9 → length (schemaOf m rec text .items) ≤ 1024 → i < length (schemaOf m rec text .items) → {w : List ℕ} → w ≡ itemOf text e .second → {d : ℕ} → (d ≡ numbered (lastNamed anEnum w (schemaOf m rec text)) (lastNamed aComposite w (schemaOf m rec text)) (lastNamed aType w (schemaOf m rec text))) × (d < 1026) → {ix′ : List ℕ} → ix′ ≡ set ix (2048 + i) d → Resolving (schemaOf m rec text) (i + 1) ix′
   unfolding declarationOf
   resolve-ordered ek most h {w} ew g q = resolve-on ek most h ew (g .0 ∙ numbered-is (lastNamed anEnum w (schemaOf m rec text)) (lastNamed aComposite w (schemaOf m rec text)) (lastNamed aType w (schemaOf m rec text))) q
 
 -- ---- all
 
 pub indexed-built : (s : Schema) (ix : List ℕ) → Resolving s (length (s .items)) ix → Indexed s ix
-indexed-built s ix c = record { long = c .long; links = λ _. c .linked; types = λ _. c .resolved }
+indexed-built s ix c = record { long = λ _. c .long; links = λ _. c .linked; types = λ _. c .resolved }
 
-pub indexed-not : (s : Schema) (ix : List ℕ) → Blank ix → {n : ℕ} → n ≡ length (s .items) → 1024 < n → Indexed s ix
+pub indexed-not : (s : Schema) (ix : List ℕ) → Blank s ix → {n : ℕ} → n ≡ length (s .items) → 1024 < n → Indexed s ix
 indexed-not s ix b e h = record { long = b .long; links = λ most. absurd (omega arith); types = λ most. absurd (omega arith) }

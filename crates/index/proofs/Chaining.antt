@@ -3,7 +3,7 @@ use mathlib.Core.Path.{_≡_, refl, sym, ap, _∙_}
 use mathlib.Core.Bool.{Bool, true, false}
 use mathlib.Core.Option.{Option, none, some}
 use mathlib.Core.List.{List}
-use Prim.Native.Nat.{ℕ, zero, suc, _+_, _-_, _≤_, _<_}
+use Prim.Native.Nat.{ℕ, zero, suc, _+_, _*_, _-_, _≤_, _<_}
 use native.Mathlib.Numerals.{add-one}
 use native.Mathlib.Omega.{arith}
 use lib.Dec.{T, eqb}
@@ -61,11 +61,11 @@ code-some none p h e = absurd (omega arith)
 code-some (some i) p h e = let z : i ≡ p - 1 = omega arith in rw z
 
 -- none so far
-pub chained-start : (s : Schema) (ix : List ℕ) → ((k : ℕ) → 11264 ≤ k → getD ix k 0 ≡ 0) → Chained s 0 ix
+pub chained-start : (s : Schema) (ix : List ℕ) → ((k : ℕ) → 1024 ≤ k → k < 3072 → getD ix k 0 ≡ 0) → Chained s 0 ix
 unfolding lastHashed positionsFrom last
 chained-start s ix z =
     record {
-      head = λ b h. z (11264 + b) (omega arith);
+      head = λ b h. z (1024 + b) (omega arith) (omega arith);
       chain = λ j h b t. absurd (omega arith);
     }
 
@@ -81,7 +81,7 @@ module _ (s : Schema) (ix : List ℕ) (n : ℕ) (c : Chained s n ix) (h : n < le
   unhashed : (b : ℕ) → (declares (itemAt s n .kind) ≡ true → hash (itemAt s n .name) ≡ b → ⊥) → hashed b (itemAt s n) ≡ false
   unhashed b f = by-test (hashed b (itemAt s n)) (λ t. let e = hashed-as (itemAt s n) b t in absurd (f (e .0) (e .1))) (λ g. g)
 
-  head-kept : (b : ℕ) → b < 1024 → hashed b (itemAt s n) ≡ false → getD ix (11264 + b) 0 ≡ code (lastHashed b (n + 1) s)
+  head-kept : (b : ℕ) → b < 1024 → hashed b (itemAt s n) ≡ false → getD ix (1024 + b) 0 ≡ code (lastHashed b (n + 1) s)
   unfolding lastHashed
   head-kept b l f = c .head b l ∙ ap code (sym (last-no (hashed b) s n h f))
 
@@ -89,24 +89,24 @@ module _ (s : Schema) (ix : List ℕ) (n : ℕ) (c : Chained s n ix) (h : n < le
   unfolding lastHashed
   head-new d = last-yes (hashed (hash (itemAt s n .name))) s n h (is-hashed (itemAt s n) d)
 
-  module _ (big : 13312 ≤ length ix) (most : length (s .items) ≤ 1024) (d : declares (itemAt s n .kind) ≡ true) (low : hash (itemAt s n .name) < 1024) where
-    chained-head : (b : ℕ) → b < 1024 → getD (fronted ix (11264 + hash (itemAt s n .name)) (12288 + n) n) (11264 + b) 0 ≡ code (lastHashed b (n + 1) s)
+  module _ (big : 3072 + 10 * length (s .items) ≤ length ix) (most : length (s .items) ≤ 1024) (d : declares (itemAt s n .kind) ≡ true) (low : hash (itemAt s n .name) < 1024) where
+    chained-head : (b : ℕ) → b < 1024 → getD (fronted ix (1024 + hash (itemAt s n .name)) (2048 + n) n) (1024 + b) 0 ≡ code (lastHashed b (n + 1) s)
     chained-head b l =
         by-equal b (hash (itemAt s n .name))
-        (λ e. rw e (fronted-head ix (11264 + hash (itemAt s n .name)) (12288 + n) n (omega arith) ∙ ap code (sym (head-new d))))
-        (λ f. fronted-other ix (11264 + hash (itemAt s n .name)) (12288 + n) n (11264 + b) (λ e. f (omega arith)) (λ e. omega arith) ∙ head-kept b l (unhashed b (λ _ e. f (sym e))))
+        (λ e. rw e (fronted-head ix (1024 + hash (itemAt s n .name)) (2048 + n) n (omega arith) ∙ ap code (sym (head-new d))))
+        (λ f. fronted-other ix (1024 + hash (itemAt s n .name)) (2048 + n) n (1024 + b) (λ e. f (omega arith)) (λ e. omega arith) ∙ head-kept b l (unhashed b (λ _ e. f (sym e))))
 
-    chained-this : (b : ℕ) → T (hashed b (itemAt s n)) → getD (fronted ix (11264 + hash (itemAt s n .name)) (12288 + n) n) (12288 + n) 0 ≡ code (lastHashed b n s)
+    chained-this : (b : ℕ) → T (hashed b (itemAt s n)) → getD (fronted ix (1024 + hash (itemAt s n .name)) (2048 + n) n) (2048 + n) 0 ≡ code (lastHashed b n s)
     chained-this b t =
         let e = hashed-as (itemAt s n) b (is-true (hashed b (itemAt s n)) t) .1 in
-        fronted-at ix (11264 + hash (itemAt s n .name)) (12288 + n) n (omega arith) (λ q. omega arith) ∙ c .head (hash (itemAt s n .name)) low ∙ ap (λ x. code (lastHashed x n s)) e
+        fronted-at ix (1024 + hash (itemAt s n .name)) (2048 + n) n (omega arith) (λ q. omega arith) ∙ c .head (hash (itemAt s n .name)) low ∙ ap (λ x. code (lastHashed x n s)) e
 
-    pub chained-on : Chained s (n + 1) (fronted ix (11264 + hash (itemAt s n .name)) (12288 + n) n)
+    pub chained-on : Chained s (n + 1) (fronted ix (1024 + hash (itemAt s n .name)) (2048 + n) n)
     chained-on =
         record {
           head = chained-head;
           chain = λ j l b t. by-less j n
-              (λ m. fronted-other ix (11264 + hash (itemAt s n .name)) (12288 + n) n (12288 + j) (λ e. omega arith) (λ e. omega arith) ∙ c .chain j m b t)
+              (λ m. fronted-other ix (1024 + hash (itemAt s n .name)) (2048 + n) n (2048 + j) (λ e. omega arith) (λ e. omega arith) ∙ c .chain j m b t)
               (λ m. let e : j ≡ n = omega arith in rw e (chained-this b (rw e at t)));
         }
 
@@ -120,11 +120,11 @@ module _ (s : Schema) (ix : List ℕ) (n : ℕ) (c : Chained s n ix) (h : n < le
       }
 
 -- the place of an item that declares nothing is no part of the chains
-pub chained-aside : (s : Schema) (n : ℕ) (ix : List ℕ) (i d : ℕ) → declares (itemAt s i .kind) ≡ false → Chained s n ix → Chained s n (set ix (12288 + i) d)
+pub chained-aside : (s : Schema) (n : ℕ) (ix : List ℕ) (i d : ℕ) → declares (itemAt s i .kind) ≡ false → Chained s n ix → Chained s n (set ix (2048 + i) d)
 chained-aside s n ix i d f c =
     record {
-      head = λ b l. getD-set-other ix (12288 + i) (11264 + b) d 0 (λ e. omega arith) ∙ c .head b l;
+      head = λ b l. getD-set-other ix (2048 + i) (1024 + b) d 0 (λ e. omega arith) ∙ c .head b l;
       chain = λ j l b t. by-equal j i
           (λ e. absurd (let q = hashed-as (itemAt s j) b (is-true (hashed b (itemAt s j)) t) .0 in let g = rw (sym e) at f in let z : _≡_ {A = ℕ} 0 1 = cc in omega arith))
-          (λ e. getD-set-other ix (12288 + i) (12288 + j) d 0 (λ q. e (omega arith)) ∙ c .chain j l b t);
+          (λ e. getD-set-other ix (2048 + i) (2048 + j) d 0 (λ q. e (omega arith)) ∙ c .chain j l b t);
     }

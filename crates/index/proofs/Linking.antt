@@ -43,39 +43,39 @@ module _ (s : Schema) (k o j : ℕ) (h : j < length (s .items)) where
 pub linked-start : (s : Schema) (ix : List ℕ) → ((k : ℕ) → getD ix k 0 ≡ 0) → (n : ℕ) → length (s .items) ≤ n → Linked s n ix
 linked-start s ix z n h =
     record {
-      first = λ k o hk ho. z (10 * o + k) ∙ ap code (sym (under-end s k o n h));
+      first = λ k o hk ho. z (3072 + 10 * o + k) ∙ ap code (sym (under-end s k o n h));
       next = λ j l b hk ho. absurd (omega arith);
     }
 
 module _ (s : Schema) (ix : List ℕ) (j : ℕ) (l : Linked s (j + 1) ix) (h : j < length (s .items)) where
   -- an item that has a place among the heads
-  module _ (big : 13312 ≤ length ix) (most : length (s .items) ≤ 1024) (hk : itemAt s j .kind < 10) (ho : itemAt s j .owner < 1024) where
-    linked-first : (k o : ℕ) → k < 10 → o < 1024 → getD (fronted ix (10 * itemAt s j .owner + itemAt s j .kind) (10240 + j) j) (10 * o + k) 0 ≡ code (nextUnder k o j s)
+  module _ (big : 3072 + 10 * length (s .items) ≤ length ix) (most : length (s .items) ≤ 1024) (hk : itemAt s j .kind < 10) (ho : itemAt s j .owner < length (s .items)) where
+    linked-first : (k o : ℕ) → k < 10 → o < length (s .items) → getD (fronted ix (3072 + 10 * itemAt s j .owner + itemAt s j .kind) j j) (3072 + 10 * o + k) 0 ≡ code (nextUnder k o j s)
     linked-first k o bk bo =
         by-equal k (itemAt s j .kind)
         (λ ek. by-equal o (itemAt s j .owner)
-        (λ eo. let z : 10 * o + k ≡ 10 * itemAt s j .owner + itemAt s j .kind = omega arith in
-        ap (λ n. getD (fronted ix (10 * itemAt s j .owner + itemAt s j .kind) (10240 + j) j) n 0) z ∙ fronted-head ix _ (10240 + j) j (omega arith) ∙ ap code (sym (under-hit s k o j h (sym ek) (sym eo))))
+        (λ eo. let z : 3072 + 10 * o + k ≡ 3072 + 10 * itemAt s j .owner + itemAt s j .kind = omega arith in
+        ap (λ n. getD (fronted ix (3072 + 10 * itemAt s j .owner + itemAt s j .kind) j j) n 0) z ∙ fronted-head ix _ j j (omega arith) ∙ ap code (sym (under-hit s k o j h (sym ek) (sym eo))))
         (λ no. other (λ e f. no (sym f))))
         (λ nk. other (λ e f. nk (sym e)))
       where
-        other : (itemAt s j .kind ≡ k → itemAt s j .owner ≡ o → ⊥) → getD (fronted ix (10 * itemAt s j .owner + itemAt s j .kind) (10240 + j) j) (10 * o + k) 0 ≡ code (nextUnder k o j s)
-        other n = fronted-other ix _ (10240 + j) j (10 * o + k) (λ e. n (omega arith) (omega arith)) (λ e. omega arith) ∙ l .first k o bk bo ∙ ap code (sym (under-miss s k o j h n))
+        other : (itemAt s j .kind ≡ k → itemAt s j .owner ≡ o → ⊥) → getD (fronted ix (3072 + 10 * itemAt s j .owner + itemAt s j .kind) j j) (3072 + 10 * o + k) 0 ≡ code (nextUnder k o j s)
+        other n = fronted-other ix _ j j (3072 + 10 * o + k) (λ e. n (omega arith) (omega arith)) (λ e. omega arith) ∙ l .first k o bk bo ∙ ap code (sym (under-miss s k o j h n))
 
-    linked-this : getD (fronted ix (10 * itemAt s j .owner + itemAt s j .kind) (10240 + j) j) (10240 + j) 0 ≡ code (nextUnder (itemAt s j .kind) (itemAt s j .owner) (j + 1) s)
-    linked-this = fronted-at ix _ (10240 + j) j (omega arith) (λ e. omega arith) ∙ l .first (itemAt s j .kind) (itemAt s j .owner) hk ho
+    linked-this : getD (fronted ix (3072 + 10 * itemAt s j .owner + itemAt s j .kind) j j) j 0 ≡ code (nextUnder (itemAt s j .kind) (itemAt s j .owner) (j + 1) s)
+    linked-this = fronted-at ix _ j j (omega arith) (λ e. omega arith) ∙ l .first (itemAt s j .kind) (itemAt s j .owner) hk ho
 
-    pub linked-on : Linked s j (fronted ix (10 * itemAt s j .owner + itemAt s j .kind) (10240 + j) j)
+    pub linked-on : Linked s j (fronted ix (3072 + 10 * itemAt s j .owner + itemAt s j .kind) j j)
     linked-on =
         record {
           first = linked-first;
           next = λ i a b bk bo. by-less j i
-              (λ c. fronted-other ix _ (10240 + j) j (10240 + i) (λ e. omega arith) (λ e. omega arith) ∙ l .next i (omega arith) b bk bo)
+              (λ c. fronted-other ix _ j j i (λ e. omega arith) (λ e. omega arith) ∙ l .next i (omega arith) b bk bo)
               (λ c. let e : i ≡ j = omega arith in rw e linked-this);
         }
 
   -- any other
-  pub linked-off : (itemAt s j .kind < 10 → itemAt s j .owner < 1024 → ⊥) → Linked s j ix
+  pub linked-off : (itemAt s j .kind < 10 → itemAt s j .owner < length (s .items) → ⊥) → Linked s j ix
   linked-off n =
       record {
         first = λ k o bk bo. l .first k o bk bo ∙ ap code (sym (under-miss s k o j h (λ e f. n (omega arith) (omega arith))));
@@ -84,10 +84,10 @@ module _ (s : Schema) (ix : List ℕ) (j : ℕ) (l : Linked s (j + 1) ix) (h : j
             (λ c. let e : i ≡ j = omega arith in absurd (n (rw e at bk) (rw e at bo)));
       }
 
--- what stands behind them is no part of the links
-pub linked-frame : (s : Schema) (i : ℕ) (ix ix′ : List ℕ) → length (s .items) ≤ 1024 → ((k : ℕ) → k < 11264 → getD ix′ k 0 ≡ getD ix k 0) → Linked s i ix → Linked s i ix′
+-- the names are no part of the links
+pub linked-frame : (s : Schema) (i : ℕ) (ix ix′ : List ℕ) → length (s .items) ≤ 1024 → ((k : ℕ) → (1024 ≤ k → k < 3072 → ⊥) → getD ix′ k 0 ≡ getD ix k 0) → Linked s i ix → Linked s i ix′
 linked-frame s i ix ix′ most f l =
     record {
-      first = λ k o bk bo. f (10 * o + k) (omega arith) ∙ l .first k o bk bo;
-      next = λ j a b bk bo. f (10240 + j) (omega arith) ∙ l .next j a b bk bo;
+      first = λ k o bk bo. f (3072 + 10 * o + k) (λ x y. omega arith) ∙ l .first k o bk bo;
+      next = λ j a b bk bo. f j (λ x y. omega arith) ∙ l .next j a b bk bo;
     }

@@ -101,7 +101,7 @@ pub record Seeking (name : List ℕ) (s : Schema) (p kept : ℕ) : Type 0 where
   pub leads : p ≡ code (lastHashed (hash name) n s)
   pub same : chosen kept (lastBy (namedSo anEnum name) n s) (lastBy (namedSo aComposite name) n s) (lastBy (namedSo aType name) n s) ≡ numberOf (declarationOf s name)
 
-pub seeking-start : (name : List ℕ) (s : Schema) (ix : List ℕ) → Chained s (length (s .items)) ix → {b : ℕ} → HashOf name b → {p : ℕ} → p ≡ getD ix (11264 + b) 0 → Seeking name s p 0
+pub seeking-start : (name : List ℕ) (s : Schema) (ix : List ℕ) → Chained s (length (s .items)) ix → {b : ℕ} → HashOf name b → {p : ℕ} → p ≡ getD ix (1024 + b) 0 → Seeking name s p 0
 unfolding declarationOf lastNamed
 seeking-start name s ix x {b} eb {p} ep =
     record {
@@ -149,7 +149,7 @@ module _ (name : List ℕ) (s : Schema) {p kept : ℕ} (k : Seeking name s p kep
       pub seeking-found : r ≡ 1 → r ≡ numberOf (declarationOf s name)
       seeking-found e = rw e (sym (chosen-one (lastBy (namedSo anEnum name) (p - 1) s) (lastBy (namedSo aComposite name) (p - 1) s) (lastBy (namedSo aType name) (p - 1) s)) ∙ (rw e at kept-same))
 
-    module _ (ix : List ℕ) (x : Chained s (length (s .items)) ix) {q : ℕ} (eq : q ≡ getD ix (12288 + (p - 1)) 0) where
+    module _ (ix : List ℕ) (x : Chained s (length (s .items)) ix) {q : ℕ} (eq : q ≡ getD ix (2048 + (p - 1)) 0) where
       next-leads : q ≡ code (lastHashed (hash name) (p - 1) s)
       unfolding declares
       next-leads = eq ∙ x .chain (p - 1) seeking-low (hash name) (rw (passed aType refl .1) tt)

@@ -23,11 +23,11 @@ code (some i) = i + 1
 abbrev pub fronted : List ℕ → ℕ → ℕ → ℕ → List ℕ
 fronted ix head at i = set (set ix at (getD ix head 0)) head (i + 1)
 
--- ---- links: the heads of 1,024 owners and 10 kinds, then the next of each item
+-- ---- links: the next of each item, and behind the names the first of 10 kinds under each item
 
 pub record Linked (s : Schema) (i : ℕ) (ix : List ℕ) : Type 0 where
-  pub first : (k o : ℕ) → k < 10 → o < 1024 → getD ix (10 * o + k) 0 ≡ code (nextUnder k o i s)
-  pub next : (j : ℕ) → i ≤ j → j < length (s .items) → itemAt s j .kind < 10 → itemAt s j .owner < 1024 → getD ix (10240 + j) 0 ≡ code (nextUnder (itemAt s j .kind) (itemAt s j .owner) (j + 1) s)
+  pub first : (k o : ℕ) → k < 10 → o < length (s .items) → getD ix (3072 + 10 * o + k) 0 ≡ code (nextUnder k o i s)
+  pub next : (j : ℕ) → i ≤ j → j < length (s .items) → itemAt s j .kind < 10 → itemAt s j .owner < length (s .items) → getD ix j 0 ≡ code (nextUnder (itemAt s j .kind) (itemAt s j .owner) (j + 1) s)
 
 -- ---- names: 1,024 heads, then the next of each item that declares
 
@@ -52,43 +52,43 @@ unfoldable pub lastHashed : ℕ → ℕ → Schema → Option ℕ
 lastHashed b n s = last (positionsFrom 0 (hashed b) (take n (s .items)))
 
 pub record Chained (s : Schema) (n : ℕ) (ix : List ℕ) : Type 0 where
-  pub head : (b : ℕ) → b < 1024 → getD ix (11264 + b) 0 ≡ code (lastHashed b n s)
-  pub chain : (j : ℕ) → j < n → (b : ℕ) → T (hashed b (itemAt s j)) → getD ix (12288 + j) 0 ≡ code (lastHashed b j s)
+  pub head : (b : ℕ) → b < 1024 → getD ix (1024 + b) 0 ≡ code (lastHashed b n s)
+  pub chain : (j : ℕ) → j < n → (b : ℕ) → T (hashed b (itemAt s j)) → getD ix (2048 + j) 0 ≡ code (lastHashed b j s)
 
 -- ---- type names: what the one of each field is declared as, where the next of an item that declares would stand
 
 pub record Resolved (s : Schema) (n : ℕ) (ix : List ℕ) : Type 0 where
-  pub is : (j : ℕ) → j < n → itemAt s j .kind ≡ aField → getD ix (12288 + j) 0 ≡ numberOf (declarationOf s (itemAt s j .second))
+  pub is : (j : ℕ) → j < n → itemAt s j .kind ≡ aField → getD ix (2048 + j) 0 ≡ numberOf (declarationOf s (itemAt s j .second))
 
 -- ---- all, where there are as many items as a schema may have
 
 pub record Indexed (s : Schema) (ix : List ℕ) : Type 0 where
-  pub long : 13312 ≤ length ix
+  pub long : length (s .items) ≤ 1024 → 3072 + 10 * length (s .items) ≤ length ix
   pub links : length (s .items) ≤ 1024 → Linked s 0 ix
   pub types : length (s .items) ≤ 1024 → Resolved s (length (s .items)) ix
 
 -- ---- while it is built
 
--- an array of zeros
-pub record Blank (ix : List ℕ) : Type 0 where
-  pub long : 13312 ≤ length ix
+-- an array of zeros that is long enough
+pub record Blank (s : Schema) (ix : List ℕ) : Type 0 where
+  pub long : length (s .items) ≤ 1024 → 3072 + 10 * length (s .items) ≤ length ix
   pub zero : (k : ℕ) → getD ix k 0 ≡ 0
 
 -- the items from i on are linked, and there are no names yet
 pub record Linking (s : Schema) (i : ℕ) (ix : List ℕ) : Type 0 where
-  pub long : 13312 ≤ length ix
+  pub long : 3072 + 10 * length (s .items) ≤ length ix
   pub linked : Linked s i ix
-  pub zero : (k : ℕ) → 11264 ≤ k → getD ix k 0 ≡ 0
+  pub zero : (k : ℕ) → 1024 ≤ k → k < 3072 → getD ix k 0 ≡ 0
 
 -- all items are linked, and the first n have their names in the chains
 pub record Naming (s : Schema) (n : ℕ) (ix : List ℕ) : Type 0 where
-  pub long : 13312 ≤ length ix
+  pub long : 3072 + 10 * length (s .items) ≤ length ix
   pub linked : Linked s 0 ix
   pub chained : Chained s n ix
 
 -- all names are in the chains, and the type names of the first n items are resolved
 pub record Resolving (s : Schema) (n : ℕ) (ix : List ℕ) : Type 0 where
-  pub long : 13312 ≤ length ix
+  pub long : 3072 + 10 * length (s .items) ≤ length ix
   pub linked : Linked s 0 ix
   pub chained : Chained s (length (s .items)) ix
   pub resolved : Resolved s n ix

@@ -32,17 +32,22 @@ ghost use Rattle.index.specs.Index.{code, fronted, HashOf, Chained, Blan
 ghost use Rattle.index.specs.Declarations.{declarationOf, numberOf, keptBy};
 ghost use Rattle.index.specs.declared.Declaration.{Declaration};
 
-// How many numbers the index takes: the first item of each of 10 kinds under each of 1,024 owners, the
-// next item after each of 1,024, the last declaration of each of 1,024 hashes, and for each of 1,024 items
-// the declaration before it with the same hash, or, of a field, what its type name is declared as.
+// The index holds the next item after each of 1,024, the last declaration of each of 1,024 hashes, for each of 1,024
+// items the declaration before it with the same hash, or, of a field, what its type name is declared as, and last the
+// first item of each of 10 kinds under each item. Where these parts begin; the first begins at 0.
+const HEADS: usize = 1024;
+
+const CHAIN: usize = 2048;
+
+const FIRST: usize = 3072;
+
+// How many numbers that is for as many items as a schema may have, and for a few: the array is cleared whole, which a
+// small document would notice.
 pub const SIZE: usize = 13312;
 
-// Where these parts begin; the first begins at 0.
-const NEXT: usize = 10240;
+pub const FEW: u32 = 64;
 
-const HEADS: usize = 11264;
-
-const CHAIN: usize = 12288;
+pub const FEW_SIZE: usize = 3712;
 
 // As many items as the index holds, and a schema may have.
 pub const MOST: u32 = 1024;
@@ -102,16 +107,16 @@ fn link_item(m: Model, rec: &[u32], text: &[u8], i: u32, ix: &mut [u16])
     if 9 < e.kind {
         return;
     }
-    if 1023 < e.owner {
+    if count(m, rec, text) <= e.owner {
         return;
     }
-    let head = 10 * (e.owner as usize) + e.kind as usize;
-    let at = NEXT + i as usize;
+    let head = FIRST + 10 * (e.owner as usize) + e.kind as usize;
+    let at = i as usize;
     put_front(ix, head, at, i);
 }
 
 fn put_links(m: Model, rec: &[u32], text: &[u8], ix: &mut [u16])
-    requires { ⌜ Blank (now ix) × (length (schemaOf m (now rec) (now text) .items) ≤ 1024) ⌝ }
+    requires { ⌜ Blank (schemaOf m (now rec) (now text)) (now ix) × (length (schemaOf m (now rec) (now text) .items) ≤ 1024) ⌝ }
     ensures { λ r. ⌜ Linking (schemaOf m (now (rec .entry)) (now (text .entry))) 0 (now (ix .exit)) ⌝ }
 {
     let mut n = count(m, rec, text);
@@ -268,7 +273,7 @@ fn put_resolved(m: Model, rec: &[u32], text: &[u8], ix: &mut [u16])
 
 // The index of a model, into an array of zeros.
 pub fn build(m: Model, rec: &[u32], text: &[u8], ix: &mut [u16])
-    requires { ⌜ Blank (now ix) ⌝ }
+    requires { ⌜ Blank (schemaOf m (now rec) (now text)) (now ix) ⌝ }
     ensures { λ r. ⌜ Indexed (schemaOf m (now (rec .entry)) (now (text .entry))) (now (ix .exit)) ⌝ }
 {
     if count(m, rec, text) <= MOST {
@@ -300,7 +305,7 @@ fn next_child(
     owner: u32,
     from: u32,
 ) -> Position
-    requires { ⌜ Indexed (schemaOf m (now rec) (now text)) (now ix) × (length (schemaOf m (now rec) (now text) .items) ≤ 1024) × (kind < 10) × (owner < 1024) × (0 < from) ⌝ }
+    requires { ⌜ Indexed (schemaOf m (now rec) (now text)) (now ix) × (length (schemaOf m (now rec) (now text) .items) ≤ 1024) × (kind < 10) × (owner < length (schemaOf m (now rec) (now text) .items)) × (0 < from) ⌝ }
     ensures { λ r. ⌜ r ≡ found (nextUnder kind owner from (schemaOf m (now (rec .entry)) (now (text .entry)))) ⌝ }
 {
     let i = from - 1;
@@ -308,7 +313,7 @@ fn next_child(
         let e = item(m, rec, i);
         if e.kind == kind {
             if e.owner == owner {
-                let at = NEXT + i as usize;
+                let at = i as usize;
                 return position(ix[at]);
             }
         }
@@ -329,17 +334,18 @@ pub fn child(
     requires { ⌜ Indexed (schemaOf m (now rec) (now text)) (now ix) ⌝ }
     ensures { λ r. ⌜ r ≡ found (nextUnder kind owner from (schemaOf m (now (rec .entry)) (now (text .entry)))) ⌝ }
 {
-    if MOST < count(m, rec, text) {
+    let n = count(m, rec, text);
+    if MOST < n {
         return next_under(m, rec, kind, owner, from);
     }
     if 9 < kind {
         return next_under(m, rec, kind, owner, from);
     }
-    if 1023 < owner {
+    if n <= owner {
         return next_under(m, rec, kind, owner, from);
     }
     if from == 0 {
-        let head = 10 * (owner as usize) + kind as usize;
+        let head = FIRST + 10 * (owner as usize) + kind as usize;
         return position(ix[head]);
     }
     next_child(m, rec, text, ix, kind, owner, from)

@@ -20,6 +20,8 @@ use crate::arrays::Arrays;
 use crate::arrays::array_refusal;
 use crate::bound::source_most;
 use crate::source::put_source;
+use index::FEW;
+use index::FEW_SIZE;
 use index::MOST;
 use index::SIZE;
 use index::build;
@@ -73,6 +75,11 @@ fn generate_in(m: Model, rec: &[u32], text: &[u8], ix: &[u16], out: &mut [u8]) -
 pub fn generate(m: Model, rec: &[u32], text: &[u8], out: &mut [u8]) -> Answer
     ensures { λ r. ⌜ Generated (schemaOf m (now (rec .entry)) (now (text .entry))) (now (out .entry)) (now (out .exit)) r ⌝ }
 {
+    if count(m, rec, text) <= FEW {
+        let mut ix = [0u16; FEW_SIZE];
+        build(m, rec, text, &mut ix);
+        return generate_in(m, rec, text, &ix, out);
+    }
     let mut ix = [0u16; SIZE];
     build(m, rec, text, &mut ix);
     generate_in(m, rec, text, &ix, out)

@@ -4,49 +4,54 @@ use Rattle.index.proofs.link_item.Tie as tie
 use Rattle.index.proofs.link_item.Reads as reads
 use Rattle.index.proofs.link_item.Lts as lts
 use Rattle.index.proofs.put_front.Reads as put-front-reads
+use Rattle.xmlschema.proofs.items.count.Reads as count-reads
 use Rattle.xmlschema.proofs.items.item.Reads as item-reads
 
--- src/lib.rt:71:9
+-- src/lib.rt:106:9
 item-requires : tie.Need-item-requires
 item-requires c κs = search laws
 
--- src/lib.rt:73:9
+-- src/lib.rt:108:9
 returns : tie.Need-returns
 returns c = search laws
 
--- src/lib.rt:76:9
+-- src/lib.rt:110:8
+count-requires : tie.Need-count-requires
+count-requires c κs = search laws
+
+-- src/lib.rt:111:9
 returns-2 : tie.Need-returns-2
 returns-2 c = search laws
 
--- src/lib.rt:78:22
+-- src/lib.rt:113:30
 cast-head : tie.Need-cast-head
 cast-head c = search laws
 
--- src/lib.rt:78:16
+-- src/lib.rt:113:24
 mul-head : tie.Need-mul-head
 mul-head c = search laws
 
--- src/lib.rt:78:42
-cast-head-2 : tie.Need-cast-head-2
-cast-head-2 c = search laws
-
--- src/lib.rt:78:16
+-- src/lib.rt:113:16
 add-head : tie.Need-add-head
 add-head c = search laws
 
--- src/lib.rt:79:14
-add-at : tie.Need-add-at
-add-at c = search laws
+-- src/lib.rt:113:50
+cast-head-2 : tie.Need-cast-head-2
+cast-head-2 c = search laws
 
--- src/lib.rt:80:5
+-- src/lib.rt:113:16
+add-head-2 : tie.Need-add-head-2
+add-head-2 c = search laws
+
+-- src/lib.rt:115:5
 put-front-requires : tie.Need-put-front-requires
 put-front-requires c κs = search laws
 
--- src/lib.rt:67:1
+-- src/lib.rt:102:1
 same-length : tie.Need-same-length
 same-length c = search laws
 
--- src/lib.rt:67:1
+-- src/lib.rt:102:1
 returns-3 : tie.Need-returns-3
 returns-3 c = search laws
 
@@ -56,12 +61,13 @@ link-item-spec =
     (tie.spec
     item-requires
     returns
+    count-requires
     returns-2
     cast-head
     mul-head
-    cast-head-2
     add-head
-    add-at
+    cast-head-2
+    add-head-2
     put-front-requires
     same-length
     returns-3)
