@@ -128,6 +128,9 @@ module _ (m : Model) (rec : List ℕ) (i : ℕ) (e : Entry) (f : (t : List ℕ) 
   pub field-kind : e .kind ≡ 9 → itemAt (schemaOf m rec text) i .kind ≡ 9
   field-kind ek = sym (kind-is m rec i e f text) ∙ ek
 
+pub field-within : (s : Schema) (i : ℕ) (ix : List ℕ) → Indexed s ix → length (s .items) ≤ 1024 → itemAt s i .kind ≡ 9 → 2048 + i < length ix
+field-within s i ix x most k = omega (arith, inside s i k, x .long most)
+
 pub field-told : (s : Schema) (i : ℕ) (ix : List ℕ) → Indexed s ix → length (s .items) ≤ 1024 → itemAt s i .kind ≡ 9 → {w : ℕ} → w ≡ getD ix (2048 + i) 0
     → {r : Declaration} → ((d : Declaration) → w ≡ numberOf d → r ≡ d) → r ≡ declarationOf s (itemAt s i .second)
 field-told s i ix x most k ew g = g (declarationOf s (itemAt s i .second)) (ew ∙ x .types most .is i (inside s i k) k)

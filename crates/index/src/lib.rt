@@ -392,7 +392,8 @@ pub fn field_declared(m: Model, rec: &[u32], text: &[u8], ix: &[u16], i: u32) ->
     requires { ⌜ Indexed (schemaOf m (now rec) (now text)) (now ix) × (length (schemaOf m (now rec) (now text) .items) ≤ 1024) × (itemAt (schemaOf m (now rec) (now text)) i .kind ≡ aField) ⌝ }
     ensures { λ r. ⌜ r ≡ declarationOf (schemaOf m (now (rec .entry)) (now (text .entry))) (itemAt (schemaOf m (now (rec .entry)) (now (text .entry))) i .second) ⌝ }
 {
-    numbered(word(ix, CHAIN + i as usize))
+    let at = CHAIN + i as usize;
+    numbered(number(ix[at]))
 }
 
 // What the type name of the item at `i` is declared as.
