@@ -15,5 +15,7 @@ pub mod Moving
 pub mod Reading
 pub mod Noting
 pub mod Knowing
+pub mod Telling
+pub mod Coding
 pub mod Laws
 pub mod Trials

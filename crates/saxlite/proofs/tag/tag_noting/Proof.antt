@@ -3,7 +3,7 @@ use Prim.Native.Nat.{_-_}
 use lib.ListN.{length}
 use Rattle.saxlite.specs.Known.{keysBy, CodesOf}
 use Rattle.saxlite.proofs.Tagging.{Going}
-use Rattle.saxlite.proofs.Knowing.{LookingAll}
+use Rattle.saxlite.proofs.Coding.{LookingAll}
 use Rattle.saxlite.proofs.tag.tag_noting.Statement.{statement}
 use Rattle.saxlite.proofs.tag.tag_noting.Tie as tie
 use Rattle.saxlite.proofs.tag.tag_noting.Reads as reads
