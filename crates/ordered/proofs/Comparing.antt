@@ -1,20 +1,22 @@
 -- Which of two texts comes first: an order, and what the loops that compare keep.
 use mathlib.Core.Path.{_≡_, refl, sym, ap, _∙_}
 use mathlib.Core.Bool.{true, false}
-use mathlib.Core.List.{List, [], _∷_}
+use mathlib.Core.List.{List, [], _∷_, _++_}
 use Prim.Native.Nat.{ℕ, suc, _+_, _≤_, _<_}
 use native.Mathlib.Numerals.{add-one}
 use native.Mathlib.Omega.{arith}
-use lib.ListN.{length, drop, getD, drop-of-length-le}
-use lib.Seq.{drop-cons}
+use lib.ListN.{length, drop, getD, drop-of-length-le, take-append-drop}
+use lib.Seq.{drop-cons, drop-drop}
 use borrow.Author.Tests.{eq-eqb, ne-eqb, lt-ltb, le-ltb}
-use Rattle.texts.specs.Text.{same}
+use Rattle.texts.specs.Text.{piece, same}
 use Rattle.texts.proofs.Choosing.{by-test}
 use Rattle.texts.proofs.Comparing.{same-equal, equal-same}
+use Rattle.words.specs.Word.{IsWord}
+use Rattle.words.proofs.Digits.{word-tells}
 use Rattle.xmlschema.proofs.Records.{by-less}
 use Rattle.ordered.specs.declared.Order.{Order}
 use Rattle.ordered.specs.declared.Order.the-variants.{Less, Same, Greater}
-use Rattle.ordered.specs.Ordered.{Eight, order}
+use Rattle.ordered.specs.Ordered.{order}
 
 -- ---- an order
 
@@ -103,6 +105,11 @@ module _ (a b : List ℕ) {o : Order} (e : o ≡ order a b) where
   pub same-greater : o ≡ Greater → false ≡ same a b
   same-greater q = differ (λ r. let z : _≡_ {A = ℕ} 0 1 = cc in omega arith)
 
+-- what two texts have in common at the front decides nothing
+order-common : (w s t : List ℕ) → order (w ++ s) (w ++ t) ≡ order s t
+order-common [] s t = refl
+order-common (x ∷ w) s t = order-on x x (w ++ s) (w ++ t) refl ∙ order-common w s t
+
 -- ---- a loop that compares a with b from `from` on stands at i
 
 pub record Comparing (a b : List ℕ) (from i : ℕ) : Type 0 where
@@ -136,20 +143,13 @@ module _ {a b : List ℕ} {from i : ℕ} (inv : Comparing a b from i) where
   unfolding order
   comparing-end h l = rw (drop-of-length-le a h, drop-of-length-le b l) at (inv .rest)
 
-  pub comparing-eight : i + 8 ≤ length a → i + 8 ≤ length b → {x y : ℕ} → Eight a i x → Eight b i y → x ≡ y → Comparing a b from (i + 8)
-  comparing-eight h k {x} {y} u v e =
-      record {
-        rest =
-            alike a b (i + 7) (i + 8) (omega arith) (omega arith) (omega arith) (omega arith)
-            ∙ alike a b (i + 6) (i + 7) (omega arith) (omega arith) (omega arith) (omega arith)
-            ∙ alike a b (i + 5) (i + 6) (omega arith) (omega arith) (omega arith) (omega arith)
-            ∙ alike a b (i + 4) (i + 5) (omega arith) (omega arith) (omega arith) (omega arith)
-            ∙ alike a b (i + 3) (i + 4) (omega arith) (omega arith) (omega arith) (omega arith)
-            ∙ alike a b (i + 2) (i + 3) (omega arith) (omega arith) (omega arith) (omega arith)
-            ∙ alike a b (i + 1) (i + 2) (omega arith) (omega arith) (omega arith) (omega arith)
-            ∙ alike a b i (i + 1) (omega arith) (omega arith) (omega arith) (omega arith)
-            ∙ inv .rest;
-      }
+  -- the same word stands in both
+  pub comparing-words : {x y : ℕ} → IsWord (piece a i 8) x → IsWord (piece b i 8) y → x ≡ y → Comparing a b from (i + 8)
+  comparing-words u v e =
+      let p = word-tells (piece a i 8) (piece b i 8) (u .eight ∙ sym (v .eight)) (u .bytes) (v .bytes) (sym (u .is) ∙ e ∙ v .is) in
+      let q : drop i a ≡ piece b i 8 ++ drop (i + 8) a = sym (take-append-drop 8 (drop i a)) ∙ rw (p, drop-drop) refl in
+      let r : drop i b ≡ piece b i 8 ++ drop (i + 8) b = sym (take-append-drop 8 (drop i b)) ∙ rw drop-drop refl in
+      record { rest = sym (order-common (piece b i 8) (drop (i + 8) a) (drop (i + 8) b)) ∙ sym (ap (λ x. order x (piece b i 8 ++ drop (i + 8) b)) q) ∙ sym (ap (order (drop i a)) r) ∙ inv .rest }
 
 pub comparing-rest : {a b : List ℕ} {i : ℕ} → Comparing a b 0 i → {r : Order} → r ≡ order (drop i a) (drop i b) → r ≡ order a b
 comparing-rest inv e = e ∙ inv .rest

@@ -4,7 +4,7 @@ use mathlib.Core.Path.{_≡_}
 use mathlib.Core.Bool.{Bool, true, false}
 use mathlib.Core.List.{List, [], _∷_}
 use mathlib.Core.Option.{Option, none, some}
-use Prim.Native.Nat.{ℕ, _+_, _*_, _≤_, _<_}
+use Prim.Native.Nat.{ℕ, _+_, _≤_, _<_}
 use lib.Dec.{eqb, ltb}
 use lib.ListN.{length, getD, take}
 use Rattle.texts.specs.Choice.{pick, _and_, _or_}
@@ -16,11 +16,6 @@ use Rattle.ordered.specs.declared.Place.{Place}
 use Rattle.ordered.specs.declared.Place.the-variants.{At, Before}
 
 -- ---- two names
-
--- r is made of the 8 bytes of s from i on
-pub record Eight (s : List ℕ) (i r : ℕ) : Type 0 where
-  pub is : r ≡ getD s i 0 + getD s (i + 1) 0 * 256 + getD s (i + 2) 0 * 65536 + getD s (i + 3) 0 * 16777216 + getD s (i + 4) 0 * 4294967296 + getD s (i + 5) 0 * 1099511627776 + getD s (i + 6) 0 * 281474976710656 + getD s (i + 7) 0 * 72057594037927936
-  pub low : (getD s i 0 < 256) × (getD s (i + 1) 0 < 256) × (getD s (i + 2) 0 < 256) × (getD s (i + 3) 0 < 256) × (getD s (i + 4) 0 < 256) × (getD s (i + 5) 0 < 256) × (getD s (i + 6) 0 < 256) × (getD s (i + 7) 0 < 256)
 
 -- which of two texts comes first
 unfoldable pub order : List ℕ → List ℕ → Order

@@ -3,6 +3,7 @@
 // `put_ordered` fills a lent array from any model of at most 1,024 items, and `number_of` promises of a name what
 // the model's `last_named` says of enums, composites and types. A search compares ten names at most, whatever the names
 // are. Beside these stands what they share with the searches by a hash: which kinds declare, and whether two names are one.
+use words::word_at;
 use xmlschema::items::COMPOSITE;
 use xmlschema::items::ENUM;
 use xmlschema::items::Model;
@@ -16,7 +17,7 @@ ghost use lib.ListN.{length, drop, set};
 ghost use Rattle.texts.specs.Text.{same};
 ghost use Rattle.xmlschema.specs.Schema.{lastNamed, anEnum, aComposite, aType};
 ghost use Rattle.xmlschema.specs.Store.{schemaOf};
-ghost use Rattle.ordered.specs.Ordered.{Eight, order, declares, numbered, Rising, Placed, Inserted, Ordered, Meeting};
+ghost use Rattle.ordered.specs.Ordered.{order, declares, numbered, Rising, Placed, Inserted, Ordered, Meeting};
 
 // How many names there may be.
 pub const SIZE: usize = 1024;
@@ -27,26 +28,6 @@ pub enum Order {
     Less,
     Same,
     Greater,
-}
-
-fn wide(b: u8) -> u64
-    ensures { λ r. ⌜ (r ≡ b) × (r < 256) ⌝ }
-{
-    b as u64
-}
-
-// The 8 bytes from `i` on as one number.
-fn eight(s: &[u8], i: usize) -> u64
-    requires { ⌜ i + 8 ≤ length (now s) ⌝ }
-    ensures { λ r. ⌜ Eight (now (s .entry)) i r ⌝ }
-{
-    let a = wide(s[i]) + wide(s[i + 1]) * 256;
-    let b = a + wide(s[i + 2]) * 65536;
-    let c = b + wide(s[i + 3]) * 16777216;
-    let d = c + wide(s[i + 4]) * 4294967296;
-    let e = d + wide(s[i + 5]) * 1099511627776;
-    let f = e + wide(s[i + 6]) * 281474976710656;
-    f + wide(s[i + 7]) * 72057594037927936
 }
 
 fn compared_from(a: &[u8], b: &[u8], from: usize) -> Order
@@ -81,7 +62,7 @@ fn compared(a: &[u8], b: &[u8]) -> Order
         if b.len() < i + 8 {
             return compared_from(a, b, i);
         }
-        if eight(a, i) != eight(b, i) {
+        if word_at(a, i) != word_at(b, i) {
             return compared_from(a, b, i);
         }
         i += 8;

@@ -1,14 +1,14 @@
 use native.Mathlib.Omega.{arith}
 use Prim.Native.Nat.{_-_, _≤_}
 use lib.ListN.{length}
-use Rattle.ordered.proofs.Comparing.{Comparing, comparing-eight}
+use Rattle.ordered.proofs.Comparing.{Comparing, comparing-words}
 use Rattle.ordered.proofs.Laws.{laws}
 use Rattle.ordered.proofs.compared.Statement.{statement}
 use Rattle.ordered.proofs.compared.Tie as tie
 use Rattle.ordered.proofs.compared.Reads as reads
 use Rattle.ordered.proofs.compared.Lts as lts
 use Rattle.ordered.proofs.compared_from.Reads as compared-from-reads
-use Rattle.ordered.proofs.eight.Reads as eight-reads
+use Rattle.words.proofs.word_at.Reads as word-at-reads
 
 abbrev Inv-loop : tie.InvT-loop
 Inv-loop a b i₀ i = Comparing a b 0 i × (i ≤ length a)
@@ -37,12 +37,12 @@ returns : tie.Need-returns Inv-loop μ-loop
 returns c = search laws
 
 -- src/lib.rt:80:12
-eight-requires : tie.Need-eight-requires Inv-loop μ-loop
-eight-requires c κs = search laws
+word-at-requires : tie.Need-word-at-requires Inv-loop μ-loop
+word-at-requires c κs = search laws
 
 -- src/lib.rt:80:27
-eight-requires-2 : tie.Need-eight-requires-2 Inv-loop μ-loop
-eight-requires-2 c κs = search laws
+word-at-requires-2 : tie.Need-word-at-requires-2 Inv-loop μ-loop
+word-at-requires-2 c κs = search laws
 
 -- src/lib.rt:81:13
 compared-from-requires-2 : tie.Need-compared-from-requires-2 Inv-loop μ-loop
@@ -63,7 +63,7 @@ loop-less c = search laws
 -- src/lib.rt:76:5
 loop-again : tie.Need-loop-again Inv-loop μ-loop
 loop-again c =
-    (comparing-eight (c .before .before .before .before .before .loop .inv .0) (omega arith) (omega arith) (c .before .before .eight .ensures) (c .before .eight2 .ensures) (c .if2 .left), omega arith)
+    (comparing-words (c .before .before .before .before .before .loop .inv .0) (c .before .before .word-at .ensures) (c .before .word-at2 .ensures) (c .if2 .left), omega arith)
 
 -- src/lib.rt:85:5
 compared-from-requires-3 : tie.Need-compared-from-requires-3 Inv-loop μ-loop
@@ -84,8 +84,8 @@ compared-spec =
     add-if1
     compared-from-requires
     returns
-    eight-requires
-    eight-requires-2
+    word-at-requires
+    word-at-requires-2
     compared-from-requires-2
     returns-2
     add-i
