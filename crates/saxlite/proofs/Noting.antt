@@ -1,11 +1,11 @@
 -- Laws of what is noted of a tag: four names by the element, through the step and the reader.
-use mathlib.Core.Path.{_≡_, refl, sym, ap, _∙_}
+use mathlib.Core.Path.{_≡_, _∙_}
 use mathlib.Core.Bool.{Bool, true, false}
-use mathlib.Core.List.{List, []}
+use mathlib.Core.List.{List}
 use Prim.Native.Nat.{ℕ, _+_}
 use borrow.Author.Needs.{needs}
 use Rattle.texts.specs.Choice.{pick}
-use Rattle.texts.specs.Text.{ascii, piece, same}
+use Rattle.texts.specs.Text.{piece, same}
 use Rattle.texts.specs.Scan.{scan, until}
 use Rattle.classes.specs.Class.{isSpace, isTagNameEnd}
 use Rattle.refusals.specs.declared.Refusal.{Refusal}
@@ -13,7 +13,6 @@ use Rattle.saxlite.specs.declared.scan.Occurrence.{Occurrence}
 use Rattle.saxlite.specs.declared.scan.Occurrence.the-variants.{At, Nowhere}
 use Rattle.saxlite.specs.declared.tag.Found.{Found}
 use Rattle.saxlite.specs.declared.tag.Notes.{Notes}
-use Rattle.saxlite.specs.declared.tag.Noted.{Noted}
 use Rattle.saxlite.specs.declared.step.Step.{Step}
 use Rattle.saxlite.specs.declared.step.Step.the-variants.{Text, Open, Close, Skipped, End, Refused}
 use Rattle.saxlite.specs.declared.step.NotedStep.{NotedStep}
@@ -21,44 +20,15 @@ use Rattle.saxlite.specs.declared.reader.Event.the-variants as event
 use Rattle.saxlite.specs.declared.reader.Cursor.{Cursor}
 use Rattle.saxlite.specs.declared.reader.Read.{Read}
 use Rattle.saxlite.specs.Find.{stands}
-use Rattle.saxlite.specs.Attributes.{attributeAt}
 use Rattle.saxlite.specs.Step.{pastEnd, closeAt, openAt, stepAt}
-use Rattle.saxlite.specs.Reader.{cursorAt, readStep, readAt}
-use Rattle.saxlite.specs.Noting.{foundAt, notedOf, schemaKeys, typeKeys, enumKeys, fieldKeys, keysOf, NotedBy, NotedOf, NotedAs, NotedIn, NotedAt}
+use Rattle.saxlite.specs.Reader.{cursorAt, readStep}
+use Rattle.saxlite.specs.Noting.{foundAt, notedOf, keysOf, NotedBy, NotedOf, NotedAs, NotedIn, NotedAt}
 use Rattle.saxlite.proofs.Reading.{read-owed, read-step}
 
 -- ---- four names
 
-pub noted-four : {doc : List ℕ} {at : ℕ} {noted : Notes} {first second third fourth : List ℕ} → foundAt (noted .first) (noted .len1) ≡ attributeAt doc at first → foundAt (noted .second) (noted .len2) ≡ attributeAt doc at second → foundAt (noted .third) (noted .len3) ≡ attributeAt doc at third → foundAt (noted .fourth) (noted .len4) ≡ attributeAt doc at fourth
-    → NotedBy (record { first = first; second = second; third = third; fourth = fourth }) doc at noted
-noted-four e f g h = record { first = e; second = f; third = g; fourth = h }
-
 pub noted-each : (n : Notes) {a b c d : Found} → a ≡ foundAt (n .first) (n .len1) → b ≡ foundAt (n .second) (n .len2) → c ≡ foundAt (n .third) (n .len3) → d ≡ foundAt (n .fourth) (n .len4) → record { first = a; second = b; third = c; fourth = d } ≡ notedOf n
 noted-each n e f g h = rw (e, f, g, h)
-
-pub first-noted : (doc : List ℕ) (at : ℕ) (n : Notes) {name second third fourth : List ℕ} → NotedBy (record { first = name; second = second; third = third; fourth = fourth }) doc at n → {r : Noted} → r ≡ notedOf n → r .first ≡ attributeAt doc at name
-first-noted doc at n k e = ap (λ (r : Noted). r .first) e ∙ k .first
-
--- ---- by the element's name: each b is what a comparison says
-
-module _ (name doc : List ℕ) (at : ℕ) (noted : Notes) {b₁ : Bool} (e₁ : b₁ ≡ same name (ascii "messageSchema")) where
-  pub noted-schema : b₁ ≡ true → NotedBy schemaKeys doc at noted → NotedBy (keysOf name) doc at noted
-  unfolding keysOf
-  noted-schema t n = rw (← e₁, t) n
-
-  module _ (f₁ : b₁ ≡ false) {b₂ : Bool} (e₂ : b₂ ≡ same name (ascii "type")) where
-    pub noted-type : b₂ ≡ true → NotedBy typeKeys doc at noted → NotedBy (keysOf name) doc at noted
-    unfolding keysOf
-    noted-type t n = rw (← e₁, f₁, ← e₂, t) n
-
-    module _ (f₂ : b₂ ≡ false) {b₃ : Bool} (e₃ : b₃ ≡ same name (ascii "enum")) where
-      pub noted-enum : b₃ ≡ true → NotedBy enumKeys doc at noted → NotedBy (keysOf name) doc at noted
-      unfolding keysOf
-      noted-enum t n = rw (← e₁, f₁, ← e₂, f₂, ← e₃, t) n
-
-      pub noted-field : b₃ ≡ false → NotedBy fieldKeys doc at noted → NotedBy (keysOf name) doc at noted
-      unfolding keysOf
-      noted-field t n = rw (← e₁, f₁, ← e₂, f₂, ← e₃, t) n
 
 -- ---- steps that open nothing
 
