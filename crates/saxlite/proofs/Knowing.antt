@@ -17,16 +17,17 @@ use Rattle.texts.specs.Text.{ascii, piece, same, startsWith}
 use Rattle.texts.specs.Scan.{countWhile, scan, until, is}
 use Rattle.texts.proofs.Choosing.{by-test, and-left, and-right}
 use Rattle.texts.proofs.Comparing.{starts-yes, starts-no}
-use Rattle.texts.proofs.Scanning.{count-yes}
+use Rattle.texts.proofs.Scanning.{count-yes, count-no}
 use Rattle.classes.specs.Class.{isSpace, isTagNameEnd, isAttributeNameEnd}
 use Rattle.saxlite.specs.declared.known.Known.{Known}
 use Rattle.saxlite.specs.declared.tag.TagPart.{TagPart}
+use Rattle.saxlite.specs.declared.tag.TagPart.the-variants.{TagEnd}
 use Rattle.saxlite.specs.Names.{isXmlns}
 use Rattle.saxlite.specs.Attributes.{quotedAt, tagPartAt}
 use Rattle.saxlite.specs.Known.{knownName, KnownAt, upTo, Named, QuickAt}
 use Rattle.saxlite.proofs.Picking.{pick-by}
 use Rattle.saxlite.proofs.Searching.{stands-within}
-use Rattle.saxlite.proofs.Parting.{value-double, attribute-valued, part-attribute}
+use Rattle.saxlite.proofs.Parting.{value-double, attribute-valued, part-end, part-self-end, part-attribute}
 
 -- ---- a test of 1 to n
 
@@ -142,17 +143,11 @@ unfolding quotedAt
 quoted-named doc i code value place n h e = pick-by (Named doc code) (ltb (scan (until (is 34)) doc value) (length doc)) (λ t. (h, e)) (λ f. tt)
 
 module _ (doc : List ℕ) (at place : ℕ) {i : ℕ} (e : i ≡ scan isSpace doc at) {k : Known} (known : KnownAt doc i k) (h : 0 < k .code) where
-  pub known-within : i + k .len + 2 ≤ length doc
-  known-within = rw (known .length h) (within doc at place e (knownName (k .code)) (known-plain (k .code) h (known .numbered)) (known .stands h))
+  known-in : i + k .len + 2 ≤ length doc
+  known-in = rw (known .length h) (within doc at place e (knownName (k .code)) (known-plain (k .code) h (known .numbered)) (known .stands h))
 
-  pub known-fits : length doc < 2 ^ 64 → Fits w64 (i + k .len)
-  known-fits l = omega (arith, known-within)
-
-  pub known-fits-too : length doc < 2 ^ 64 → Fits w64 (i + k .len + 2)
-  known-fits-too l = omega (arith, known-within)
-
-  pub known-quick : {r : TagPart} → r ≡ quotedAt 34 doc i (k .len) (i + k .len + 2) place → QuickAt doc at place (record { code = k .code; part = r })
-  known-quick {r} p =
+  quick-known : {r : TagPart} → r ≡ quotedAt 34 doc i (k .len) (i + k .len + 2) place → QuickAt doc at place (record { code = k .code; part = r })
+  quick-known {r} p =
       let n = knownName (k .code) in
       let t = known-plain (k .code) h (known .numbered) in
       let l = known .length h in
@@ -165,3 +160,45 @@ module _ (doc : List ℕ) (at place : ℕ) {i : ℕ} (e : i ≡ scan isSpace doc
 -- any other part
 pub other-quick : (doc : List ℕ) (at place : ℕ) {r : TagPart} → r ≡ tagPartAt doc at place → QuickAt doc at place (record { code = 0; part = r })
 other-quick doc at place e = record { is = e; named = λ z. absurd (omega arith) }
+
+-- ---- what stands right at the place, with no spaces before it or one
+
+-- the tag ends there
+module _ (doc : List ℕ) (at place : ℕ) {b : Bool} where
+  pub ends-here : b ≡ startsWith (ascii ">") (drop at doc) → b ≡ true → TagEnd (at + 1) false ≡ tagPartAt doc at place
+  unfolding isSpace
+  ends-here e t =
+      let s = starts-split (ascii ">") (drop at doc) (sym e ∙ t) in
+      part-end doc at place (rw s (sym (add-zero at))) (omega (arith, stands-within (ascii ">") doc at (sym e ∙ t) (omega arith))) e t
+
+  pub ends-itself : b ≡ startsWith (ascii "/>") (drop at doc) → b ≡ true → TagEnd (at + 2) true ≡ tagPartAt doc at place
+  unfolding isSpace startsWith
+  ends-itself e t =
+      let s = starts-split (ascii "/>") (drop at doc) (sym e ∙ t) in
+      part-self-end doc at place (rw s (sym (add-zero at))) (omega (arith, stands-within (ascii "/>") doc at (sym e ∙ t) (omega arith))) refl (rw s refl) e t
+
+-- no space begins a name
+name-first : (n s : List ℕ) → T (plainName n) → countWhile isSpace (n ++ s) ≡ 0
+unfolding isAttributeNameEnd isTagNameEnd
+name-first [] s t = absurd t
+name-first (b ∷ n) s t = count-no isSpace b (n ++ s) (by-test (isSpace b) (λ y. absurd (rw y at (and-left (goes b) _ t))) (λ f. f))
+
+-- a known attribute behind one space
+module _ (doc : List ℕ) (at place : ℕ) {b : Bool} (e : b ≡ startsWith (ascii " ") (drop at doc)) (t : b ≡ true) {k : Known} (known : KnownAt doc (at + 1) k) (h : 0 < k .code) where
+  spaced : at + 1 ≡ scan isSpace doc at
+  unfolding isSpace
+  spaced =
+      let n = knownName (k .code) in
+      let p = known-plain (k .code) h (known .numbered) in
+      let s : drop at doc ≡ 32 ∷ drop (at + 1) doc = starts-split (ascii " ") (drop at doc) (sym e ∙ t) ∙ ap (λ l. 32 ∷ l) (drop-drop 1 at doc) in
+      let m : countWhile isSpace (drop (at + 1) doc) ≡ 0 = ap (countWhile isSpace) (starts-split (n ++ ascii "=\"") (drop (at + 1) doc) (known .stands h) ∙ append-assoc n (ascii "=\"") _) ∙ name-first n _ p in
+      ap (λ c. at + c) (sym (ap (countWhile isSpace) s ∙ count-yes isSpace 32 (drop (at + 1) doc) refl ∙ ap suc m))
+
+  pub spaced-fits : length doc < 2 ^ 64 → Fits w64 (at + 1 + k .len)
+  spaced-fits l = omega (arith, known-in doc at place spaced known h)
+
+  pub spaced-fits-too : length doc < 2 ^ 64 → Fits w64 (at + 1 + k .len + 2)
+  spaced-fits-too l = omega (arith, known-in doc at place spaced known h)
+
+  pub spaced-quick : {r : TagPart} → r ≡ quotedAt 34 doc (at + 1) (k .len) (at + 1 + k .len + 2) place → QuickAt doc at place (record { code = k .code; part = r })
+  spaced-quick p = quick-known doc at place spaced known h p

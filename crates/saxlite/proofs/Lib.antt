@@ -17,5 +17,6 @@ pub mod Noting
 pub mod Knowing
 pub mod Telling
 pub mod Coding
+pub mod Begun
 pub mod Laws
 pub mod Trials

@@ -2,13 +2,12 @@
 use mathlib.Core.Path.{_≡_}
 use mathlib.Core.Bool.{Bool, true, false}
 use mathlib.Core.List.{List, [], _∷_, _++_}
-use Prim.Native.Nat.{ℕ, zero, suc, _+_, _^_, _≤_, _<_}
+use Prim.Native.Nat.{ℕ, zero, suc, _<_}
 use lib.Dec.{T, eqb, leb}
-use lib.ListN.{length, take, drop}
-use lib.Pow.{areBytes}
+use lib.ListN.{length, drop}
 use Rattle.texts.specs.Choice.{pick, _and_}
 use Rattle.texts.specs.Text.{ascii, piece, same, startsWith}
-use Rattle.words.specs.Word.{wordOf}
+use Rattle.words.specs.Standing.{ShortText, LongText}
 use Rattle.saxlite.specs.declared.known.Known.{Known}
 use Rattle.saxlite.specs.declared.known.Codes.{Codes}
 use Rattle.saxlite.specs.declared.tag.TagPart.{TagPart}
@@ -18,7 +17,8 @@ use Rattle.saxlite.specs.declared.tag.Notes.{Notes}
 use Rattle.saxlite.specs.Attributes.{tagPartAt, later}
 use Rattle.saxlite.specs.Noting.{Keys, schemaKeys, typeKeys, enumKeys, fieldKeys, foundAt, valueIfNamed}
 
-abbrev nth : List (List ℕ) → ℕ → List ℕ
+-- the k-th of some texts, from 0 on
+abbrev pub nth : List (List ℕ) → ℕ → List ℕ
 nth [] k = []
 nth (w ∷ ws) zero = w
 nth (w ∷ ws) (suc k) = nth ws k
@@ -36,26 +36,16 @@ pub record KnownAt (doc : List ℕ) (at : ℕ) (r : Known) : Type 0 where
   pub stands : 0 < r .code → startsWith (knownText (r .code)) (drop at doc) ≡ true
   pub length : 0 < r .code → r .len ≡ length (knownName (r .code))
 
--- the numbers by which such a text is told by words: a text of less than eight bytes by 256 to its length and its number
+-- the numbers by which such a text is told by words
 pub record ToldShort (code len modulus front : ℕ) : Type 0 where
   pub below : code < 14
   pub long : len ≡ length (knownName code)
-  pub few : length (knownText code) ≤ 8
-  pub power : modulus ≡ 256 ^ length (knownText code)
-  pub number : front ≡ wordOf (knownText code)
-  pub bytes : T (areBytes (knownText code))
+  pub text : ShortText (knownText code) modulus front
 
--- and a longer one by the number of its first eight bytes and, in the same way, by those behind them
 pub record ToldLong (code len front modulus back : ℕ) : Type 0 where
   pub below : code < 14
   pub long : len ≡ length (knownName code)
-  pub eight : length (take 8 (knownText code)) ≡ 8
-  pub number : front ≡ wordOf (take 8 (knownText code))
-  pub few : length (drop 8 (knownText code)) ≤ 8
-  pub power : modulus ≡ 256 ^ length (drop 8 (knownText code))
-  pub rest : back ≡ wordOf (drop 8 (knownText code))
-  pub bytes : T (areBytes (take 8 (knownText code)))
-  pub more : T (areBytes (drop 8 (knownText code)))
+  pub text : LongText (knownText code) front modulus back
 
 -- ---- the names that matter in a tag, by a number and by their numbers
 

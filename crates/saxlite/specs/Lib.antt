@@ -9,3 +9,4 @@ pub mod Event
 pub mod Reader
 pub mod Noting
 pub mod Known
+pub mod Beginning

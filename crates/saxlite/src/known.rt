@@ -1,6 +1,7 @@
 // Attributes whose names are known beforehand. Nearly every attribute of a schema is one of these, written `name="`:
 // it is told by one comparison, with no walk for the name's end, a colon or the names that matter.
-use words::word_at;
+use words::stands_long;
+use words::stands_short;
 ghost use mathlib.Core.Path.{_≡_};
 ghost use Prim.Native.Nat.{_+_, _≤_};
 ghost use lib.ListN.{length};
@@ -58,19 +59,18 @@ fn none() -> Known
     Known { code: 0, len: 0 }
 }
 
-// The name of a number, where it stands at `at` with '=' and '"' behind it: a text of less than eight bytes, by the word
-// there.
+// The name of a number, where it stands at `at` with '=' and '"' behind it: a text of less than eight bytes.
 fn known_short(doc: &[u8], at: usize, code: usize, len: usize, modulus: u64, front: u64) -> Known
     requires { ⌜ (at + 8 ≤ length (now doc)) × ToldShort code len modulus front ⌝ }
     ensures { λ r. ⌜ KnownAt (now (doc .entry)) at r ⌝ }
 {
-    if word_at(doc, at) % modulus == front {
+    if stands_short(doc, at, modulus, front) {
         return Known { code, len };
     }
     none()
 }
 
-// The same for a text of 8 to 15 bytes, by two words: `back` is what stands behind the first eight bytes.
+// The same for a text of 8 to 15 bytes.
 fn known_long(
     doc: &[u8],
     at: usize,
@@ -83,10 +83,8 @@ fn known_long(
     requires { ⌜ (at + 16 ≤ length (now doc)) × ToldLong code len front modulus back ⌝ }
     ensures { λ r. ⌜ KnownAt (now (doc .entry)) at r ⌝ }
 {
-    if word_at(doc, at) == front {
-        if word_at(doc, at + 8) % modulus == back {
-            return Known { code, len };
-        }
+    if stands_long(doc, at, front, modulus, back) {
+        return Known { code, len };
     }
     none()
 }

@@ -1,4 +1,5 @@
 // One step of the reader.
+use crate::beginning::begin_at;
 use crate::scan::Occurrence;
 use crate::scan::byte_from;
 use crate::scan::find;
@@ -8,13 +9,12 @@ use crate::scan::tag_name_end;
 use crate::tag::Ending;
 use crate::tag::Notes;
 use crate::tag::nothing;
-use crate::tag::tag_of;
+use crate::tag::tag_noting;
 use classes::table;
 use refusals::Refusal;
 ghost use mathlib.Core.Path.{_≡_};
 ghost use Prim.Native.Nat.{_+_, _≤_, _<_};
 ghost use lib.ListN.{length};
-ghost use Rattle.classes.specs.Table.{IsTable};
 ghost use Rattle.saxlite.specs.Find.{findFrom};
 ghost use Rattle.saxlite.specs.Step.{stepAt, markupAt, closeAt, openAt, pastEnd};
 ghost use Rattle.saxlite.specs.Noting.{NotedAs};
@@ -78,13 +78,14 @@ fn skip_to(doc: &[u8], from: usize, end: &[u8], refusal: Refusal) -> Step
 }
 
 // The close tag at `at`.
-fn close_at(doc: &[u8], at: usize, t: &[u8; 256]) -> Step
-    requires { ⌜ (at + 2 ≤ length (now doc)) × IsTable (now t) ⌝ }
+fn close_at(doc: &[u8], at: usize) -> Step
+    requires { ⌜ at + 2 ≤ length (now doc) ⌝ }
     ensures { λ r. ⌜ r ≡ closeAt (now (doc .entry)) at ⌝ }
 {
+    let t = table();
     let name = at + 2;
-    let end = tag_name_end(doc, name, t);
-    let due = skip_space(doc, end, t);
+    let end = tag_name_end(doc, name, &t);
+    let due = skip_space(doc, end, &t);
     if texts::starts_with(doc, due, b">") {
         let next = due + 1;
         let n = end - name;
@@ -104,23 +105,24 @@ fn close_at(doc: &[u8], at: usize, t: &[u8; 256]) -> Step
 }
 
 // The open tag at `at`.
-fn open_at(doc: &[u8], at: usize, t: &[u8; 256]) -> NotedStep
-    requires { ⌜ (at + 1 ≤ length (now doc)) × IsTable (now t) ⌝ }
+fn open_at(doc: &[u8], at: usize) -> NotedStep
+    requires { ⌜ at + 1 ≤ length (now doc) ⌝ }
     ensures { λ r. ⌜ NotedAs (openAt (now (doc .entry)) at) (now (doc .entry)) r ⌝ }
 {
     let name = at + 1;
-    let end = tag_name_end(doc, name, t);
+    let begun = begin_at(doc, name);
+    let end = begun.end;
     if end == name {
         return bare(Step::Refused(Refusal::NoTagName {
             offset: name,
             place: at,
         }));
     }
+    let lost = begun.lost;
     let n = end - name;
-    let lost = prefix_len(texts::part(doc, name, n));
     let local = name + lost;
     let name_len = n - lost;
-    let tag = tag_of(texts::part(doc, local, name_len), doc, end, at, t);
+    let tag = tag_noting(doc, end, at, begun.keys);
     let ending = tag.ending;
     match ending {
         Ending::Ends { next, self_closed } => {
@@ -139,8 +141,8 @@ fn open_at(doc: &[u8], at: usize, t: &[u8; 256]) -> NotedStep
 }
 
 // What the '<' at `at` begins.
-fn markup_at(doc: &[u8], at: usize, t: &[u8; 256]) -> NotedStep
-    requires { ⌜ (at < length (now doc)) × IsTable (now t) ⌝ }
+fn markup_at(doc: &[u8], at: usize) -> NotedStep
+    requires { ⌜ at < length (now doc) ⌝ }
     ensures { λ r. ⌜ NotedAs (markupAt (now (doc .entry)) at) (now (doc .entry)) r ⌝ }
 {
     if texts::starts_with(doc, at, b"<!--") {
@@ -156,9 +158,9 @@ fn markup_at(doc: &[u8], at: usize, t: &[u8; 256]) -> NotedStep
         return bare(skip_to(doc, from, b">", Refusal::OpenDeclaration { at }));
     }
     if texts::starts_with(doc, at, b"</") {
-        return bare(close_at(doc, at, t));
+        return bare(close_at(doc, at));
     }
-    open_at(doc, at, t)
+    open_at(doc, at)
 }
 
 // The step of the reader at `at`, and what is noted of the tag that it opens.
@@ -169,8 +171,7 @@ pub fn step_noting(doc: &[u8], at: usize) -> NotedStep
         return bare(Step::End);
     }
     if texts::starts_with(doc, at, b"<") {
-        let t = table();
-        return markup_at(doc, at, &t);
+        return markup_at(doc, at);
     }
     let end = byte_from(doc, at, b'<');
     let len = end - at;

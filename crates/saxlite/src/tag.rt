@@ -173,21 +173,43 @@ pub struct Quick {
     pub part: TagPart,
 }
 
-// The part of a tag at `at`: at once, where it is a known attribute.
-fn quick_part(doc: &[u8], at: usize, place: usize, t: &[u8; 256]) -> Quick
-    requires { ⌜ IsTable (now t) ⌝ }
+// The part of a tag at `at`: at once, where the tag ends there.
+fn end_part(doc: &[u8], at: usize, place: usize) -> TagPart
+    ensures { λ r. ⌜ r ≡ tagPartAt (now (doc .entry)) at place ⌝ }
+{
+    if texts::starts_with(doc, at, b"/>") {
+        let next = at + 2;
+        return TagPart::TagEnd {
+            next,
+            self_closed: true,
+        };
+    }
+    if texts::starts_with(doc, at, b">") {
+        let next = at + 1;
+        return TagPart::TagEnd {
+            next,
+            self_closed: false,
+        };
+    }
+    tag_part(doc, at, place)
+}
+
+// The part of a tag at `at`: at once, where it is a known attribute behind one space.
+fn quick_part(doc: &[u8], at: usize, place: usize) -> Quick
     ensures { λ r. ⌜ QuickAt (now (doc .entry)) at place r ⌝ }
 {
-    let i = skip_space(doc, at, t);
-    let known = known_at(doc, i);
-    let code = known.code;
-    let len = known.len;
-    if 0 < code {
-        let value = i + len + 2;
-        let part = quoted_part(doc, i, len, value, b'"', place);
-        return Quick { code, part };
+    if texts::starts_with(doc, at, b" ") {
+        let i = at + 1;
+        let known = known_at(doc, i);
+        let code = known.code;
+        let len = known.len;
+        if 0 < code {
+            let value = i + len + 2;
+            let part = quoted_part(doc, i, len, value, b'"', place);
+            return Quick { code, part };
+        }
     }
-    let part = tag_part_in(doc, at, place, t);
+    let part = end_part(doc, at, place);
     Quick { code: 0, part }
 }
 
@@ -393,15 +415,14 @@ pub fn noted_of(notes: Notes) -> Noted
 }
 
 // The tag whose attributes begin at `at`: how it ends, and the raw values of the last attributes of four names.
-fn tag_noting(doc: &[u8], at: usize, place: usize, t: &[u8; 256], keys: usize) -> Whole
-    requires { ⌜ IsTable (now t) ⌝ }
+pub fn tag_noting(doc: &[u8], at: usize, place: usize, keys: usize) -> Whole
     ensures { λ r. ⌜ (r .ending ≡ tagAt (now (doc .entry)) at place .ending) × NotedBy (keysBy keys) (now (doc .entry)) at (r .noted) ⌝ }
 {
     let codes = codes_of(keys);
     let mut i = at;
     let mut noted = nothing();
     loop {
-        let quick = quick_part(doc, i, place, t);
+        let quick = quick_part(doc, i, place);
         let code = quick.code;
         let part = quick.part;
         match part {
@@ -438,7 +459,7 @@ fn tag_noting(doc: &[u8], at: usize, place: usize, t: &[u8; 256], keys: usize) -
 }
 
 // Which names matter in a tag of the element `name`, by number.
-fn keys_of(name: &[u8]) -> usize
+pub fn keys_of(name: &[u8]) -> usize
     ensures { λ r. ⌜ keysBy r ≡ keysOf (now (name .entry)) ⌝ }
 {
     if texts::equal(name, b"messageSchema") {
@@ -451,14 +472,6 @@ fn keys_of(name: &[u8]) -> usize
         return 3;
     }
     0
-}
-
-// A tag of an element that is called `name`: what is noted are the names that matter there.
-pub fn tag_of(name: &[u8], doc: &[u8], at: usize, place: usize, t: &[u8; 256]) -> Whole
-    requires { ⌜ IsTable (now t) ⌝ }
-    ensures { λ r. ⌜ (r .ending ≡ tagAt (now (doc .entry)) at place .ending) × NotedBy (keysOf (now (name .entry))) (now (doc .entry)) at (r .noted) ⌝ }
-{
-    tag_noting(doc, at, place, t, keys_of(name))
 }
 
 // The raw value of the last attribute of that name, in the tag whose attributes begin at `at`.

@@ -2,4 +2,5 @@
 pub mod Digits
 pub mod Lanes
 pub mod Finding
+pub mod Standing
 pub mod Laws

@@ -2,8 +2,8 @@
 //
 // `word_at` gives the number of the eight bytes at a place, the first one lowest (specs/Word.antt); a word tells its
 // bytes (proofs/Digits.antt). By words `byte_from` finds where a byte first stands, whatever the bytes are, and
-// `lacks_word` tells that it is not among eight; `copy_word` copies eight. What works on one word asks that eight bytes
-// are there, and no more.
+// `lacks_word` tells that it is not among eight; `copy_word` copies eight. `stands_short` and `stands_long` compare with a
+// text that is given by its numbers. What works on one word asks that eight bytes are there, and no more.
 ghost use mathlib.Core.Path.{_≡_};
 ghost use mathlib.Core.Bool.{true};
 ghost use Prim.Native.Nat.{_+_, _≤_, _<_};
@@ -13,6 +13,7 @@ ghost use Rattle.texts.specs.Text.{piece};
 ghost use Rattle.texts.specs.Scan.{scan, until, is};
 ghost use Rattle.words.specs.Word.{IsWord};
 ghost use Rattle.words.specs.Marks.{Marked};
+ghost use Rattle.words.specs.Standing.{StandsShort, StandsLong};
 
 // A 1, the seven low bits, and the high bit, in each of the eight bytes.
 const ONES: u64 = 0x0101_0101_0101_0101;
@@ -113,4 +114,23 @@ pub fn byte_from(s: &[u8], at: usize, x: u8) -> usize
         i += 8;
     }
     byte_each(s, i, x)
+}
+
+// Whether a text of at most eight bytes stands at `i`: `modulus` is 256 to its length, and `front` its number.
+pub fn stands_short(s: &[u8], i: usize, modulus: u64, front: u64) -> bool
+    requires { ⌜ (i + 8 ≤ length (now s)) × (0 < modulus) ⌝ }
+    ensures { λ r. ⌜ StandsShort (now (s .entry)) i modulus front r ⌝ }
+{
+    word_at(s, i) % modulus == front
+}
+
+// The same for a text of 8 to 16 bytes: `front` is the number of its first eight, `modulus` and `back` are of the others.
+pub fn stands_long(s: &[u8], i: usize, front: u64, modulus: u64, back: u64) -> bool
+    requires { ⌜ (i + 16 ≤ length (now s)) × (0 < modulus) ⌝ }
+    ensures { λ r. ⌜ StandsLong (now (s .entry)) i front modulus back r ⌝ }
+{
+    if word_at(s, i) == front {
+        return stands_short(s, i + 8, modulus, back);
+    }
+    false
 }

@@ -4,29 +4,17 @@ use Rattle.saxlite.proofs.known.known_long.Tie as tie
 use Rattle.saxlite.proofs.known.known_long.Reads as reads
 use Rattle.saxlite.proofs.known.known_long.Lts as lts
 use Rattle.saxlite.proofs.known.none.Reads as none-reads
-use Rattle.words.proofs.word_at.Reads as word-at-reads
+use Rattle.words.proofs.stands_long.Reads as stands-long-reads
 
 -- src/known.rt:86:8
-word-at-requires : tie.Need-word-at-requires
-word-at-requires c κs = search laws
+stands-long-requires : tie.Need-stands-long-requires
+stands-long-requires c κs = search laws
 
--- src/known.rt:87:25
-add-word-at : tie.Need-add-word-at
-add-word-at c = search laws
-
--- src/known.rt:87:12
-word-at-requires-2 : tie.Need-word-at-requires-2
-word-at-requires-2 c κs = search laws
-
--- src/known.rt:87:12
-rem-if2 : tie.Need-rem-if2
-rem-if2 c = search laws
-
--- src/known.rt:88:13
+-- src/known.rt:87:9
 returns : tie.Need-returns
 returns c = search laws
 
--- src/known.rt:91:5
+-- src/known.rt:89:5
 none-requires : tie.Need-none-requires
 none-requires c κs = search laws
 
@@ -35,13 +23,4 @@ returns-2 : tie.Need-returns-2
 returns-2 c = search laws
 
 pub known-long-spec : {M : Type 1} → statement M
-known-long-spec =
-    tie.close
-    (tie.spec
-    word-at-requires
-    add-word-at
-    word-at-requires-2
-    rem-if2
-    returns
-    none-requires
-    returns-2)
+known-long-spec = tie.close (tie.spec stands-long-requires returns none-requires returns-2)

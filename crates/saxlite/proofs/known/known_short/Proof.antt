@@ -4,15 +4,11 @@ use Rattle.saxlite.proofs.known.known_short.Tie as tie
 use Rattle.saxlite.proofs.known.known_short.Reads as reads
 use Rattle.saxlite.proofs.known.known_short.Lts as lts
 use Rattle.saxlite.proofs.known.none.Reads as none-reads
-use Rattle.words.proofs.word_at.Reads as word-at-reads
+use Rattle.words.proofs.stands_short.Reads as stands-short-reads
 
 -- src/known.rt:67:8
-word-at-requires : tie.Need-word-at-requires
-word-at-requires c κs = search laws
-
--- src/known.rt:67:8
-rem-if1 : tie.Need-rem-if1
-rem-if1 c = search laws
+stands-short-requires : tie.Need-stands-short-requires
+stands-short-requires c κs = search laws
 
 -- src/known.rt:68:9
 returns : tie.Need-returns
@@ -27,4 +23,4 @@ returns-2 : tie.Need-returns-2
 returns-2 c = search laws
 
 pub known-short-spec : {M : Type 1} → statement M
-known-short-spec = tie.close (tie.spec word-at-requires rem-if1 returns none-requires returns-2)
+known-short-spec = tie.close (tie.spec stands-short-requires returns none-requires returns-2)

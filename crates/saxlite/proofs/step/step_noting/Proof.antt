@@ -3,7 +3,6 @@ use Rattle.saxlite.proofs.step.step_noting.Statement.{statement}
 use Rattle.saxlite.proofs.step.step_noting.Tie as tie
 use Rattle.saxlite.proofs.step.step_noting.Reads as reads
 use Rattle.saxlite.proofs.step.step_noting.Lts as lts
-use Rattle.classes.proofs.table.Reads as table-reads
 use Rattle.saxlite.proofs.scan.byte_from.Reads as byte-from-reads
 use Rattle.saxlite.proofs.step.bare.Reads as bare-reads
 use Rattle.saxlite.proofs.step.markup_at.Reads as markup-at-reads
@@ -24,10 +23,6 @@ slice-aggregate-starts-with c = search laws
 -- src/step.rt:171:8
 starts-with-requires : tie.Need-starts-with-requires
 starts-with-requires c κs = search laws
-
--- src/step.rt:172:17
-table-requires : tie.Need-table-requires
-table-requires c κs = search laws
 
 -- src/step.rt:173:9
 markup-at-requires : tie.Need-markup-at-requires
@@ -61,7 +56,6 @@ step-noting-spec =
     returns
     slice-aggregate-starts-with
     starts-with-requires
-    table-requires
     markup-at-requires
     returns-2
     byte-from-requires

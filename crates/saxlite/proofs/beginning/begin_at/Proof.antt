@@ -1,0 +1,81 @@
+use Rattle.saxlite.proofs.Laws.{laws}
+use Rattle.saxlite.proofs.beginning.begin_at.Statement.{statement}
+use Rattle.saxlite.proofs.beginning.begin_at.Tie as tie
+use Rattle.saxlite.proofs.beginning.begin_at.Reads as reads
+use Rattle.saxlite.proofs.beginning.begin_at.Lts as lts
+use Rattle.classes.proofs.table.Reads as table-reads
+use Rattle.saxlite.proofs.beginning.opening_at.Reads as opening-at-reads
+use Rattle.saxlite.proofs.scan.prefix_len.Reads as prefix-len-reads
+use Rattle.saxlite.proofs.scan.tag_name_end.Reads as tag-name-end-reads
+use Rattle.saxlite.proofs.tag.keys_of.Reads as keys-of-reads
+use Rattle.texts.proofs.part.Reads as part-reads
+
+-- src/beginning.rt:147:9
+opening-at-requires : tie.Need-opening-at-requires
+opening-at-requires c κs = search laws
+
+-- src/beginning.rt:149:19
+add-end : tie.Need-add-end
+add-end c = search laws
+
+-- src/beginning.rt:150:9
+returns : tie.Need-returns
+returns c = search laws
+
+-- src/beginning.rt:156:13
+table-requires : tie.Need-table-requires
+table-requires c κs = search laws
+
+-- src/beginning.rt:157:9
+tag-name-end-requires : tie.Need-tag-name-end-requires
+tag-name-end-requires c κs = search laws
+
+-- src/beginning.rt:158:13
+sub-n : tie.Need-sub-n
+sub-n c = search laws
+
+-- src/beginning.rt:159:27
+part-requires : tie.Need-part-requires
+part-requires c κs = search laws
+
+-- src/beginning.rt:159:9
+prefix-len-requires : tie.Need-prefix-len-requires
+prefix-len-requires c κs = search laws
+
+-- src/beginning.rt:160:17
+add-local : tie.Need-add-local
+add-local c = search laws
+
+-- src/beginning.rt:161:15
+sub-len : tie.Need-sub-len
+sub-len c = search laws
+
+-- src/beginning.rt:162:24
+part-requires-2 : tie.Need-part-requires-2
+part-requires-2 c κs = search laws
+
+-- src/beginning.rt:162:9
+keys-of-requires : tie.Need-keys-of-requires
+keys-of-requires c κs = search laws
+
+-- src/beginning.rt:143:1
+returns-2 : tie.Need-returns-2
+returns-2 c = search laws
+
+pub begin-at-spec : {M : Type 1} → statement M
+begin-at-spec =
+    tie.close
+    (tie.spec
+    opening-at-requires
+    add-end
+    returns
+    table-requires
+    tag-name-end-requires
+    sub-n
+    part-requires
+    prefix-len-requires
+    add-local
+    sub-len
+    part-requires-2
+    keys-of-requires
+    returns-2)

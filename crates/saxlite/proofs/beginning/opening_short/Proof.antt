@@ -1,0 +1,26 @@
+use Rattle.saxlite.proofs.Laws.{laws}
+use Rattle.saxlite.proofs.beginning.opening_short.Statement.{statement}
+use Rattle.saxlite.proofs.beginning.opening_short.Tie as tie
+use Rattle.saxlite.proofs.beginning.opening_short.Reads as reads
+use Rattle.saxlite.proofs.beginning.opening_short.Lts as lts
+use Rattle.saxlite.proofs.beginning.none.Reads as none-reads
+use Rattle.words.proofs.stands_short.Reads as stands-short-reads
+
+-- src/beginning.rt:54:8
+stands-short-requires : tie.Need-stands-short-requires
+stands-short-requires c κs = search laws
+
+-- src/beginning.rt:55:9
+returns : tie.Need-returns
+returns c = search laws
+
+-- src/beginning.rt:62:5
+none-requires : tie.Need-none-requires
+none-requires c κs = search laws
+
+-- src/beginning.rt:42:1
+returns-2 : tie.Need-returns-2
+returns-2 c = search laws
+
+pub opening-short-spec : {M : Type 1} → statement M
+opening-short-spec = tie.close (tie.spec stands-short-requires returns none-requires returns-2)

@@ -1,0 +1,164 @@
+// Where a tag begins: its raw name, and what that says. Nearly every tag of a schema is of one of nine names, written
+// with a space behind it: that is told by one comparison, with no walk for the name's end, a colon or the names that matter.
+use crate::scan::prefix_len;
+use crate::scan::tag_name_end;
+use crate::tag::keys_of;
+use classes::table;
+use words::stands_long;
+use words::stands_short;
+ghost use mathlib.Core.Path.{_≡_};
+ghost use Prim.Native.Nat.{_+_, _≤_};
+ghost use lib.ListN.{length};
+ghost use Rattle.saxlite.specs.Beginning.{KnownBeginning, KnownShort, KnownLong, BeginsAt};
+
+// A beginning that is known: the number of its raw name (specs/Beginning.antt), 0 where none stands there, the number of
+// the names that matter there, and the lengths of the raw name and of its prefix.
+pub struct Opening {
+    pub code: usize,
+    pub keys: usize,
+    pub len: usize,
+    pub lost: usize,
+}
+
+// Any beginning: where the raw name ends, the length of its prefix, and the number of the names that matter.
+pub struct Beginning {
+    pub end: usize,
+    pub lost: usize,
+    pub keys: usize,
+}
+
+fn none() -> Opening
+    ensures { λ r. ⌜ r ≡ record { code = 0; keys = 0; len = 0; lost = 0 } ⌝ }
+{
+    Opening {
+        code: 0,
+        keys: 0,
+        len: 0,
+        lost: 0,
+    }
+}
+
+// The raw name of a number, where it stands at `at` with a space behind it: a text of less than eight bytes.
+fn opening_short(
+    doc: &[u8],
+    at: usize,
+    code: usize,
+    keys: usize,
+    len: usize,
+    modulus: u64,
+    front: u64,
+) -> Opening
+    requires { ⌜ (at + 8 ≤ length (now doc)) × KnownShort code keys len modulus front ⌝ }
+    ensures { λ r. ⌜ KnownBeginning (now (doc .entry)) at r ⌝ }
+{
+    if stands_short(doc, at, modulus, front) {
+        return Opening {
+            code,
+            keys,
+            len,
+            lost: 0,
+        };
+    }
+    none()
+}
+
+// The same for a text of 8 to 15 bytes.
+fn opening_long(
+    doc: &[u8],
+    at: usize,
+    code: usize,
+    len: usize,
+    lost: usize,
+    front: u64,
+    modulus: u64,
+    back: u64,
+) -> Opening
+    requires { ⌜ (at + 16 ≤ length (now doc)) × KnownLong code len lost front modulus back ⌝ }
+    ensures { λ r. ⌜ KnownBeginning (now (doc .entry)) at r ⌝ }
+{
+    if stands_long(doc, at, front, modulus, back) {
+        return Opening {
+            code,
+            keys: 0,
+            len,
+            lost,
+        };
+    }
+    none()
+}
+
+// The known beginning at `at`, by its first letter.
+fn opening_by(doc: &[u8], at: usize) -> Opening
+    requires { ⌜ at + 16 ≤ length (now doc) ⌝ }
+    ensures { λ r. ⌜ KnownBeginning (now (doc .entry)) at r ⌝ }
+{
+    match doc[at] {
+        // "field ", "type ", "enum ", "group ", "ref "
+        b'f' => opening_short(doc, at, 1, 0, 5, 0x1_0000_0000_0000, 0x2064_6c65_6966),
+        b't' => opening_short(doc, at, 2, 2, 4, 0x100_0000_0000, 0x20_6570_7974),
+        b'e' => opening_short(doc, at, 3, 3, 4, 0x100_0000_0000, 0x20_6d75_6e65),
+        b'g' => opening_short(doc, at, 4, 0, 5, 0x1_0000_0000_0000, 0x2070_756f_7267),
+        b'r' => opening_short(doc, at, 5, 0, 3, 0x1_0000_0000, 0x2066_6572),
+        // "validValue ", "composite ", "sbe:message ", "message "
+        b'v' => opening_long(
+            doc,
+            at,
+            6,
+            10,
+            0,
+            0x6c61_5664_696c_6176,
+            0x100_0000,
+            0x20_6575,
+        ),
+        b'c' => opening_long(doc, at, 7, 9, 0, 0x7469_736f_706d_6f63, 0x1_0000, 0x2065),
+        b's' => opening_long(
+            doc,
+            at,
+            8,
+            11,
+            4,
+            0x7373_656d_3a65_6273,
+            0x1_0000_0000,
+            0x2065_6761,
+        ),
+        b'm' => opening_long(doc, at, 9, 7, 0, 0x2065_6761_7373_656d, 1, 0),
+        _ => none(),
+    }
+}
+
+// The known beginning at `at`; none is looked for in the last 15 bytes.
+fn opening_at(doc: &[u8], at: usize) -> Opening
+    ensures { λ r. ⌜ KnownBeginning (now (doc .entry)) at r ⌝ }
+{
+    if doc.len() < 16 {
+        return none();
+    }
+    if doc.len() - 16 < at {
+        return none();
+    }
+    opening_by(doc, at)
+}
+
+// The beginning of the tag whose raw name is due at `name`.
+pub fn begin_at(doc: &[u8], name: usize) -> Beginning
+    requires { ⌜ name ≤ length (now doc) ⌝ }
+    ensures { λ r. ⌜ BeginsAt (now (doc .entry)) name r ⌝ }
+{
+    let known = opening_at(doc, name);
+    if 0 < known.code {
+        let end = name + known.len;
+        return Beginning {
+            end,
+            lost: known.lost,
+            keys: known.keys,
+        };
+    }
+    let t = table();
+    let end = tag_name_end(doc, name, &t);
+    let n = end - name;
+    let lost = prefix_len(texts::part(doc, name, n));
+    let local = name + lost;
+    let len = n - lost;
+    let keys = keys_of(texts::part(doc, local, len));
+    Beginning { end, lost, keys }
+}
