@@ -1,10 +1,15 @@
 -- Laws of the elements' names: a, b, .. are what the comparisons say, in their order.
-use mathlib.Core.Path.{_≡_, refl, sym, _∙_}
+use mathlib.Core.Path.{_≡_, refl, sym, ap, _∙_}
 use mathlib.Core.Bool.{Bool, true, false}
 use mathlib.Core.List.{List}
 use Prim.Native.Nat.{ℕ}
+use lib.Dec.{leb→le}
+use lib.ListN.{length, drop}
 use Rattle.texts.specs.Choice.{pick}
-use Rattle.texts.specs.Text.{ascii, same}
+use Rattle.texts.specs.Text.{ascii, piece, same}
+use Rattle.words.specs.Word.{wordOf}
+use Rattle.words.specs.Standing.{ShortText, LongText, StandsShort, StandsLong}
+use Rattle.words.proofs.Digits.{front-is}
 use Rattle.elements.specs.Elements.{elementOf, otherElementOf}
 use Rattle.elements.specs.declared.Element.{Element}
 use Rattle.elements.specs.declared.Element.the-variants.{MessageSchema, «Type», Ref, Composite, Enum, ValidValue, Message, Group, Field, Other}
@@ -61,3 +66,44 @@ module _ (name : List ℕ) {a : Bool} (ea : a ≡ same name (ascii "validValue")
         pub is-other : d ≡ false → Other ≡ otherElementOf name
         unfolding otherElementOf
         is-other t = rw (← ea, fa, ← eb, fb, ← ec, fc, ← ed, t)
+
+-- ---- a name that stands in a document, told by its numbers
+
+module _ (doc : List ℕ) (at : ℕ) {len : ℕ} {b : Bool} where
+  by-short : (name : List ℕ) {modulus front : ℕ} → ShortText name modulus front → StandsShort doc at modulus front b → b ≡ true → len ≡ length name → elementOf (piece doc at len) ≡ elementOf name
+  by-short name t s e l = rw l (ap elementOf (front-is name (drop at doc) (sym (s .is name t) ∙ e)))
+
+  by-long : (name : List ℕ) {front modulus back : ℕ} → LongText name front modulus back → StandsLong doc at front modulus back b → b ≡ true → len ≡ length name → elementOf (piece doc at len) ≡ elementOf name
+  by-long name t s e l = rw l (ap elementOf (front-is name (drop at doc) (sym (s .is name t) ∙ e)))
+
+  pub at-field : StandsShort doc at 1099511627776 431315315046 b → b ≡ true → len ≡ 5 → Field ≡ elementOf (piece doc at len)
+  unfolding wordOf elementOf otherElementOf same
+  at-field s e l = sym (by-short (ascii "field") (record { few = leb→le 5 8 tt; power = refl; number = refl; bytes = tt }) s e l)
+
+  pub at-group : StandsShort doc at 1099511627776 483006575207 b → b ≡ true → len ≡ 5 → Group ≡ elementOf (piece doc at len)
+  unfolding wordOf elementOf otherElementOf same
+  at-group s e l = sym (by-short (ascii "group") (record { few = leb→le 5 8 tt; power = refl; number = refl; bytes = tt }) s e l)
+
+  pub at-type : StandsShort doc at 4294967296 1701869940 b → b ≡ true → len ≡ 4 → «Type» ≡ elementOf (piece doc at len)
+  unfolding wordOf elementOf otherElementOf same
+  at-type s e l = sym (by-short (ascii "type") (record { few = leb→le 4 8 tt; power = refl; number = refl; bytes = tt }) s e l)
+
+  pub at-enum : StandsShort doc at 4294967296 1836412517 b → b ≡ true → len ≡ 4 → Enum ≡ elementOf (piece doc at len)
+  unfolding wordOf elementOf otherElementOf same
+  at-enum s e l = sym (by-short (ascii "enum") (record { few = leb→le 4 8 tt; power = refl; number = refl; bytes = tt }) s e l)
+
+  pub at-message : StandsShort doc at 72057594037927936 28542640894207341 b → b ≡ true → len ≡ 7 → Message ≡ elementOf (piece doc at len)
+  unfolding wordOf elementOf otherElementOf same
+  at-message s e l = sym (by-short (ascii "message") (record { few = leb→le 7 8 tt; power = refl; number = refl; bytes = tt }) s e l)
+
+  pub at-value : StandsLong doc at 7809618218102579574 65536 25973 b → b ≡ true → len ≡ 10 → ValidValue ≡ elementOf (piece doc at len)
+  unfolding wordOf elementOf otherElementOf same
+  at-value s e l = sym (by-long (ascii "validValue") (record { eight = refl; number = refl; bytes = tt; rest = record { few = leb→le 2 8 tt; power = refl; number = refl; bytes = tt } }) s e l)
+
+  pub at-composite : StandsLong doc at 8388362703419043683 256 101 b → b ≡ true → len ≡ 9 → Composite ≡ elementOf (piece doc at len)
+  unfolding wordOf elementOf otherElementOf same
+  at-composite s e l = sym (by-long (ascii "composite") (record { eight = refl; number = refl; bytes = tt; rest = record { few = leb→le 1 8 tt; power = refl; number = refl; bytes = tt } }) s e l)
+
+-- any name
+pub at-any : (doc : List ℕ) (at len : ℕ) {w : List ℕ} → w ≡ piece doc at len → {r : Element} → r ≡ elementOf w → r ≡ elementOf (piece doc at len)
+at-any doc at len p e = e ∙ ap elementOf p

@@ -1,8 +1,15 @@
 // The elements that the builder knows.
 //
-// `element_of` promises `elementOf` of specs/Elements.antt for every name.
+// `element_of` promises `elementOf` of specs/Elements.antt for every name, and `element_at` for every piece of a document:
+// it tells the names that nearly every tag has by a word or two.
 use texts::equal;
+use texts::part;
+use words::stands_long;
+use words::stands_short;
 ghost use mathlib.Core.Path.{_≡_};
+ghost use Prim.Native.Nat.{_+_, _≤_};
+ghost use lib.ListN.{length};
+ghost use Rattle.texts.specs.Text.{piece};
 ghost use Rattle.elements.specs.Elements.{elementOf, otherElementOf};
 
 pub enum Element {
@@ -56,4 +63,72 @@ pub fn element_of(name: &[u8]) -> Element
         return Element::Enum;
     }
     other_element_of(name)
+}
+
+// The same of a name of 4 or 5 bytes in a document.
+fn short_element_at(doc: &[u8], at: usize, len: usize) -> Element
+    requires { ⌜ at + 8 ≤ length (now doc) ⌝ }
+    ensures { λ r. ⌜ r ≡ elementOf (piece (now (doc .entry)) at len) ⌝ }
+{
+    if len == 5 {
+        // "field", "group"
+        if stands_short(doc, at, 0x100_0000_0000, 0x64_6c65_6966) {
+            return Element::Field;
+        }
+        if stands_short(doc, at, 0x100_0000_0000, 0x70_756f_7267) {
+            return Element::Group;
+        }
+    }
+    if len == 4 {
+        // "type", "enum"
+        if stands_short(doc, at, 0x1_0000_0000, 0x6570_7974) {
+            return Element::Type;
+        }
+        if stands_short(doc, at, 0x1_0000_0000, 0x6d75_6e65) {
+            return Element::Enum;
+        }
+    }
+    element_of(part(doc, at, len))
+}
+
+// The same of a longer one.
+fn long_element_at(doc: &[u8], at: usize, len: usize) -> Element
+    requires { ⌜ at + 16 ≤ length (now doc) ⌝ }
+    ensures { λ r. ⌜ r ≡ elementOf (piece (now (doc .entry)) at len) ⌝ }
+{
+    if len == 10 {
+        // "validValue"
+        if stands_long(doc, at, 0x6c61_5664_696c_6176, 0x1_0000, 0x6575) {
+            return Element::ValidValue;
+        }
+    }
+    if len == 9 {
+        // "composite"
+        if stands_long(doc, at, 0x7469_736f_706d_6f63, 0x100, 0x65) {
+            return Element::Composite;
+        }
+    }
+    if len == 7 {
+        // "message"
+        if stands_short(doc, at, 0x100_0000_0000_0000, 0x65_6761_7373_656d) {
+            return Element::Message;
+        }
+    }
+    element_of(part(doc, at, len))
+}
+
+// What the name of `len` bytes at `at` says; words are compared up to 16 bytes before the document's end.
+pub fn element_at(doc: &[u8], at: usize, len: usize) -> Element
+    ensures { λ r. ⌜ r ≡ elementOf (piece (now (doc .entry)) at len) ⌝ }
+{
+    if doc.len() < 16 {
+        return element_of(part(doc, at, len));
+    }
+    if doc.len() - 16 < at {
+        return element_of(part(doc, at, len));
+    }
+    if len < 6 {
+        return short_element_at(doc, at, len);
+    }
+    long_element_at(doc, at, len)
 }

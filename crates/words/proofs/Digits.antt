@@ -60,7 +60,7 @@ bytes-are (b ∷ s) t = (lit< (and-l (ltb b 256) (areBytes s) t), bytes-are s (a
 
 -- ---- a text of at most eight bytes stands at a place where the word there begins with its number
 
-front-is : (t u : List ℕ) → startsWith t u ≡ true → take (length t) u ≡ t
+pub front-is : (t u : List ℕ) → startsWith t u ≡ true → take (length t) u ≡ t
 unfolding startsWith
 front-is [] u e = refl
 front-is (n ∷ t) [] e = absurd (let z : _≡_ {A = ℕ} 0 1 = cc in omega arith)

@@ -236,11 +236,11 @@ module _ (place name len : ℕ) (s : State) (doc rec text : List ℕ) {b : Bool}
   pub close-wrong : b ≡ false → After (closed place (piece doc name len) (builderOf s doc rec text)) s 0 doc (record { state = s; verdict = Refused (WrongClose place) }) rec text
   close-wrong f = after-refused s 0 doc rec text (WrongClose place) refl (closed-no place (piece doc name len) (builderOf s doc rec text) (sym eb ∙ f))
 
-  pub close-right : b ≡ true → {w : List ℕ} → w ≡ piece doc name len → {e : Element} → e ≡ elementOf w → {p : State} → p ≡ higher s → {a : Stepped} {rec′ text′ : List ℕ} → After (on (closeBy e (builderOf p doc rec text))) p 0 doc a rec′ text′ → After (closed place (piece doc name len) (builderOf s doc rec text)) s 0 doc a rec′ text′
-  close-right t ew {e} ee {p} ep f =
+  pub close-right : b ≡ true → {e : Element} → e ≡ elementOf (piece doc name len) → {p : State} → p ≡ higher s → {a : Stepped} {rec′ text′ : List ℕ} → After (on (closeBy e (builderOf p doc rec text))) p 0 doc a rec′ text′ → After (closed place (piece doc name len) (builderOf s doc rec text)) s 0 doc a rec′ text′
+  close-right t {e} ee {p} ep f =
       let q : on (closeBy e (builderOf p doc rec text)) ≡ closed place (piece doc name len) (builderOf s doc rec text) =
       ap (λ x. on (closeBy e x)) (pop-builder s p doc rec text ep)
-      ∙ ap (λ x. on (closeBy x (withStack (rest (stackOf (s .place .depth) rec doc)) (builderOf s doc rec text)))) (ee ∙ ap elementOf ew)
+      ∙ ap (λ x. on (closeBy x (withStack (rest (stackOf (s .place .depth) rec doc)) (builderOf s doc rec text)))) ee
       ∙ closed-yes place (piece doc name len) (builderOf s doc rec text) (sym eb ∙ t) in
       let c = after-as q f in
       record { is = c .is; kept = c .kept; used = λ x. omega (arith, c .used x, ap usedBy ep) }

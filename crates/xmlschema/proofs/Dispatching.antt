@@ -181,16 +181,15 @@ module _ (l : Limits) (place : ℕ) (s : State) (name len n : ℕ) (doc rec text
   pub pushed-ready : Ready p n rec₁ text
   pushed-ready = push-ready s name len n doc rec text rec₁ p r (omega arith) ep er
 
-  pub open-done : {w u : List ℕ} {inside : Bool} {e : Element} (a : Attributes) → u ≡ top (stackOf (s .place .depth) rec doc) → inside ≡ same u (ascii "composite") → w ≡ piece doc name len → e ≡ elementOf w → {c : Stepped} {rec₂ text₂ : List ℕ}
+  pub open-done : {u : List ℕ} {inside : Bool} {e : Element} (a : Attributes) → u ≡ top (stackOf (s .place .depth) rec doc) → inside ≡ same u (ascii "composite") → e ≡ elementOf (piece doc name len) → {c : Stepped} {rec₂ text₂ : List ℕ}
       → After (openBy e l place inside a (builderOf p doc rec₁ text)) p n doc c rec₂ text₂ → After (opened l place (piece doc name len) a (builderOf s doc rec text)) s n doc c rec₂ text₂
-  open-done {w} {u} {inside} {e} a eu ei ew ee f =
+  open-done {u} {inside} {e} a eu ei ee f =
       let b = builderOf s doc rec text in
       let k : leb (l .depth) (length (stackOf (s .place .depth) rec doc)) ≡ false = rw (length-stack (s .place .depth) rec doc) (lt-leb (l .depth) (s .place .depth) d) in
       let i : inside ≡ same (top (stackOf (s .place .depth) rec doc)) (ascii "composite") = ei ∙ ap (λ x. same x (ascii "composite")) eu in
-      let v : e ≡ elementOf (piece doc name len) = ee ∙ ap elementOf ew in
       let q : openBy e l place inside a (builderOf p doc rec₁ text) ≡ opened l place (piece doc name len) a b =
       ap (λ x. openBy e l place inside a x) (push-builder s name len n doc rec text rec₁ p r (omega arith) ep er)
-      ∙ ap (λ x. openBy x l place inside a (withStack (piece doc name len ∷ stackOf (s .place .depth) rec doc) b)) v
+      ∙ ap (λ x. openBy x l place inside a (withStack (piece doc name len ∷ stackOf (s .place .depth) rec doc) b)) ee
       ∙ ap (λ x. openBy (elementOf (piece doc name len)) l place x a (withStack (piece doc name len ∷ stackOf (s .place .depth) rec doc) b)) i
       ∙ opened-by l place (piece doc name len) a b k in
       let c = after-as q f in

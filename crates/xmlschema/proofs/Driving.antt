@@ -2,15 +2,15 @@
 use mathlib.Core.Path.{_≡_, refl, sym, ap, subst, _∙_}
 use mathlib.Core.Bool.{Bool, true, false, not}
 use mathlib.Core.List.{List, [], _∷_}
-use mathlib.Core.Logic.{⊎-elim}
+use mathlib.Core.Logic.{_⊎_, inl, inr, ⊎-elim}
 use Prim.Native.Nat.{ℕ, zero, suc, _+_, _*_, _-_, _≤_, _<_}
 use native.Mathlib.Omega.{arith}
-use lib.Dec.{leb, ltb}
-use lib.ListN.{length}
-use borrow.Author.Tests.{lt-ltb, le-ltb, leb-true, leb-false, le-leb, not-true, not-false}
+use lib.Dec.{eqb, leb, ltb}
+use lib.ListN.{length, drop}
+use borrow.Author.Tests.{lt-ltb, le-ltb, lt-leb, leb-true, leb-false, le-leb, ne-eqb, not-true, not-false}
 use Rattle.texts.specs.Choice.{pick}
-use Rattle.texts.specs.Text.{piece}
-use Rattle.texts.specs.Scan.{scan, isAscii}
+use Rattle.texts.specs.Text.{ascii, piece, startsWith}
+use Rattle.texts.specs.Scan.{scan, until, is, isAscii}
 use Rattle.texts.proofs.Choosing.{by-test, pick-yes, pick-no}
 use Rattle.refusals.specs.declared.Refusal.{Refusal}
 use Rattle.refusals.specs.declared.Refusal.the-variants.{TooLong, NoWorkSpace, NotAscii, OpenElements}
@@ -22,13 +22,14 @@ use Rattle.saxlite.specs.declared.reader.Cursor.{Cursor}
 use Rattle.saxlite.specs.declared.reader.Read.{Read}
 use Rattle.saxlite.specs.Step.{stepAt}
 use Rattle.saxlite.specs.Reader.{cursorAt, readStep, readAt, atEnd}
+use Rattle.saxlite.proofs.Stepping.{step-text as text-step}
 use Rattle.saxlite.proofs.Moving.{text-within, close-within, skipped-within, end-past, open-within, open-named, open-past}
 use Rattle.xmlschema.specs.Schema.{Schema}
 use Rattle.xmlschema.specs.Builder.{Builder, Outcome, on, refused}
 use Rattle.xmlschema.specs.Whole.{step, Whole, accepted, refusedBy, ending, run, empty, reading, theLimits, answerOf}
 use Rattle.xmlschema.specs.Store.{itemsOf, schemaOf}
 use Rattle.xmlschema.specs.Layout.{modelIn, builderOf, stackOf, current, Kept, Ready, Tagged, After, outcome, usedBy}
-use Rattle.xmlschema.specs.Driving.{takes, Inside, first, shown, ReadInto, cursorOf}
+use Rattle.xmlschema.specs.Driving.{takes, Inside, first, Passes, shown, ReadInto, cursorOf}
 use Rattle.xmlschema.specs.declared.build.Schema.{Schema as Read-schema}
 use Rattle.xmlschema.specs.declared.build.Schema.the-variants as read
 use Rattle.xmlschema.specs.declared.build.Mark.{Mark}
@@ -37,6 +38,7 @@ use Rattle.xmlschema.specs.declared.state.State.{State}
 use Rattle.xmlschema.specs.declared.state.Verdict.{Verdict}
 use Rattle.xmlschema.specs.declared.state.Verdict.the-variants as verdict
 use Rattle.xmlschema.proofs.Stacking.{length-stack}
+use Rattle.xmlschema.proofs.Closing.{text-off}
 
 -- ---- the cursor moves on
 
@@ -264,6 +266,46 @@ module _ (l : Limits) (doc : List ℕ) (c : Cursor) (s : State) (rec text : List
     pub reading-done : s .place .depth ≤ 0 → accepted (schemaOf (record { head = s .head; count = s .place .count }) rec text) ≡ reading l doc
     unfolding ending
     reading-done d = rw (length-stack (s .place .depth) rec doc, le-ltb 0 (s .place .depth) d) at ended
+
+-- ---- text that nobody collects is passed with the event before it
+
+pub pass-none : {doc : List ℕ} {collecting : Bool} {m : Mark} → Passes doc collecting m m
+pass-none = record { is = inl refl }
+
+pub pass-text : (doc : List ℕ) {collecting : Bool} (m : Mark) → collecting ≡ false → (m .owed ≡ 1 → ⊥) → m .at < length doc → {b : Bool} → b ≡ startsWith (ascii "<") (drop (m .at) doc) → b ≡ false → {at : ℕ} → at ≡ scan (until (is 60)) doc (m .at) → Passes doc collecting m (record { at = at; owed = 0; place = 0; name = 0; len = 0 })
+unfolding atEnd readAt
+pass-text doc m c o h e f p =
+    let w : eqb (m .owed) 1 ≡ false = ne-eqb (m .owed) 1 o in
+    record { is = inr (c, rw (w, lt-leb (length doc) (m .at) h), rw (w, ← text-step doc (m .at) h e f p)) }
+
+-- from c to d nothing was read that matters
+record Passed (l : Limits) (doc : List ℕ) (c d : Cursor) (s : State) (rec text : List ℕ) : Type 0 where
+  pub on : Reading l doc d s rec text
+  pub least : left doc d ≤ left doc c
+
+module _ (l : Limits) (doc : List ℕ) (m : Mark) (s : State) (rec text : List ℕ) (inv : Reading l doc (cursorOf m) s rec text) {r : Mark} (q : Passes doc (s .current .flag) m r) where
+  passed : Passed l doc (cursorOf m) (cursorOf r) s rec text
+  passed = ⊎-elim (λ e. subst (λ (x : Mark). Passed l doc (cursorOf m) (cursorOf x) s rec text) (sym e) (record { on = inv; least = omega arith })) by-text (q .is)
+    where
+      by-text : (s .current .flag ≡ false) × (atEnd doc (cursorOf m) ≡ false) × (readAt doc (cursorOf m) ≡ record { event = Text (m .at) (r .at - m .at); place = m .at; cursor = cursorOf r }) → Passed l doc (cursorOf m) (cursorOf r) s rec text
+      by-text t =
+          let e : cursorOf r ≡ readAt doc (cursorOf m) .cursor = sym (ap (λ (x : Read). x .cursor) (t .2)) in
+          let a : After (step l doc (readAt doc (cursorOf m) .place) (readAt doc (cursorOf m) .event) (builderOf s doc rec text)) s (takes (readAt doc (cursorOf m) .event)) doc (record { state = s; verdict = verdict.Fine }) rec text =
+          rw (t .2) (record { is = text-off s doc rec text (m .at) (r .at - m .at) (subst (λ (x : Read). Ready s (takes (x .event)) rec text) (t .2) (reading-ready l doc (cursorOf m) s rec text inv (sym (t .1)) refl)) (t .0); kept = λ x. inv .kept; used = λ x. omega arith }) in
+          record {
+            on = reading-on l doc (cursorOf m) s rec text inv (sym (t .1)) refl e a refl;
+            least = omega (arith, reading-less l doc (cursorOf m) s rec text inv (sym (t .1)) refl e a refl);
+          }
+
+module _ (l : Limits) (doc : List ℕ) (c : Cursor) (s : State) (rec text : List ℕ) (inv : Reading l doc c s rec text) {b : Bool} (eb : b ≡ atEnd doc c) (more : not b ≡ true) {n : Mark} {s′ : State} {w : Verdict} {rec′ text′ : List ℕ} (to : cursorOf n ≡ readAt doc c .cursor) (p : After (step l doc (readAt doc c .place) (readAt doc c .event) (builderOf s doc rec text)) s (takes (readAt doc c .event)) doc (record { state = s′; verdict = w }) rec′ text′) (v : w ≡ verdict.Fine) {r : Mark} (q : Passes doc (s′ .current .flag) n r) where
+  after-text : Passed l doc (cursorOf n) (cursorOf r) s′ rec′ text′
+  after-text = passed l doc n s′ rec′ text′ (reading-on l doc c s rec text inv eb more to p v) q
+
+  pub passing-on : Reading l doc (cursorOf r) s′ rec′ text′
+  passing-on = after-text .on
+
+  pub passing-less : left doc (cursorOf r) < left doc c
+  passing-less = omega (arith, after-text .least, reading-less l doc c s rec text inv eb more to p v)
 
 -- ---- the whole answer
 

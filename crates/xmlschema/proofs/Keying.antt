@@ -33,8 +33,8 @@ keys-of name =
     (λ h. by-test (same name (ascii "composite")) (λ t. rw (same-equal name (ascii "composite") t) refl)
     (λ k. by-test (same name (ascii "enum")) (λ t. simp (pick-yes, pick-no, f, g, h, k, t)) (λ m. simp (pick-no, f, g, h, k, m) (other-keys name))))))
 
-pub noted-element : (doc : List ℕ) (name len at : ℕ) (noted : Notes) {w : List ℕ} → w ≡ piece doc name len → (e : Element) → e ≡ elementOf w → NotedBy (keysOf (piece doc name len)) doc at noted → NotedBy (keysFor e) doc at noted
-noted-element doc name len at noted {w} p e f n = rw (f, p, ← keys-of (piece doc name len)) n
+pub noted-element : (doc : List ℕ) (name len at : ℕ) (noted : Notes) (e : Element) → e ≡ elementOf (piece doc name len) → NotedBy (keysOf (piece doc name len)) doc at noted → NotedBy (keysFor e) doc at noted
+noted-element doc name len at noted e f n = rw (f, ← keys-of (piece doc name len)) n
 
 module _ (e : Element) (doc : List ℕ) (at : ℕ) (noted : Notes) (n : NotedBy (keysFor e) doc at noted) where
   pub noted-schema : e ≡ element.MessageSchema → NotedBy schemaKeys doc at noted

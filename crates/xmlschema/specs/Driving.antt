@@ -9,6 +9,7 @@ use lib.ListN.{length}
 use Rattle.saxlite.specs.declared.reader.Event.{Event}
 use Rattle.saxlite.specs.declared.reader.Event.the-variants.{Text, Open, Close, Skipped, End, Refused}
 use Rattle.saxlite.specs.declared.reader.Cursor.{Cursor}
+use Rattle.saxlite.specs.Reader.{readAt, atEnd}
 use Rattle.xmlschema.specs.Store.{schemaOf}
 use Rattle.xmlschema.specs.Whole.{Whole, accepted, refusedBy, answerOf}
 use Rattle.xmlschema.specs.Layout.{Tagged}
@@ -47,6 +48,10 @@ first =
 -- a cursor that goes from turn to turn in whole words
 abbrev pub cursorOf : Mark → Cursor
 cursorOf m = record { at = m .at; owed = eqb (m .owed) 1; place = m .place; name = m .name; len = m .len }
+
+-- from a mark to one past the text there, where none is collected: an event that changes nothing
+pub record Passes (doc : List ℕ) (collecting : Bool) (m r : Mark) : Type 0 where
+  pub is : (r ≡ m) ⊎ ((collecting ≡ false) × (atEnd doc (cursorOf m) ≡ false) × (readAt doc (cursorOf m) ≡ record { event = Text (m .at) (r .at - m .at); place = m .at; cursor = cursorOf r }))
 
 -- what an answer says, with the records and the text as they are then
 abbrev pub shown : Schema → List ℕ → List ℕ → Whole

@@ -17,8 +17,10 @@ use saxlite::reader::Reader;
 use saxlite::reader::at_end;
 use saxlite::reader::cursor_at;
 use saxlite::reader::next;
+use saxlite::scan::byte_from;
 use saxlite::tag::Notes;
 use texts::ascii_end;
+use texts::starts_with;
 ghost use mathlib.Core.Path.{_≡_};
 ghost use Prim.Native.Nat.{_≤_};
 ghost use lib.ListN.{length};
@@ -26,7 +28,7 @@ ghost use Rattle.saxlite.specs.Reader.{readAt, atEnd};
 ghost use Rattle.saxlite.specs.Noting.{NotedIn};
 ghost use Rattle.xmlschema.specs.Whole.{step as stepOf, reading};
 ghost use Rattle.xmlschema.specs.Layout.{builderOf, Ready, After};
-ghost use Rattle.xmlschema.specs.Driving.{takes, Inside, first, cursorOf, shown, ReadInto};
+ghost use Rattle.xmlschema.specs.Driving.{takes, Inside, first, cursorOf, Passes, shown, ReadInto};
 
 // 01's limits.
 const MAX_ITEMS: u32 = 1024;
@@ -225,6 +227,32 @@ fn at_end_of(doc: &[u8], mark: Mark) -> bool
     at_end(doc, cursor)
 }
 
+// Past the text at a mark, where none is collected: an event less.
+fn past_text(doc: &[u8], collecting: bool, m: Mark) -> Mark
+    ensures { λ r. ⌜ Passes (now (doc .entry)) collecting m r ⌝ }
+{
+    if collecting {
+        return m;
+    }
+    if m.owed == 1 {
+        return m;
+    }
+    if doc.len() <= m.at {
+        return m;
+    }
+    if starts_with(doc, m.at, b"<") {
+        return m;
+    }
+    let at = byte_from(doc, m.at, b'<');
+    Mark {
+        at,
+        owed: 0,
+        place: 0,
+        name: 0,
+        len: 0,
+    }
+}
+
 // Reads a document whose length and bytes, and the buffers, are tested.
 fn read_tested(l: Limits, doc: &[u8], rec: &mut [u32], text: &mut [u8]) -> Schema
     requires { ⌜ (length (now doc) ≤ 32768) × (16384 ≤ length (now rec)) × (65536 ≤ length (now text)) × (l .items ≤ 1024) × (l .depth ≤ 64) ⌝ }
@@ -239,7 +267,7 @@ fn read_tested(l: Limits, doc: &[u8], rec: &mut [u32], text: &mut [u8]) -> Schem
             Verdict::Fine => {
                 let changed = t.state;
                 state = changed;
-                let on = t.mark;
+                let on = past_text(doc, state.current.flag, t.mark);
                 mark = on;
             }
             Verdict::Refused(why) => {

@@ -13,12 +13,11 @@ use crate::state::State;
 use crate::state::Stepped;
 use crate::state::Verdict;
 use elements::Element;
-use elements::element_of;
+use elements::element_at;
 use refusals::Refusal;
 use saxlite::entities::Decoded;
 use saxlite::entities::decode;
 use texts::Range;
-use texts::part;
 use texts::trim_range;
 ghost use mathlib.Core.Path.{_≡_};
 ghost use mathlib.Core.List.{List};
@@ -165,7 +164,7 @@ pub fn on_close(
     ensures { λ r. ⌜ After (closed place (piece (now (doc .entry)) name len) (builderOf s (now (doc .entry)) (now (rec .entry)) (now (text .entry)))) s 0 (now (doc .entry)) r (now (rec .exit)) (now (text .entry)) ⌝ }
 {
     if is_top(s.place.depth, name, len, doc, rec) {
-        let e = element_of(part(doc, name, len));
+        let e = element_at(doc, name, len);
         let p = pop(s);
         return close_by(p, e, doc, rec, text);
     }

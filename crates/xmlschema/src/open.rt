@@ -25,14 +25,13 @@ use crate::take::type_attributes;
 use crate::take::type_entry;
 use crate::take::typed_entry;
 use elements::Element;
-use elements::element_of;
+use elements::element_at;
 use numbers::Number;
 use refusals::Refusal;
 use saxlite::tag::Found;
 use saxlite::tag::Noted;
 use saxlite::tag::Notes;
 use texts::equal;
-use texts::part;
 ghost use mathlib.Core.Path.{_≡_};
 ghost use mathlib.Core.List.{List, [], _∷_};
 ghost use Prim.Native.Nat.{ℕ, _+_, _-_, _≤_, _<_};
@@ -640,7 +639,7 @@ pub fn on_open(
         return refuse(s, Refusal::TooDeep { place });
     }
     let inside = equal(top_name(depth, doc, rec), b"composite");
-    let e = element_of(part(doc, name, len));
+    let e = element_at(doc, name, len);
     let p = push(s, name, len, rec);
     open_by(
         p,

@@ -41,6 +41,9 @@ turn-at-requires c κs = search driving
 enum-told : tie.Need-enum-told Inv-loop μ-loop
 enum-told c = search driving
 
+past-text-requires : tie.Need-past-text-requires Inv-loop μ-loop
+past-text-requires c κs = search driving
+
 -- src/build.rt:143:5
 loop-less : tie.Need-loop-less Inv-loop μ-loop
 loop-less c = search driving
@@ -102,6 +105,7 @@ read-tested-spec =
     at-end-of-requires
     turn-at-requires
     enum-told
+    past-text-requires
     loop-less
     loop-again
     enum-known-verdict

@@ -3,8 +3,7 @@ use Rattle.xmlschema.proofs.close.on_close.Statement.{statement}
 use Rattle.xmlschema.proofs.close.on_close.Tie as tie
 use Rattle.xmlschema.proofs.close.on_close.Reads as reads
 use Rattle.xmlschema.proofs.close.on_close.Lts as lts
-use Rattle.elements.proofs.element_of.Reads as element-of-reads
-use Rattle.texts.proofs.part.Reads as part-reads
+use Rattle.elements.proofs.element_at.Reads as element-at-reads
 use Rattle.xmlschema.proofs.close.close_by.Reads as close-by-reads
 use Rattle.xmlschema.proofs.stack.is_top.Reads as is-top-reads
 use Rattle.xmlschema.proofs.stack.pop.Reads as pop-reads
@@ -13,13 +12,9 @@ use Rattle.xmlschema.proofs.stack.pop.Reads as pop-reads
 is-top-requires : tie.Need-is-top-requires
 is-top-requires c κs = search closing
 
--- src/close.rt:168:28
-part-requires : tie.Need-part-requires
-part-requires c κs = search closing
-
 -- src/close.rt:168:13
-element-of-requires : tie.Need-element-of-requires
-element-of-requires c κs = search closing
+element-at-requires : tie.Need-element-at-requires
+element-at-requires c κs = search closing
 
 -- src/close.rt:169:13
 pop-requires : tie.Need-pop-requires
@@ -50,8 +45,7 @@ on-close-spec =
     tie.close
     (tie.spec
     is-top-requires
-    part-requires
-    element-of-requires
+    element-at-requires
     pop-requires
     close-by-requires
     same-length

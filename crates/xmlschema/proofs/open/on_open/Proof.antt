@@ -6,8 +6,7 @@ use Rattle.xmlschema.proofs.open.on_open.Tie as tie
 use Rattle.xmlschema.proofs.open.on_open.Reads as reads
 use Rattle.xmlschema.proofs.open.on_open.Lts as lts
 use Rattle.texts.proofs.equal.Reads as equal-reads
-use Rattle.texts.proofs.part.Reads as part-reads
-use Rattle.elements.proofs.element_of.Reads as element-of-reads
+use Rattle.elements.proofs.element_at.Reads as element-at-reads
 use Rattle.xmlschema.proofs.open.open_by.Reads as open-by-reads
 use Rattle.xmlschema.proofs.open.refuse.Reads as refuse-reads
 use Rattle.xmlschema.proofs.stack.push.Reads as push-reads
@@ -33,13 +32,9 @@ slice-aggregate-equal c = search dispatching
 equal-requires : tie.Need-equal-requires
 equal-requires c κs = search dispatching
 
--- src/open.rt:479:24
-part-requires : tie.Need-part-requires
-part-requires c κs = search dispatching
-
 -- src/open.rt:479:9
-element-of-requires : tie.Need-element-of-requires
-element-of-requires c κs = search dispatching
+element-at-requires : tie.Need-element-at-requires
+element-at-requires c κs = search dispatching
 
 -- src/open.rt:480:9
 push-requires : tie.Need-push-requires
@@ -48,15 +43,14 @@ push-requires c κs = search dispatching
 -- src/open.rt:481:5
 open-by-requires : tie.Need-open-by-requires
 open-by-requires c κs =
-    let pre = c .before .before .before .before .before .before .before .before .before .before .before .before .before .before .before .before .before .pre in
-    let args = c .before .before .before .before .before .before .before .before .before .before .before .before .before .before .before .before .before .args in
-    let l-if1 = c .before .before .before .before .before .before .before .before .before .before .before .before .if1 .left in
-    let e-top-name = c .before .before .before .before .before .before .before .before .before .before .top-name .ensures in
-    let e-equal = c .before .before .before .before .before .before .before .before .equal .ensures in
-    let e-part = c .before .before .before .before .before .before .before .part .ensures in
-    let e-element-of = c .before .before .before .before .before .before .element-of .ensures in
+    let pre = c .before .before .before .before .before .before .before .before .before .before .before .before .before .before .before .before .pre in
+    let args = c .before .before .before .before .before .before .before .before .before .before .before .before .before .before .before .before .args in
+    let l-if1 = c .before .before .before .before .before .before .before .before .before .before .before .if1 .left in
+    let e-top-name = c .before .before .before .before .before .before .before .before .before .top-name .ensures in
+    let e-equal = c .before .before .before .before .before .before .before .equal .ensures in
+    let e-element-at = c .before .before .before .before .before .before .element-at .ensures in
     let e-push = c .before .before .before .before .push .ensures in
-    (search dispatching, pre .1, pre .2, noted-element (now (args .doc)) (args .name) (args .len) _ _ e-part _ e-element-of (pre .5))
+    (search dispatching, pre .1, pre .2, noted-element (now (args .doc)) (args .name) (args .len) _ _ _ e-element-at (pre .5))
 
 -- src/open.rt:459:1
 same-length : tie.Need-same-length
@@ -69,12 +63,11 @@ same-length-2 c = search dispatching
 -- src/open.rt:459:1
 returns-2 : tie.Need-returns-2
 returns-2 c =
-    let pre = c .before .before .before .before .before .before .before .before .before .before .before .before .before .before .before .before .before .before .before .before .before .before .pre in
-    let l-if1 = c .before .before .before .before .before .before .before .before .before .before .before .before .before .before .before .before .before .if1 .left in
-    let e-top-name = c .before .before .before .before .before .before .before .before .before .before .before .before .before .before .before .top-name .ensures in
-    let e-equal = c .before .before .before .before .before .before .before .before .before .before .before .before .before .equal .ensures in
-    let e-part = c .before .before .before .before .before .before .before .before .before .before .before .before .part .ensures in
-    let e-element-of = c .before .before .before .before .before .before .before .before .before .before .before .element-of .ensures in
+    let pre = c .before .before .before .before .before .before .before .before .before .before .before .before .before .before .before .before .before .before .before .before .before .pre in
+    let l-if1 = c .before .before .before .before .before .before .before .before .before .before .before .before .before .before .before .before .if1 .left in
+    let e-top-name = c .before .before .before .before .before .before .before .before .before .before .before .before .before .before .top-name .ensures in
+    let e-equal = c .before .before .before .before .before .before .before .before .before .before .before .before .equal .ensures in
+    let e-element-at = c .before .before .before .before .before .before .before .before .before .before .before .element-at .ensures in
     let e-push = c .before .before .before .before .before .before .before .before .before .push .ensures in
     let e-open-by = c .before .before .before .before .open-by .ensures in
     search dispatching
@@ -88,8 +81,7 @@ on-open-spec =
     top-name-requires
     slice-aggregate-equal
     equal-requires
-    part-requires
-    element-of-requires
+    element-at-requires
     push-requires
     open-by-requires
     same-length
