@@ -68,7 +68,7 @@ module _ {s : List ℕ} {at i : ℕ} (inv : Scanning isAscii s at i) (h : i < le
   unfolding isAscii
   ascii-stop l = scan-stop inv h refl (le-ltb _ _ l)
 
--- ---- 8 bytes at once
+-- ---- many bytes at once
 
 or-below : (a b : ℕ) → bitOr a b < 128 → (a < 128) × (b < 128)
 or-below a b h = (omega (arith, or-add-and a b, and-le-r a b), omega (arith, or-add-and a b, and-le-l a b))
@@ -96,9 +96,22 @@ module _ (s : List ℕ) (i : ℕ) (h : i + 8 ≤ length s) where
       let d = or-below (g 6) (g 7) (most .1) in
       next 7 (omega arith) (next 6 (omega arith) (next 5 (omega arith) (next 4 (omega arith) (next 3 (omega arith) (next 2 (omega arith) (next 1 (omega arith) (ascii-on scan-start (omega arith) (a .0)) (a .1)) (b .0)) (b .1)) (c .0)) (c .1)) (d .0)) (d .1) .rest
 
+-- what four stretches of n bytes give, one after the other
+module _ (s : List ℕ) (n i j k l m : ℕ) (hj : i + n ≡ j) (hk : j + n ≡ k) (hl : k + n ≡ l) (hm : l + n ≡ m) where
+  pub ascii-four : (a b c d : ℕ)
+      → (a < 128 → scan isAscii s (i + n) ≡ scan isAscii s i) → (b < 128 → scan isAscii s (j + n) ≡ scan isAscii s j)
+      → (c < 128 → scan isAscii s (k + n) ≡ scan isAscii s k) → (d < 128 → scan isAscii s (l + n) ≡ scan isAscii s l)
+      → bitOr (bitOr (bitOr a b) c) d < 128 → scan isAscii s m ≡ scan isAscii s i
+  ascii-four a b c d ha hb hc hd all =
+      let most = or-below (bitOr (bitOr a b) c) d all in
+      let more = or-below (bitOr a b) c (most .0) in
+      let some = or-below a b (more .0) in
+      let at : ℕ → ℕ = scan isAscii s in
+      ap at (sym hm) ∙ hd (most .1) ∙ ap at (sym hl) ∙ hc (more .1) ∙ ap at (sym hk) ∙ hb (some .1) ∙ ap at (sym hj) ∙ ha (some .0)
+
 module _ {s : List ℕ} {at i : ℕ} (inv : Scanning isAscii s at i) where
-  pub eight-on : scan isAscii s (i + 8) ≡ scan isAscii s i → Scanning isAscii s at (i + 8)
-  eight-on e = record { rest = e ∙ inv .rest }
+  pub stretch-on : (n : ℕ) → scan isAscii s (i + n) ≡ scan isAscii s i → Scanning isAscii s at (i + n)
+  stretch-on n e = record { rest = e ∙ inv .rest }
 
   pub scan-rest : {r : ℕ} → r ≡ scan isAscii s i → r ≡ scan isAscii s at
   scan-rest e = e ∙ inv .rest

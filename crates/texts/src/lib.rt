@@ -5,7 +5,7 @@
 // a definition of specs/.
 ghost use mathlib.Core.Path.{_≡_};
 ghost use mathlib.Core.Bool.{true};
-ghost use Prim.Native.Nat.{_+_, _≤_};
+ghost use Prim.Native.Nat.{_+_, _≤_, _<_};
 ghost use lib.ListN.{length, drop, getD};
 ghost use Rattle.texts.specs.Text.{piece, same, startsWith};
 ghost use Rattle.texts.specs.Scan.{scan, isAscii};
@@ -76,15 +76,39 @@ pub fn starts_with(s: &[u8], at: usize, needle: &[u8]) -> bool
     true
 }
 
-// Whether the 8 bytes from `i` on are ASCII: one test for all of them.
-fn is_ascii_eight(s: &[u8], i: usize) -> bool
+// The bits of the 8 bytes from `i` on: below 128 where all of them are ASCII.
+fn bits_eight(s: &[u8], i: usize) -> u8
     requires { ⌜ i + 8 ≤ length (now s) ⌝ }
-    ensures { λ r. ⌜ (r ≡ true → scan isAscii (now (s .entry)) (i + 8) ≡ scan isAscii (now (s .entry)) i) ⌝ }
+    ensures { λ r. ⌜ (r < 128 → scan isAscii (now (s .entry)) (i + 8) ≡ scan isAscii (now (s .entry)) i) ⌝ }
 {
     let a = s[i] | s[i + 1];
     let b = s[i + 2] | s[i + 3];
     let c = s[i + 4] | s[i + 5];
     let d = s[i + 6] | s[i + 7];
+    a | b | c | d
+}
+
+// The same of 32 bytes.
+fn bits_block(s: &[u8], i: usize) -> u8
+    requires { ⌜ i + 32 ≤ length (now s) ⌝ }
+    ensures { λ r. ⌜ (r < 128 → scan isAscii (now (s .entry)) (i + 32) ≡ scan isAscii (now (s .entry)) i) ⌝ }
+{
+    let a = bits_eight(s, i);
+    let b = bits_eight(s, i + 8);
+    let c = bits_eight(s, i + 16);
+    let d = bits_eight(s, i + 24);
+    a | b | c | d
+}
+
+// Whether the 128 bytes from `i` on are ASCII: one test for all of them.
+fn is_ascii_block(s: &[u8], i: usize) -> bool
+    requires { ⌜ i + 128 ≤ length (now s) ⌝ }
+    ensures { λ r. ⌜ (r ≡ true → scan isAscii (now (s .entry)) (i + 128) ≡ scan isAscii (now (s .entry)) i) ⌝ }
+{
+    let a = bits_block(s, i);
+    let b = bits_block(s, i + 32);
+    let c = bits_block(s, i + 64);
+    let d = bits_block(s, i + 96);
     let all = a | b | c | d;
     all < 128
 }
@@ -104,19 +128,35 @@ fn ascii_from(s: &[u8], from: usize) -> usize
     i
 }
 
-// Where the first byte of 128 or more stands, or the end.
-pub fn ascii_end(s: &[u8]) -> usize
-    ensures { λ r. ⌜ r ≡ scan isAscii (now (s .entry)) 0 ⌝ }
+// The same, eight bytes at once.
+fn ascii_eights(s: &[u8], from: usize) -> usize
+    requires { ⌜ from ≤ length (now s) ⌝ }
+    ensures { λ r. ⌜ r ≡ scan isAscii (now (s .entry)) from ⌝ }
 {
-    let mut i = 0;
+    let mut i = from;
     while i + 8 <= s.len() {
-        if is_ascii_eight(s, i) {
+        if bits_eight(s, i) < 128 {
             i += 8;
         } else {
             return ascii_from(s, i);
         }
     }
     ascii_from(s, i)
+}
+
+// Where the first byte of 128 or more stands, or the end.
+pub fn ascii_end(s: &[u8]) -> usize
+    ensures { λ r. ⌜ r ≡ scan isAscii (now (s .entry)) 0 ⌝ }
+{
+    let mut i = 0;
+    while i + 128 <= s.len() {
+        if is_ascii_block(s, i) {
+            i += 128;
+        } else {
+            return ascii_eights(s, i);
+        }
+    }
+    ascii_eights(s, i)
 }
 
 // ---- trimming

@@ -2,14 +2,14 @@ use Prim.Native.Nat.{_≤_, _-_}
 use native.Mathlib.Omega.{arith}
 use lib.ListN.{length}
 use Rattle.texts.specs.Scan.{isAscii}
-use Rattle.texts.proofs.Scanning.{Scanning, eight-on}
+use Rattle.texts.proofs.Scanning.{Scanning, stretch-on}
 use Rattle.texts.proofs.Laws.{laws}
 use Rattle.texts.proofs.ascii_end.Statement.{statement}
 use Rattle.texts.proofs.ascii_end.Tie as tie
 use Rattle.texts.proofs.ascii_end.Reads as reads
 use Rattle.texts.proofs.ascii_end.Lts as lts
-use Rattle.texts.proofs.ascii_from.Reads as ascii-from-reads
-use Rattle.texts.proofs.is_ascii_eight.Reads as is-ascii-eight-reads
+use Rattle.texts.proofs.ascii_eights.Reads as ascii-eights-reads
+use Rattle.texts.proofs.is_ascii_block.Reads as is-ascii-block-reads
 
 abbrev Inv-loop : tie.InvT-loop
 Inv-loop s i₀ i = Scanning isAscii s 0 i × (i ≤ length s)
@@ -26,8 +26,8 @@ add-loop : tie.Need-add-loop Inv-loop μ-loop
 add-loop c = search laws
 
 -- src/lib.rt:113:12
-is-ascii-eight-requires : tie.Need-is-ascii-eight-requires Inv-loop μ-loop
-is-ascii-eight-requires c κs = search laws
+is-ascii-block-requires : tie.Need-is-ascii-block-requires Inv-loop μ-loop
+is-ascii-block-requires c κs = search laws
 
 -- src/lib.rt:114:13
 add-i : tie.Need-add-i Inv-loop μ-loop
@@ -39,19 +39,19 @@ loop-less c = search laws
 
 -- src/lib.rt:112:5
 loop-again : tie.Need-loop-again Inv-loop μ-loop
-loop-again c = (eight-on (c .before .before .before .loop .inv .0) (c .before .is-ascii-eight .ensures (c .if1 .taken)), omega arith)
+loop-again c = (stretch-on (c .before .before .before .loop .inv .0) 128 (c .before .is-ascii-block .ensures (c .if1 .taken)), omega arith)
 
 -- src/lib.rt:116:13
-ascii-from-requires : tie.Need-ascii-from-requires Inv-loop μ-loop
-ascii-from-requires c κs = search laws
+ascii-eights-requires : tie.Need-ascii-eights-requires Inv-loop μ-loop
+ascii-eights-requires c κs = search laws
 
 -- src/lib.rt:116:13
 returns : tie.Need-returns Inv-loop μ-loop
 returns c = search laws
 
 -- src/lib.rt:119:5
-ascii-from-requires-2 : tie.Need-ascii-from-requires-2 Inv-loop μ-loop
-ascii-from-requires-2 c κs = search laws
+ascii-eights-requires-2 : tie.Need-ascii-eights-requires-2 Inv-loop μ-loop
+ascii-eights-requires-2 c κs = search laws
 
 -- src/lib.rt:108:1
 returns-2 : tie.Need-returns-2 Inv-loop μ-loop
@@ -65,11 +65,11 @@ ascii-end-spec =
     μ-loop
     loop-holds
     add-loop
-    is-ascii-eight-requires
+    is-ascii-block-requires
     add-i
     loop-less
     loop-again
-    ascii-from-requires
+    ascii-eights-requires
     returns
-    ascii-from-requires-2
+    ascii-eights-requires-2
     returns-2)

@@ -1,12 +1,11 @@
 use native.Mathlib.Omega.{arith}
 use denote.Ref.{now}
-use borrow.Author.Tests.{ltb-true}
 use Rattle.texts.proofs.Scanning.{ascii-eight}
 use Rattle.texts.proofs.Laws.{laws}
-use Rattle.texts.proofs.is_ascii_eight.Statement.{statement}
-use Rattle.texts.proofs.is_ascii_eight.Tie as tie
-use Rattle.texts.proofs.is_ascii_eight.Reads as reads
-use Rattle.texts.proofs.is_ascii_eight.Lts as lts
+use Rattle.texts.proofs.bits_eight.Statement.{statement}
+use Rattle.texts.proofs.bits_eight.Tie as tie
+use Rattle.texts.proofs.bits_eight.Reads as reads
+use Rattle.texts.proofs.bits_eight.Lts as lts
 
 -- src/lib.rt:84:13
 shared-slice-read-a : tie.Need-shared-slice-read-a
@@ -72,10 +71,10 @@ shared-slice-read-d-2 c = search laws
 returns : tie.Need-returns
 returns c t =
     let a = c .before .before .before .before .before .before .before .before .args in
-    ascii-eight (now (a .s)) (a .i) (omega arith) (ltb-true _ 128 t)
+    ascii-eight (now (a .s)) (a .i) (omega arith) t
 
-pub is-ascii-eight-spec : {M : Type 1} → statement M
-is-ascii-eight-spec =
+pub bits-eight-spec : {M : Type 1} → statement M
+bits-eight-spec =
     tie.close
     (tie.spec
     shared-slice-read-a
