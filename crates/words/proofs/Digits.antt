@@ -100,18 +100,18 @@ module _ (s : List ℕ) (i : ℕ) {w : ℕ} (q : IsWord (piece s i 8) w) (t : Li
 
 -- ---- eight bytes of a text
 
-module _ (s : List ℕ) (i : ℕ) (room : i + 8 ≤ length s) where
-  next : (k n : ℕ) → i + k < length s → piece s (i + k) (suc n) ≡ getD s (i + k) 0 ∷ piece s (i + suc k) n
-  next k n h =
-      let z : suc (i + k) ≡ i + suc k = omega arith in
-      ap (take (suc n)) (drop-cons s (i + k) 0 h) ∙ ap (λ (j : ℕ). getD s (i + k) 0 ∷ piece s j n) z
+next : (s : List ℕ) (i k n : ℕ) → i + k < length s → piece s (i + k) (suc n) ≡ getD s (i + k) 0 ∷ piece s (i + suc k) n
+next s i k n h =
+    let z : suc (i + k) ≡ i + suc k = omega arith in
+    ap (take (suc n)) (drop-cons s (i + k) 0 h) ∙ ap (λ (j : ℕ). getD s (i + k) 0 ∷ piece s j n) z
 
+module _ (s : List ℕ) (i : ℕ) (room : i + 8 ≤ length s) where
   pub eight-bytes : piece s i 8 ≡ getD s i 0 ∷ getD s (i + 1) 0 ∷ getD s (i + 2) 0 ∷ getD s (i + 3) 0 ∷ getD s (i + 4) 0 ∷ getD s (i + 5) 0 ∷ getD s (i + 6) 0 ∷ getD s (i + 7) 0 ∷ []
   eight-bytes =
       let at : ℕ → List ℕ → List ℕ = λ k t. getD s (i + k) 0 ∷ t in
       ap (take 8) (drop-cons s i 0 (omega arith)) ∙ ap (λ (j : ℕ). getD s i 0 ∷ piece s j 7) (sym (add-one i))
-      ∙ ap (λ (t : List ℕ). getD s i 0 ∷ t) (next 1 6 (omega arith) ∙ ap (at 1) (next 2 5 (omega arith) ∙ ap (at 2) (next 3 4 (omega arith)
-      ∙ ap (at 3) (next 4 3 (omega arith) ∙ ap (at 4) (next 5 2 (omega arith) ∙ ap (at 5) (next 6 1 (omega arith) ∙ ap (at 6) (next 7 0 (omega arith))))))))
+      ∙ ap (λ (t : List ℕ). getD s i 0 ∷ t) (next s i 1 6 (omega arith) ∙ ap (at 1) (next s i 2 5 (omega arith) ∙ ap (at 2) (next s i 3 4 (omega arith)
+      ∙ ap (at 3) (next s i 4 3 (omega arith) ∙ ap (at 4) (next s i 5 2 (omega arith) ∙ ap (at 5) (next s i 6 1 (omega arith) ∙ ap (at 6) (next s i 7 0 (omega arith))))))))
 
   -- each of the eight is read by itself: the number read, and that it is a byte
   pub word-read : {a b c d e f g h : ℕ}
@@ -139,3 +139,18 @@ module _ (s : List ℕ) (i : ℕ) (room : i + 8 ≤ length s) where
   word-written d at =
       let z : (k : ℕ) → at + suc k ≡ suc (at + k) = λ k. omega arith in
       rw (eight-bytes, z 6, z 5, z 4, z 3, z 2, z 1, add-one)
+
+-- ---- four bytes of a text
+
+module _ (s : List ℕ) (i : ℕ) (room : i + 4 ≤ length s) where
+  four-bytes : piece s i 4 ≡ getD s i 0 ∷ getD s (i + 1) 0 ∷ getD s (i + 2) 0 ∷ getD s (i + 3) 0 ∷ []
+  four-bytes =
+      let at : ℕ → List ℕ → List ℕ = λ k t. getD s (i + k) 0 ∷ t in
+      ap (take 4) (drop-cons s i 0 (omega arith)) ∙ ap (λ (j : ℕ). getD s i 0 ∷ piece s j 3) (sym (add-one i))
+      ∙ ap (λ (t : List ℕ). getD s i 0 ∷ t) (next s i 1 2 (omega arith) ∙ ap (at 1) (next s i 2 1 (omega arith) ∙ ap (at 2) (next s i 3 0 (omega arith))))
+
+  pub half-written : (d : List ℕ) (at : ℕ)
+      → set (set (set (set d at (getD s i 0)) (at + 1) (getD s (i + 1) 0)) (at + 2) (getD s (i + 2) 0)) (at + 3) (getD s (i + 3) 0) ≡ sets d at (piece s i 4)
+  half-written d at =
+      let z : (k : ℕ) → at + suc k ≡ suc (at + k) = λ k. omega arith in
+      rw (four-bytes, z 2, z 1, add-one)

@@ -3,4 +3,5 @@ pub mod Digits
 pub mod Lanes
 pub mod Finding
 pub mod Standing
+pub mod Lacking
 pub mod Laws

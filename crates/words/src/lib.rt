@@ -4,8 +4,9 @@
 // bytes (proofs/Digits.antt). By words `byte_from` finds where a byte first stands, whatever the bytes are, and
 // `lacks_word` tells that it is not among eight; `copy_word` copies eight. `stands_short` and `stands_long` compare with a
 // text that is given by its numbers. What works on one word asks that eight bytes are there, and no more.
+// A half is four bytes.
 ghost use mathlib.Core.Path.{_≡_};
-ghost use mathlib.Core.Bool.{true};
+ghost use mathlib.Core.Bool.{true, false};
 ghost use Prim.Native.Nat.{_+_, _≤_, _<_};
 ghost use lib.ListN.{length};
 ghost use lib.Seq.{sets};
@@ -53,12 +54,56 @@ fn marks(s: &[u8], i: usize, x: u8) -> u64
     HIGH - (full & HIGH)
 }
 
+// Whether one of the 8 bytes from `i` on is `x`. Written as one `|` of tests it is one comparison of all the bytes.
+fn has_word(s: &[u8], i: usize, x: u8) -> bool
+    requires { ⌜ i + 8 ≤ length (now s) ⌝ }
+    ensures { λ r. ⌜ (r ≡ false → scan (until (is x)) (now (s .entry)) (i + 8) ≡ scan (until (is x)) (now (s .entry)) i) ⌝ }
+{
+    let a = (s[i] == x) | (s[i + 1] == x);
+    let b = (s[i + 2] == x) | (s[i + 3] == x);
+    let c = (s[i + 4] == x) | (s[i + 5] == x);
+    let d = (s[i + 6] == x) | (s[i + 7] == x);
+    a | b | c | d
+}
+
 // Whether none of the 8 bytes from `i` on is `x`.
 pub fn lacks_word(s: &[u8], i: usize, x: u8) -> bool
     requires { ⌜ i + 8 ≤ length (now s) ⌝ }
     ensures { λ r. ⌜ (r ≡ true → scan (until (is x)) (now (s .entry)) (i + 8) ≡ scan (until (is x)) (now (s .entry)) i) ⌝ }
 {
-    marks(s, i, x) == 0
+    !has_word(s, i, x)
+}
+
+// Whether one of the 4 bytes from `i` on is `x`.
+fn has_half(s: &[u8], i: usize, x: u8) -> bool
+    requires { ⌜ i + 4 ≤ length (now s) ⌝ }
+    ensures { λ r. ⌜ (r ≡ false → scan (until (is x)) (now (s .entry)) (i + 4) ≡ scan (until (is x)) (now (s .entry)) i) ⌝ }
+{
+    let a = (s[i] == x) | (s[i + 1] == x);
+    let b = (s[i + 2] == x) | (s[i + 3] == x);
+    a | b
+}
+
+// Whether `x` is neither among the 8 bytes from `i` on nor among those from `j` on: one test for both.
+pub fn lack_words(s: &[u8], i: usize, j: usize, x: u8) -> bool
+    requires { ⌜ (i + 8 ≤ length (now s)) × (j + 8 ≤ length (now s)) ⌝ }
+    ensures { λ r. ⌜ (r ≡ true → (scan (until (is x)) (now (s .entry)) (i + 8) ≡ scan (until (is x)) (now (s .entry)) i) × (scan (until (is x)) (now (s .entry)) (j + 8) ≡ scan (until (is x)) (now (s .entry)) j)) ⌝ }
+{
+    let one = has_word(s, i, x);
+    let two = has_word(s, j, x);
+    let any = one | two;
+    !any
+}
+
+// The same of 4 bytes.
+pub fn lack_halves(s: &[u8], i: usize, j: usize, x: u8) -> bool
+    requires { ⌜ (i + 4 ≤ length (now s)) × (j + 4 ≤ length (now s)) ⌝ }
+    ensures { λ r. ⌜ (r ≡ true → (scan (until (is x)) (now (s .entry)) (i + 4) ≡ scan (until (is x)) (now (s .entry)) i) × (scan (until (is x)) (now (s .entry)) (j + 4) ≡ scan (until (is x)) (now (s .entry)) j)) ⌝ }
+{
+    let one = has_half(s, i, x);
+    let two = has_half(s, j, x);
+    let any = one | two;
+    !any
 }
 
 // Copies the 8 bytes from `i` on to `at`. All are read before the first is written: it is one load and one store.
@@ -82,6 +127,21 @@ pub fn copy_word(s: &[u8], i: usize, dst: &mut [u8], at: usize)
     dst[at + 5] = f;
     dst[at + 6] = g;
     dst[at + 7] = h;
+}
+
+// Copies the 4 bytes from `i` on to `at`.
+pub fn copy_half(s: &[u8], i: usize, dst: &mut [u8], at: usize)
+    requires { ⌜ (i + 4 ≤ length (now s)) × (at + 4 ≤ length (now dst)) ⌝ }
+    ensures { λ r. ⌜ now (dst .exit) ≡ sets (now (dst .entry)) at (piece (now (s .entry)) i 4) ⌝ }
+{
+    let a = s[i];
+    let b = s[i + 1];
+    let c = s[i + 2];
+    let d = s[i + 3];
+    dst[at] = a;
+    dst[at + 1] = b;
+    dst[at + 2] = c;
+    dst[at + 3] = d;
 }
 
 // Where the first `x` from `at` on stands, or the end, byte by byte.
