@@ -1,11 +1,15 @@
 // The five entities.
+use words::copy_half;
 use words::copy_word;
+use words::lack_halves;
+use words::lack_words;
 use words::lacks_word;
 ghost use mathlib.Core.Path.{_≡_};
 ghost use Prim.Native.Nat.{_+_, _-_, _≤_, _<_};
 ghost use lib.ListN.{length, drop};
+ghost use lib.Seq.{sets};
 ghost use Rattle.texts.specs.Text.{piece};
-ghost use Rattle.saxlite.specs.Entities.{front, DecodedInto};
+ghost use Rattle.saxlite.specs.Entities.{front, decoded, DecodedInto};
 ghost use Rattle.saxlite.specs.Copying.{PlainTo, RestInto};
 
 // The byte that stands at a place, and of how many bytes it is written.
@@ -84,37 +88,86 @@ fn copy_plain(raw: &[u8], dst: &mut [u8], at: usize) -> usize
     i
 }
 
-// Eight bytes at once as long as they lack '&', the last eight over what is copied already; the rest unit by unit.
-fn decode_words(raw: &[u8], dst: &mut [u8], at: usize) -> Decoded
-    ensures { λ r. ⌜ DecodedInto (now (raw .entry)) (now (dst .entry)) at r (now (dst .exit)) ⌝ }
+// Eight bytes at once as long as they lack '&', the last eight over what is copied already; the rest unit by unit: how
+// many bytes are written.
+fn decode_long(raw: &[u8], dst: &mut [u8], at: usize) -> usize
+    requires { ⌜ at + length (now raw) ≤ length (now dst) ⌝ }
+    ensures { λ r. ⌜ RestInto (now (raw .entry)) (now (dst .entry)) at (at + r) (now (dst .exit)) ⌝ }
 {
-    if dst.len() < at {
-        return Decoded::NoRoom;
-    }
     let n = raw.len();
-    if dst.len() - at < n {
-        return Decoded::NoRoom;
-    }
     let i = copy_plain(raw, dst, at);
     if i == n {
-        return Decoded::Written(n);
+        return n;
     }
     if 8 <= n {
         let last = n - 8;
         if last < i {
             if lacks_word(raw, last, b'&') {
                 copy_word(raw, last, dst, at + last);
-                return Decoded::Written(n);
+                return n;
             }
         }
     }
-    Decoded::Written(decode_each(raw, i, dst, at + i) - at)
+    decode_each(raw, i, dst, at + i) - at
 }
 
-// Writes `len` bytes of the document from `from` on, entities decoded, into `dst` at `at`. Room is
-// asked for the raw bytes.
+// At most 8 bytes: where there are 4 and none is '&', as two halves, of which the second may lie over the first.
+fn decode_short(raw: &[u8], dst: &mut [u8], at: usize) -> usize
+    requires { ⌜ (at + length (now raw) ≤ length (now dst)) × (length (now raw) ≤ 8) ⌝ }
+    ensures { λ r. ⌜ RestInto (now (raw .entry)) (now (dst .entry)) at (at + r) (now (dst .exit)) ⌝ }
+{
+    let n = raw.len();
+    if 4 <= n {
+        let last = n - 4;
+        if lack_halves(raw, 0, last, b'&') {
+            copy_half(raw, 0, dst, at);
+            copy_half(raw, last, dst, at + last);
+            return n;
+        }
+    }
+    decode_each(raw, 0, dst, at) - at
+}
+
+// Most values have 8 to 16 bytes, and no '&': two words, of which the second may lie over the first.
+fn decode_all(raw: &[u8], dst: &mut [u8], at: usize) -> usize
+    requires { ⌜ at + length (now raw) ≤ length (now dst) ⌝ }
+    ensures { λ r. ⌜ RestInto (now (raw .entry)) (now (dst .entry)) at (at + r) (now (dst .exit)) ⌝ }
+{
+    let n = raw.len();
+    if n < 8 {
+        return decode_short(raw, dst, at);
+    }
+    if n <= 16 {
+        let last = n - 8;
+        if lack_words(raw, 0, last, b'&') {
+            copy_word(raw, 0, dst, at);
+            copy_word(raw, last, dst, at + last);
+            return n;
+        }
+    }
+    decode_long(raw, dst, at)
+}
+
+// Writes `len` bytes of the document from `from` on, entities decoded, into `dst` at `at`, where there is room for them
+// raw: how many bytes are written.
+pub fn decode_room(doc: &[u8], from: usize, len: usize, dst: &mut [u8], at: usize) -> usize
+    requires { ⌜ at + len ≤ length (now dst) ⌝ }
+    ensures { λ r. ⌜ (r ≡ length (decoded (piece (now (doc .entry)) from len))) × (now (dst .exit) ≡ sets (now (dst .entry)) at (decoded (piece (now (doc .entry)) from len))) ⌝ }
+{
+    decode_all(texts::part(doc, from, len), dst, at)
+}
+
+// The same wherever it is to be written. Room is asked for the raw bytes.
 pub fn decode(doc: &[u8], from: usize, len: usize, dst: &mut [u8], at: usize) -> Decoded
     ensures { λ r. ⌜ DecodedInto (piece (now (doc .entry)) from len) (now (dst .entry)) at r (now (dst .exit)) ⌝ }
 {
-    decode_words(texts::part(doc, from, len), dst, at)
+    if dst.len() < at {
+        return Decoded::NoRoom;
+    }
+    let raw = texts::part(doc, from, len);
+    let n = raw.len();
+    if dst.len() - at < n {
+        return Decoded::NoRoom;
+    }
+    Decoded::Written(decode_all(raw, dst, at))
 }

@@ -1,22 +1,41 @@
+use Rattle.saxlite.proofs.Copying.{plain}
 use Rattle.saxlite.proofs.Laws.{laws}
 use Rattle.saxlite.proofs.entities.decode.Statement.{statement}
 use Rattle.saxlite.proofs.entities.decode.Tie as tie
 use Rattle.saxlite.proofs.entities.decode.Reads as reads
 use Rattle.saxlite.proofs.entities.decode.Lts as lts
-use Rattle.saxlite.proofs.entities.decode_words.Reads as decode-words-reads
+use Rattle.saxlite.proofs.entities.decode_all.Reads as decode-all-reads
 use Rattle.texts.proofs.part.Reads as part-reads
 
-part-requires : tie.Need-part-requires
-part-requires c κs = search laws
-
-decode-words-requires : tie.Need-decode-words-requires
-decode-words-requires c κs = search laws
-
-same-length : tie.Need-same-length
-same-length c = search laws
-
+-- src/entities.rt:165:9
 returns : tie.Need-returns
-returns c = search laws
+returns c = search (laws, plain)
+
+-- src/entities.rt:167:9
+part-requires : tie.Need-part-requires
+part-requires c κs = search (laws, plain)
+
+-- src/entities.rt:169:8
+sub-if2 : tie.Need-sub-if2
+sub-if2 c = search (laws, plain)
+
+-- src/entities.rt:170:9
+returns-2 : tie.Need-returns-2
+returns-2 c = search (laws, plain)
+
+-- src/entities.rt:172:22
+decode-all-requires : tie.Need-decode-all-requires
+decode-all-requires c κs = search (laws, plain)
+
+-- src/entities.rt:161:1
+same-length : tie.Need-same-length
+same-length c = search (laws, plain)
+
+-- src/entities.rt:161:1
+returns-3 : tie.Need-returns-3
+returns-3 c = search (laws, plain)
 
 pub decode-spec : {M : Type 1} → statement M
-decode-spec = tie.close (tie.spec part-requires decode-words-requires same-length returns)
+decode-spec =
+    tie.close
+    (tie.spec returns part-requires sub-if2 returns-2 decode-all-requires same-length returns-3)
