@@ -16,10 +16,7 @@ use Rattle.texts.specs.declared.Range.{Range}
 use Rattle.texts.proofs.Stores.{piece-stored, piece-below, take-sets}
 use Rattle.refusals.specs.declared.Refusal.{Refusal}
 use Rattle.refusals.specs.declared.Refusal.the-variants.{WrongClose}
-use Rattle.saxlite.specs.Entities.{decoded, DecodedInto}
-use Rattle.saxlite.specs.declared.entities.Decoded.{Decoded}
-use Rattle.saxlite.specs.declared.entities.Decoded.the-variants.{Written, NoRoom}
-use Rattle.saxlite.proofs.Decoding.{decoded-length}
+use Rattle.saxlite.specs.Entities.{decoded}
 use Rattle.xmlschema.specs.Schema.{Item, Schema, noItem, itemAt, under, last, positionsFrom, aValue}
 use Rattle.xmlschema.specs.Search.{lastUnder}
 use Rattle.xmlschema.specs.Builder.{Builder, Outcome, on, refused, withStack, withText, withSchema, withItems, withSecond, givenTo, valueOfEnum, closeValue, closeBy, closed, collect, top, rest, nowComposite, nowEnum, nowMessage, nowGroup}
@@ -40,7 +37,7 @@ use Rattle.xmlschema.proofs.Alikes.{alike-self, alike-sets, alike-trans
 use Rattle.xmlschema.proofs.Stacking.{stack-put, pop-kept, pop-builder}
 use Rattle.xmlschema.proofs.Adding.{after-as, after-refused}
 use Rattle.xmlschema.proofs.Opening.{current-zero, current-some}
-use Rattle.xmlschema.proofs.Takes.{stored, written, never, length-piece-le}
+use Rattle.xmlschema.proofs.Takes.{decoded-most}
 
 -- ---- a value given
 
@@ -247,16 +244,6 @@ module _ (place name len : ℕ) (s : State) (doc rec text : List ℕ) {b : Bool}
 
 -- ---- text
 
-module _ (doc text : List ℕ) (from len at : ℕ) {d : Decoded} {text′ : List ℕ} (p : DecodedInto (piece doc from len) text at d text′) (h : at + len ≤ length text) where
-  pub decoded-count : {n : ℕ} → d ≡ Written n → n ≡ length (decoded (piece doc from len))
-  decoded-count e = written _ (stored doc from len text at text′ p h .told) e
-
-  pub decoded-never : d ≡ NoRoom → 0 ≡ length (decoded (piece doc from len))
-  decoded-never e = absurd (never _ (stored doc from len text at text′ p h .told) e)
-
-  pub decoded-sets : text′ ≡ sets text at (decoded (piece doc from len))
-  decoded-sets = stored doc from len text at text′ p h .is
-
 collect-on : (w : List ℕ) (b : Builder) → b .collecting ≡ true → withText true (b .collected ++ w) b ≡ collect w b
 unfolding collect
 collect-on w b t = rw t
@@ -274,7 +261,7 @@ module _ (s : State) (doc rec text : List ℕ) (from len : ℕ) (r : Ready s len
 
   module _ {n : ℕ} {t : List ℕ} (en : n ≡ length (decoded (piece doc from len))) (et : t ≡ sets text (s .place .low) (decoded (piece doc from len))) where
     short : n ≤ len
-    short = omega (arith, decoded-length (piece doc from len), length-piece-le doc from len)
+    short = omega (arith, decoded-most doc from len)
 
     pub text-fits : Fits w64 (s .place .low + n)
     text-fits = omega (arith, short, r .room, r .kept .top)

@@ -15,15 +15,13 @@ use Rattle.texts.proofs.Choosing.{by-test, both-true}
 use Rattle.texts.proofs.Scanning.{count-yes}
 use Rattle.texts.specs.Text.{piece}
 use Rattle.texts.proofs.Stores.{piece-stored, piece-above}
-use Rattle.saxlite.specs.declared.entities.Decoded.{Decoded}
-use Rattle.saxlite.specs.declared.entities.Decoded.the-variants.{Written, NoRoom}
 use Rattle.saxlite.specs.declared.tag.Found.{Found}
 use Rattle.saxlite.specs.declared.tag.Found.the-variants.{Value, Absent}
 use Rattle.saxlite.specs.declared.tag.Noted.{Noted}
-use Rattle.saxlite.specs.Entities.{decoded, DecodedInto}
+use Rattle.saxlite.specs.Entities.{decoded}
 use Rattle.saxlite.specs.Attributes.{rawLength}
 use Rattle.saxlite.specs.Event.{valueIn}
-use Rattle.saxlite.proofs.Decoding.{decoded-fits, decoded-length}
+use Rattle.saxlite.proofs.Decoding.{decoded-length}
 use Rattle.saxlite.proofs.Copying.{plain-decoded}
 use Rattle.xmlschema.specs.Builder.{orEmpty, isGiven, plainItem}
 use Rattle.xmlschema.specs.Store.{itemOf}
@@ -36,59 +34,40 @@ use Rattle.numbers.specs.declared.Number.the-variants as number
 use Rattle.xmlschema.specs.declared.take.Taken.{Taken}
 use Rattle.xmlschema.proofs.Alikes.{alike-self, alike-sets, alike-wider, alike-lower, alike-trans}
 
-pub length-piece-le : (s : List ℕ) (a n : ℕ) → length (piece s a n) ≤ n
+length-piece-le : (s : List ℕ) (a n : ℕ) → length (piece s a n) ≤ n
 length-piece-le s a n = rw length-take (omega arith)
 
--- what decoding a piece into a place with room for it leaves
-pub record Stored (doc : List ℕ) (from len : ℕ) (text : List ℕ) (at : ℕ) (d : Decoded) (text′ : List ℕ) : Type 0 where
-  pub told : d ≡ Written (length (decoded (piece doc from len)))
-  pub is : text′ ≡ sets text at (decoded (piece doc from len))
-  pub most : length (decoded (piece doc from len)) ≤ len
-
-pub stored : (doc : List ℕ) (from len : ℕ) (text : List ℕ) (at : ℕ) {d : Decoded} (text′ : List ℕ) → DecodedInto (piece doc from len) text at d text′ → at + len ≤ length text → Stored doc from len text at d text′
-stored doc from len text at text′ p h =
-    let l = length-piece-le doc from len in
-    let f = decoded-fits (piece doc from len) text text′ at p (omega arith) in
-    record { told = f .0; is = f .1; most = omega (arith, decoded-length (piece doc from len)) }
-
-pub written : {d : Decoded} {n : ℕ} (m : ℕ) → d ≡ Written m → d ≡ Written n → n ≡ m
-written m e f = cc
-
-pub never : {d : Decoded} (m : ℕ) → d ≡ Written m → d ≡ NoRoom → ⊥
-never m e f = let z : _≡_ {A = ℕ} 0 1 = cc in omega arith
+-- what is decoded is no longer than its piece
+pub decoded-most : (doc : List ℕ) (from len : ℕ) → length (decoded (piece doc from len)) ≤ len
+decoded-most doc from len = omega (arith, decoded-length (piece doc from len), length-piece-le doc from len)
 
 -- ---- a value
 
 pub value-least : (high : ℕ) {f : Found} {from : ℕ} (len : ℕ) → f ≡ Value from len → rawLength f ≤ high → len ≤ high
 value-least high len e h = rw e at h
 
+pub value-room : (text : List ℕ) (high : ℕ) {f : Found} {from : ℕ} (len : ℕ) → f ≡ Value from len → rawLength f ≤ high → high ≤ length text → high - len + len ≤ length text
+value-room text high len e h k = omega (arith, value-least high len e h)
+
 module _ (doc text : List ℕ) (high : ℕ) {f : Found} where
   pub taken-absent : f ≡ Absent → TakenAt f doc text high (record { from = high; len = 0 }) text
   taken-absent e = rw e (record { start = omega arith; is = refl; within = omega arith; alike = λ a h. alike-self; long = refl })
 
-  module _ {from len : ℕ} (e : f ≡ Value from len) {d : Decoded} {text′ : List ℕ} (p : DecodedInto (piece doc from len) text (high - len) d text′) (h : rawLength f ≤ high) (k : high ≤ length text) where
-    least : len ≤ high
-    least = rw e at h
-
-    into : Stored doc from len text (high - len) d text′
-    into = stored doc from len text (high - len) text′ p (omega (arith, least))
-
-    pub taken-value : {n : ℕ} → d ≡ Written n → TakenAt f doc text high (record { from = high - len; len = n }) text′
-    taken-value {n} g =
+  -- n bytes are written
+  module _ {from len : ℕ} (e : f ≡ Value from len) {n : ℕ} {text′ : List ℕ} (q : n ≡ length (decoded (piece doc from len))) (p : text′ ≡ sets text (high - len) (decoded (piece doc from len))) where
+    pub taken-value : rawLength f ≤ high → high ≤ length text → TakenAt f doc text high (record { from = high - len; len = n }) text′
+    taken-value h k =
         let w = decoded (piece doc from len) in
-        let q : n ≡ length w = written (length w) (into .told) g in
-        let z : length w ≤ len = into .most in
-        rw (e, into .is)
+        let least : len ≤ high = rw e at h in
+        let z = decoded-most doc from len in
+        rw (e, p)
         (record {
           start = omega (arith, least);
           is = rw q (piece-stored w text (high - len) (length w) refl (omega (arith, least)));
-          within = omega arith;
+          within = omega (arith, q);
           alike = λ a b. alike-sets text w a high (high - len) b (omega (arith, least));
           long = length-sets text (high - len) w;
         })
-
-    pub taken-none : d ≡ NoRoom → TakenAt f doc text high (record { from = high - len; len = 0 }) text′
-    taken-none g = absurd (never (length (decoded (piece doc from len))) (into .told) g)
 
 -- ---- a number
 
@@ -104,27 +83,20 @@ module _ (doc text : List ℕ) (low : ℕ) {f : Found} where
     pub number-at : {r : Number} {text′ : List ℕ} → ReadAt (Value from len) doc low text r text′ → ReadAt f doc low text r text′
     number-at q = rw e q
 
-module _ (doc text : List ℕ) (low : ℕ) {from len : ℕ} {d : Decoded} {text′ : List ℕ} (p : DecodedInto (piece doc from len) text low d text′) (fits : low + len ≤ length text) where
-  within : Stored doc from len text low d text′
-  within = stored doc from len text low text′ p fits
-
-  pub number-value : {n : ℕ} → d ≡ Written n → {w : List ℕ} → w ≡ piece text′ low n → {r : Number} → r ≡ parsed (numberOf (some w)) → ReadAt (Value from len) doc low text r text′
-  number-value {n} g {w} ew er =
+module _ (doc text : List ℕ) (low : ℕ) {from len n : ℕ} {text′ : List ℕ} (q : n ≡ length (decoded (piece doc from len))) (p : text′ ≡ sets text low (decoded (piece doc from len))) (fits : low + len ≤ length text) where
+  pub number-value : {w : List ℕ} → w ≡ piece text′ low n → {r : Number} → r ≡ parsed (numberOf (some w)) → ReadAt (Value from len) doc low text r text′
+  number-value ew er =
       let v = decoded (piece doc from len) in
-      let q : n ≡ length v = written (length v) (within .told) g in
-      let z : length v ≤ len = within .most in
-      let s : piece text′ low n ≡ v = rw (within .is, q) (piece-stored v text low (length v) refl (omega (arith, fits))) in
+      let z = decoded-most doc from len in
+      let s : piece text′ low n ≡ v = rw (p, q) (piece-stored v text low (length v) refl (omega (arith, fits))) in
       record {
         is = er ∙ ap (λ x. parsed (numberOf (some x))) (ew ∙ s);
         scratch =
             record {
-              alike = λ a b. rw (within .is) (alike-sets text v low a low (omega arith) (omega arith));
-              long = rw (within .is) (length-sets text low v);
+              alike = λ a b. rw p (alike-sets text v low a low (omega arith) (omega arith));
+              long = rw p (length-sets text low v);
             };
       }
-
-  pub number-none : d ≡ NoRoom → ReadAt (Value from len) doc low text number.Bad text′
-  number-none g = absurd (never (length (decoded (piece doc from len))) (within .told) g)
 
 -- bytes that are a number as they stand hold no '&'
 digit-plain : (s : List ℕ) → allDigits s ≡ true → countWhile (until (is 38)) s ≡ length s

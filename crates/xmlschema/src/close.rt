@@ -15,8 +15,7 @@ use crate::state::Verdict;
 use elements::Element;
 use elements::element_at;
 use refusals::Refusal;
-use saxlite::entities::Decoded;
-use saxlite::entities::decode;
+use saxlite::entities::decode_room;
 use texts::Range;
 use texts::trim_range;
 ghost use mathlib.Core.Path.{_≡_};
@@ -215,8 +214,5 @@ fn decoded_len(doc: &[u8], from: usize, len: usize, text: &mut [u8], at: usize) 
     requires { ⌜ at + len ≤ length (now text) ⌝ }
     ensures { λ r. ⌜ (r ≡ length (decoded (piece (now (doc .entry)) from len))) × (now (text .exit) ≡ sets (now (text .entry)) at (decoded (piece (now (doc .entry)) from len))) ⌝ }
 {
-    match decode(doc, from, len, text, at) {
-        Decoded::Written(n) => n,
-        Decoded::NoRoom => 0,
-    }
+    decode_room(doc, from, len, text, at)
 }

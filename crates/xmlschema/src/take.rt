@@ -2,8 +2,7 @@
 use crate::items::Entry;
 use numbers::Number;
 use numbers::number_of;
-use saxlite::entities::Decoded;
-use saxlite::entities::decode;
+use saxlite::entities::decode_room;
 use saxlite::tag::Found;
 use saxlite::tag::Noted;
 use saxlite::tag::Notes;
@@ -73,9 +72,9 @@ pub fn take_value(doc: &[u8], found: Found, text: &mut [u8], high: usize) -> Tak
         Found::Absent => Taken { from: high, len: 0 },
         Found::Value { from, len } => {
             let at = high - len;
-            match decode(doc, from, len, text, at) {
-                Decoded::Written(n) => Taken { from: at, len: n },
-                Decoded::NoRoom => Taken { from: at, len: 0 },
+            Taken {
+                from: at,
+                len: decode_room(doc, from, len, text, at),
             }
         }
     }
@@ -86,10 +85,8 @@ fn decoded_number(doc: &[u8], from: usize, len: usize, text: &mut [u8], low: usi
     requires { ⌜ low + len ≤ length (now text) ⌝ }
     ensures { λ r. ⌜ ReadAt (Value from len) (now (doc .entry)) low (now (text .entry)) r (now (text .exit)) ⌝ }
 {
-    match decode(doc, from, len, text, low) {
-        Decoded::Written(n) => number_of(part(text, low, n)),
-        Decoded::NoRoom => Number::Bad,
-    }
+    let n = decode_room(doc, from, len, text, low);
+    number_of(part(text, low, n))
 }
 
 // The value that was found as a number. What is one as it stands has nothing to decode.
