@@ -6,3 +6,4 @@ pub mod Cutting
 pub mod Entering
 pub mod Trials
 pub mod Laws
+pub mod Storing

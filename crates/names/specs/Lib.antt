@@ -3,3 +3,4 @@ pub mod Letters
 pub mod Conversions
 pub mod Entry
 pub mod Prefix
+pub mod Room

@@ -1,8 +1,7 @@
 // The conversions as printing steps: each prints its text from a position on (crate `printing`).
 //
 // The table of classes is made once for each name and lent to each position's step: made anew at each look-up,
-// it took nine tenths of the time. A loop that only counts, and one that writes without a test for room, would save
-// a quarter of what is left, and are not worth their proofs.
+// it took nine tenths of the time. Where a name surely fits, it is stored by a loop without a test for room.
 use classes::is_lower_in;
 use classes::is_upper_in;
 use classes::table;
@@ -13,11 +12,14 @@ use texts::byte_at;
 use texts::part;
 ghost use mathlib.Core.Path.{_≡_};
 ghost use mathlib.Core.List.{[], _∷_};
-ghost use Prim.Native.Nat.{_<_};
+ghost use Prim.Native.Nat.{_+_, _*_, _<_, _≤_};
 ghost use lib.ListN.{length};
+ghost use Rattle.texts.specs.Choice.{pick};
+ghost use Rattle.texts.specs.Text.{ascii};
 ghost use Rattle.classes.specs.Table.{IsTable};
 ghost use Rattle.printing.specs.Printed.{Printed};
 ghost use Rattle.names.specs.Letters.{lowered, raised};
+ghost use Rattle.names.specs.Room.{Ample, Roomy};
 ghost use Rattle.names.specs.Conversions.{breaksSnake, snakeAt, camelToSnake, breaksScreaming, screamingAt, camelToScreamingSnake, follows, camelAt, snakeToCamel, pascalAt, screamingSnakeToPascal, endsWith, endsInIes, endsInS, capitalized, singularPascal};
 
 pub fn lower_in(t: &[u8; 256], b: u8) -> u8
@@ -32,6 +34,16 @@ pub fn raise_in(t: &[u8; 256], b: u8) -> u8
     ensures { λ r. ⌜ r ≡ raised b ⌝ }
 {
     if is_lower_in(t, b) { b - 32 } else { b }
+}
+
+// Whether a name of `n` bytes fits into `room` from `at` on even with an underscore before each byte.
+fn surely_fits(room: usize, at: usize, n: usize) -> bool
+    ensures { λ r. ⌜ Roomy r room at n ⌝ }
+{
+    if at < room {
+        return n <= (room - at) / 2;
+    }
+    false
 }
 
 // ---- Snake
@@ -60,10 +72,53 @@ fn put_snake_at(out: &mut [u8], at: usize, t: &[u8; 256], name: &[u8], i: usize)
     put_byte(out, p, lower_in(t, byte_at(name, i)))
 }
 
+// An underscore at `at`, where `on` says so.
+fn store_break(out: &mut [u8], at: usize, on: bool) -> usize
+    requires { ⌜ Ample (now out) at ⌝ }
+    ensures { λ r. ⌜ Printed (now (out .entry)) at (now (out .exit)) r (pick on (ascii "_") []) ⌝ }
+{
+    if on {
+        out[at] = b'_';
+        return at + 1;
+    }
+    at
+}
+
+// Position `i` of a name, stored `d` bytes on; `d` grows by one with each underscore.
+fn store_snake_at(out: &mut [u8], d: usize, t: &[u8; 256], name: &[u8], i: usize) -> usize
+    requires { ⌜ IsTable (now t) × (i < length (now name)) × Ample (now out) (d + i) ⌝ }
+    ensures { λ r. ⌜ Printed (now (out .entry)) (d + i) (now (out .exit)) (r + (i + 1)) (snakeAt (now (name .entry)) i) ⌝ }
+{
+    let b = name[i];
+    if is_upper_in(t, b) {
+        let p = store_break(out, d + i, breaks_snake(t, name, i));
+        out[p] = b + 32;
+        return p - i;
+    }
+    out[d + i] = b;
+    d
+}
+
+fn store_snake(out: &mut [u8], at: usize, t: &[u8; 256], name: &[u8]) -> usize
+    requires { ⌜ IsTable (now t) × (at + 2 * length (now name) ≤ length (now out)) ⌝ }
+    ensures { λ r. ⌜ Printed (now (out .entry)) at (now (out .exit)) r (camelToSnake (now (name .entry))) ⌝ }
+{
+    let mut d = at;
+    let mut i = 0;
+    while i < name.len() {
+        d = store_snake_at(out, d, t, name, i);
+        i += 1;
+    }
+    d + i
+}
+
 pub fn put_snake(out: &mut [u8], at: usize, name: &[u8]) -> usize
     ensures { λ r. ⌜ Printed (now (out .entry)) at (now (out .exit)) r (camelToSnake (now (name .entry))) ⌝ }
 {
     let t = table();
+    if surely_fits(out.len(), at, name.len()) {
+        return store_snake(out, at, &t, name);
+    }
     let mut p = at;
     let mut i = 0;
     while i < name.len() {
@@ -96,10 +151,40 @@ fn put_screaming_at(out: &mut [u8], at: usize, t: &[u8; 256], name: &[u8], i: us
     put_byte(out, p, raise_in(t, byte_at(name, i)))
 }
 
+fn store_screaming_at(out: &mut [u8], d: usize, t: &[u8; 256], name: &[u8], i: usize) -> usize
+    requires { ⌜ IsTable (now t) × (i < length (now name)) × Ample (now out) (d + i) ⌝ }
+    ensures { λ r. ⌜ Printed (now (out .entry)) (d + i) (now (out .exit)) (r + (i + 1)) (screamingAt (now (name .entry)) i) ⌝ }
+{
+    let b = name[i];
+    if is_lower_in(t, b) {
+        out[d + i] = b - 32;
+        return d;
+    }
+    let p = store_break(out, d + i, breaks_screaming(t, name, i));
+    out[p] = b;
+    p - i
+}
+
+fn store_screaming(out: &mut [u8], at: usize, t: &[u8; 256], name: &[u8]) -> usize
+    requires { ⌜ IsTable (now t) × (at + 2 * length (now name) ≤ length (now out)) ⌝ }
+    ensures { λ r. ⌜ Printed (now (out .entry)) at (now (out .exit)) r (camelToScreamingSnake (now (name .entry))) ⌝ }
+{
+    let mut d = at;
+    let mut i = 0;
+    while i < name.len() {
+        d = store_screaming_at(out, d, t, name, i);
+        i += 1;
+    }
+    d + i
+}
+
 pub fn put_screaming(out: &mut [u8], at: usize, name: &[u8]) -> usize
     ensures { λ r. ⌜ Printed (now (out .entry)) at (now (out .exit)) r (camelToScreamingSnake (now (name .entry))) ⌝ }
 {
     let t = table();
+    if surely_fits(out.len(), at, name.len()) {
+        return store_screaming(out, at, &t, name);
+    }
     let mut p = at;
     let mut i = 0;
     while i < name.len() {

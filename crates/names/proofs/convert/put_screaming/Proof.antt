@@ -3,12 +3,15 @@ use lib.ListN.{length}
 use Rattle.printing.proofs.Repeating.{Repeating}
 use Rattle.names.specs.Conversions.{screamingAt}
 use Rattle.names.proofs.Laws.{laws}
+use Rattle.names.proofs.Storing.{storing}
 use Rattle.names.proofs.convert.put_screaming.Statement.{statement}
 use Rattle.names.proofs.convert.put_screaming.Tie as tie
 use Rattle.names.proofs.convert.put_screaming.Reads as reads
 use Rattle.names.proofs.convert.put_screaming.Lts as lts
 use Rattle.classes.proofs.table.Reads as table-reads
 use Rattle.names.proofs.convert.put_screaming_at.Reads as put-screaming-at-reads
+use Rattle.names.proofs.convert.store_screaming.Reads as store-screaming-reads
+use Rattle.names.proofs.convert.surely_fits.Reads as surely-fits-reads
 
 abbrev Inv-loop : tie.InvT-loop
 Inv-loop out₀ at name t p₀ i₀ out p i = Repeating (screamingAt name) (length name) out₀ at out p i
@@ -16,37 +19,53 @@ Inv-loop out₀ at name t p₀ i₀ out p i = Repeating (screamingAt name) (leng
 abbrev μ-loop : tie.MeasureT-loop
 μ-loop out₀ at name t p₀ i₀ out p i = length name - i
 
--- src/convert.rt:108:13
+-- src/convert.rt:184:13
 table-requires : tie.Need-table-requires Inv-loop μ-loop
 table-requires c κs = search laws
 
--- src/convert.rt:111:5
-loop-holds : tie.Need-loop-holds Inv-loop μ-loop
-loop-holds c = search laws
+-- src/convert.rt:185:8
+surely-fits-requires : tie.Need-surely-fits-requires Inv-loop μ-loop
+surely-fits-requires c κs = search laws
 
--- src/convert.rt:112:9
-put-screaming-at-requires : tie.Need-put-screaming-at-requires Inv-loop μ-loop
-put-screaming-at-requires c κs = search laws
+-- src/convert.rt:186:9
+store-screaming-requires : tie.Need-store-screaming-requires Inv-loop μ-loop
+store-screaming-requires c κs = search storing
 
--- src/convert.rt:113:9
-add-i : tie.Need-add-i Inv-loop μ-loop
-add-i c = search laws
-
--- src/convert.rt:111:5
-loop-less : tie.Need-loop-less Inv-loop μ-loop
-loop-less c = search laws
-
--- src/convert.rt:111:5
-loop-again : tie.Need-loop-again Inv-loop μ-loop
-loop-again c = search laws
-
--- src/convert.rt:105:1
+-- src/convert.rt:186:9
 same-length : tie.Need-same-length Inv-loop μ-loop
 same-length c = search laws
 
--- src/convert.rt:105:1
+-- src/convert.rt:186:9
 returns : tie.Need-returns Inv-loop μ-loop
 returns c = search laws
+
+-- src/convert.rt:190:5
+loop-holds : tie.Need-loop-holds Inv-loop μ-loop
+loop-holds c = search laws
+
+-- src/convert.rt:191:9
+put-screaming-at-requires : tie.Need-put-screaming-at-requires Inv-loop μ-loop
+put-screaming-at-requires c κs = search laws
+
+-- src/convert.rt:192:9
+add-i : tie.Need-add-i Inv-loop μ-loop
+add-i c = search laws
+
+-- src/convert.rt:190:5
+loop-less : tie.Need-loop-less Inv-loop μ-loop
+loop-less c = search laws
+
+-- src/convert.rt:190:5
+loop-again : tie.Need-loop-again Inv-loop μ-loop
+loop-again c = search laws
+
+-- src/convert.rt:181:1
+same-length-2 : tie.Need-same-length-2 Inv-loop μ-loop
+same-length-2 c = search laws
+
+-- src/convert.rt:181:1
+returns-2 : tie.Need-returns-2 Inv-loop μ-loop
+returns-2 c = search laws
 
 pub put-screaming-spec : {M : Type 1} → statement M
 put-screaming-spec =
@@ -55,10 +74,14 @@ put-screaming-spec =
     Inv-loop
     μ-loop
     table-requires
+    surely-fits-requires
+    store-screaming-requires
+    same-length
+    returns
     loop-holds
     put-screaming-at-requires
     add-i
     loop-less
     loop-again
-    same-length
-    returns)
+    same-length-2
+    returns-2)

@@ -3,12 +3,15 @@ use lib.ListN.{length}
 use Rattle.printing.proofs.Repeating.{Repeating}
 use Rattle.names.specs.Conversions.{snakeAt}
 use Rattle.names.proofs.Laws.{laws}
+use Rattle.names.proofs.Storing.{storing}
 use Rattle.names.proofs.convert.put_snake.Statement.{statement}
 use Rattle.names.proofs.convert.put_snake.Tie as tie
 use Rattle.names.proofs.convert.put_snake.Reads as reads
 use Rattle.names.proofs.convert.put_snake.Lts as lts
 use Rattle.classes.proofs.table.Reads as table-reads
 use Rattle.names.proofs.convert.put_snake_at.Reads as put-snake-at-reads
+use Rattle.names.proofs.convert.store_snake.Reads as store-snake-reads
+use Rattle.names.proofs.convert.surely_fits.Reads as surely-fits-reads
 
 abbrev Inv-loop : tie.InvT-loop
 Inv-loop out₀ at name t p₀ i₀ out p i = Repeating (snakeAt name) (length name) out₀ at out p i
@@ -16,37 +19,53 @@ Inv-loop out₀ at name t p₀ i₀ out p i = Repeating (snakeAt name) (length n
 abbrev μ-loop : tie.MeasureT-loop
 μ-loop out₀ at name t p₀ i₀ out p i = length name - i
 
--- src/convert.rt:72:13
+-- src/convert.rt:118:13
 table-requires : tie.Need-table-requires Inv-loop μ-loop
 table-requires c κs = search laws
 
--- src/convert.rt:75:5
-loop-holds : tie.Need-loop-holds Inv-loop μ-loop
-loop-holds c = search laws
+-- src/convert.rt:119:8
+surely-fits-requires : tie.Need-surely-fits-requires Inv-loop μ-loop
+surely-fits-requires c κs = search laws
 
--- src/convert.rt:76:9
-put-snake-at-requires : tie.Need-put-snake-at-requires Inv-loop μ-loop
-put-snake-at-requires c κs = search laws
+-- src/convert.rt:120:9
+store-snake-requires : tie.Need-store-snake-requires Inv-loop μ-loop
+store-snake-requires c κs = search storing
 
--- src/convert.rt:77:9
-add-i : tie.Need-add-i Inv-loop μ-loop
-add-i c = search laws
-
--- src/convert.rt:75:5
-loop-less : tie.Need-loop-less Inv-loop μ-loop
-loop-less c = search laws
-
--- src/convert.rt:75:5
-loop-again : tie.Need-loop-again Inv-loop μ-loop
-loop-again c = search laws
-
--- src/convert.rt:69:1
+-- src/convert.rt:120:9
 same-length : tie.Need-same-length Inv-loop μ-loop
 same-length c = search laws
 
--- src/convert.rt:69:1
+-- src/convert.rt:120:9
 returns : tie.Need-returns Inv-loop μ-loop
 returns c = search laws
+
+-- src/convert.rt:124:5
+loop-holds : tie.Need-loop-holds Inv-loop μ-loop
+loop-holds c = search laws
+
+-- src/convert.rt:125:9
+put-snake-at-requires : tie.Need-put-snake-at-requires Inv-loop μ-loop
+put-snake-at-requires c κs = search laws
+
+-- src/convert.rt:126:9
+add-i : tie.Need-add-i Inv-loop μ-loop
+add-i c = search laws
+
+-- src/convert.rt:124:5
+loop-less : tie.Need-loop-less Inv-loop μ-loop
+loop-less c = search laws
+
+-- src/convert.rt:124:5
+loop-again : tie.Need-loop-again Inv-loop μ-loop
+loop-again c = search laws
+
+-- src/convert.rt:115:1
+same-length-2 : tie.Need-same-length-2 Inv-loop μ-loop
+same-length-2 c = search laws
+
+-- src/convert.rt:115:1
+returns-2 : tie.Need-returns-2 Inv-loop μ-loop
+returns-2 c = search laws
 
 pub put-snake-spec : {M : Type 1} → statement M
 put-snake-spec =
@@ -55,10 +74,14 @@ put-snake-spec =
     Inv-loop
     μ-loop
     table-requires
+    surely-fits-requires
+    store-snake-requires
+    same-length
+    returns
     loop-holds
     put-snake-at-requires
     add-i
     loop-less
     loop-again
-    same-length
-    returns)
+    same-length-2
+    returns-2)
