@@ -15,6 +15,7 @@ use xmlschema::items::MESSAGE;
 use xmlschema::items::Model;
 use xmlschema::items::Position;
 use xmlschema::items::count;
+use xmlschema::items::item;
 use xmlschema::items::next_of;
 ghost use mathlib.Core.Path.{_≡_};
 ghost use mathlib.Core.Bool.{false};
@@ -197,6 +198,17 @@ fn first_message(m: Model, rec: &[u32], text: &[u8], ix: &[u16]) -> Position
 
 // ---- both
 
+// The same of any item. Few have a length, and the others are told by one word.
+fn is_item_array(m: Model, rec: &[u32], text: &[u8], i: u32) -> bool
+    ensures { λ r. ⌜ r ≡ isArray (formOf (itemAt (schemaOf m (now (rec .entry)) (now (text .entry))) i)) ⌝ }
+{
+    let e = item(m, rec, i);
+    if e.given == 1 {
+        return is_member_array(m, rec, text, i);
+    }
+    false
+}
+
 // Whether any item has the form of such an array. Few schemas have one, and without one nothing is refused.
 fn has_arrays(m: Model, rec: &[u32], text: &[u8]) -> bool
     ensures { λ r. ⌜ (r ≡ false → Arrayless (schemaOf m (now (rec .entry)) (now (text .entry)))) ⌝ }
@@ -204,7 +216,7 @@ fn has_arrays(m: Model, rec: &[u32], text: &[u8]) -> bool
     let n = count(m, rec, text);
     let mut i = 0;
     while i < n {
-        if is_member_array(m, rec, text, i) {
+        if is_item_array(m, rec, text, i) {
             return true;
         }
         i += 1;

@@ -9,7 +9,7 @@ use Rattle.xmltoproto.proofs.arrays.has_arrays.Tie as tie
 use Rattle.xmltoproto.proofs.arrays.has_arrays.Reads as reads
 use Rattle.xmltoproto.proofs.arrays.has_arrays.Lts as lts
 use Rattle.xmlschema.proofs.items.count.Reads as count-reads
-use Rattle.xmltoproto.proofs.arrays.is_member_array.Reads as is-member-array-reads
+use Rattle.xmltoproto.proofs.arrays.is_item_array.Reads as is-item-array-reads
 
 abbrev Inv-loop : tie.InvT-loop
 Inv-loop m rec text n i₀ i = Lacking (schemaOf m rec text) i × (n ≡ length (schemaOf m rec text .items))
@@ -26,8 +26,8 @@ loop-holds : tie.Need-loop-holds Inv-loop μ-loop
 loop-holds c = (search laws, search laws)
 
 -- src/arrays.rt:203:12
-is-member-array-requires : tie.Need-is-member-array-requires Inv-loop μ-loop
-is-member-array-requires c κs = search laws
+is-item-array-requires : tie.Need-is-item-array-requires Inv-loop μ-loop
+is-item-array-requires c κs = search laws
 
 -- src/arrays.rt:204:13
 returns : tie.Need-returns Inv-loop μ-loop
@@ -57,7 +57,7 @@ has-arrays-spec =
     μ-loop
     count-requires
     loop-holds
-    is-member-array-requires
+    is-item-array-requires
     returns
     add-i
     loop-less
