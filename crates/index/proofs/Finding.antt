@@ -2,11 +2,9 @@
 use mathlib.Core.Path.{_≡_, refl, sym, ap, _∙_}
 use mathlib.Core.Option.{Option, none, some}
 use mathlib.Core.List.{List}
-use Prim.Native.Nat.{ℕ, _+_, _*_, _-_, _%_, _≤_, _<_}
-use native.Mathlib.Numerals.{add-one}
+use Prim.Native.Nat.{ℕ, _+_, _*_, _-_, _≤_, _<_}
 use native.Mathlib.Omega.{arith}
-use lib.ListN.{length, getD, drop, drop-of-length-le, List·getD-eq-default}
-use lib.Seq.{drop-cons}
+use lib.ListN.{length, getD, List·getD-eq-default}
 use Rattle.xmlschema.specs.Schema.{Schema, itemAt, noItem, nextUnder, lastNamed, aType, aComposite, anEnum}
 use Rattle.xmlschema.proofs.Records.{by-less}
 use Rattle.xmlschema.specs.Store.{itemOf, schemaOf, found}
@@ -17,25 +15,8 @@ use Rattle.xmlschema.specs.declared.items.Position.the-variants.{At, Nothing}
 use Rattle.index.specs.Declarations.{declarationOf, numberOf}
 use Rattle.index.specs.declared.Declaration.{Declaration}
 use Rattle.index.specs.declared.Declaration.the-variants as declaration
-use Rattle.index.specs.Index.{code, hashFrom, hash, HashOf, Indexed}
+use Rattle.index.specs.Index.{code, Indexed}
 use Rattle.ordered.proofs.Reading.{kind-is, owner-is, second-is}
-
--- ---- the hash: what is still to come is unchanged
-
-pub record Hashing (s : List ℕ) (i h g : ℕ) : Type 0 where
-  pub rest : hashFrom h g (drop i s) ≡ hash s
-  pub low : (h < 4294967296) × (g < 4294967296)
-
-pub hashing-start : {s : List ℕ} → Hashing s 0 0 0
-hashing-start = record { rest = refl; low = (omega arith, omega arith) }
-
-pub hashing-on : {s : List ℕ} {i h g : ℕ} → Hashing s i h g → i < length s → {w : ℕ} → (w ≡ getD s i 0) × (w < 256) → Hashing s (i + 1) g ((h * 65 + w) % 4294967296)
-unfolding hashFrom
-hashing-on {s} {i} {h} {g} k l e = record { rest = rw (add-one, e .0) (rw (drop-cons s i 0) at (k .rest)); low = (k .low .1, omega arith) }
-
-pub hashing-end : {s : List ℕ} {i h g : ℕ} → Hashing s i h g → length s ≤ i → HashOf s ((h * 37 + g) % 1021)
-unfolding hashFrom
-hashing-end {s} {i} {h} {g} k l = record { is = rw (drop-of-length-le s l) at (k .rest); low = omega arith }
 
 -- ---- positions
 

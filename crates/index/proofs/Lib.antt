@@ -5,4 +5,5 @@ pub mod Chaining
 pub mod Building
 pub mod Seeking
 pub mod Finding
+pub mod Hashing
 pub mod Laws

@@ -3,13 +3,16 @@
 -- name is declared as. Internal: what is promised to the crates above is the model's own searches (`nextUnder`,
 -- `lastNamed`).
 use mathlib.Core.Path.{_≡_}
-use mathlib.Core.Bool.{Bool}
+use mathlib.Core.Bool.{Bool, true, false}
 use mathlib.Core.List.{List, [], _∷_}
 use mathlib.Core.Option.{Option, none, some}
-use Prim.Native.Nat.{ℕ, zero, suc, _+_, _*_, _%_, _≤_, _<_}
-use lib.Dec.{T, eqb}
+use Prim.Native.Nat.{ℕ, zero, suc, _+_, _-_, _*_, _/_, _%_, _≤_, _<_}
+use lib.Bits.{bitXor}
+use lib.Dec.{T, eqb, ltb}
 use lib.ListN.{length, getD, take, set}
-use Rattle.texts.specs.Choice.{_and_}
+use Rattle.texts.specs.Choice.{pick, _and_}
+use Rattle.texts.specs.Text.{piece}
+use Rattle.words.specs.Word.{wordOf}
 use Rattle.xmlschema.specs.Schema.{Item, Schema, itemAt, positionsFrom, last, nextUnder, aField}
 use Rattle.ordered.specs.Ordered.{declares}
 use Rattle.index.specs.Declarations.{declarationOf, numberOf}
@@ -31,13 +34,31 @@ pub record Linked (s : Schema) (i : ℕ) (ix : List ℕ) : Type 0 where
 
 -- ---- names: 1,024 heads, then the next of each item that declares
 
--- a short hash of a text: two numbers take its bytes in turn
-unfoldable pub hashFrom : ℕ → ℕ → List ℕ → ℕ
-hashFrom h g [] = (h * 37 + g) % 1021
-hashFrom h g (x ∷ xs) = hashFrom g ((h * 65 + x) % 4294967296) xs
+-- the number of the 4 bytes from i on
+unfoldable pub halfAt : List ℕ → ℕ → ℕ
+halfAt s i = getD s i 0 + getD s (i + 1) 0 * 256 + getD s (i + 2) 0 * 65536 + getD s (i + 3) 0 * 16777216
 
-abbrev pub hash : List ℕ → ℕ
-hash name = hashFrom 0 0 name
+-- a text of less than 8 bytes as one number
+unfoldable pub shortWord : List ℕ → ℕ
+shortWord s = pick (ltb (length s) 4) (pick (eqb (length s) 0) 0 (getD s 0 0 + getD s (length s / 2) 0 * 256 + getD s (length s - 1) 0 * 65536 + length s * 16777216)) (halfAt s 0 + halfAt s (length s - 4) * 4294967296)
+
+unfoldable pub mix : ℕ → ℕ → ℕ
+mix h w = bitXor (h % 1152921504606846976 * 9) w
+
+-- the words of a longer one from i on, k at most, the last of them up to its end
+unfoldable pub wordsFrom : ℕ → ℕ → ℕ → List ℕ → ℕ
+wordsFrom zero h i s = h
+wordsFrom (suc k) h i s = elim (ltb (i + 8) (length s)) [ true ↦ wordsFrom k (mix h (wordOf (piece s i 8))) (i + 8) s | false ↦ mix h (wordOf (piece s (length s - 8) 8)) ]
+
+abbrev pub longWord : List ℕ → ℕ
+longWord s = wordsFrom (length s) (length s) 0 s
+
+unfoldable pub narrowed : ℕ → ℕ
+narrowed w = (w % 4294967296 * 1981491285 + w / 4294967296 * 1113222403) / 1073741824 % 1024
+
+-- a short hash of a text
+unfoldable pub hash : List ℕ → ℕ
+hash s = narrowed (pick (ltb (length s) 8) (shortWord s) (longWord s))
 
 -- b is the hash of a name
 pub record HashOf (name : List ℕ) (b : ℕ) : Type 0 where

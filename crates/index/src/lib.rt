@@ -9,6 +9,7 @@ use ordered::is_declaring;
 use ordered::number_of;
 use ordered::put_ordered;
 use ordered::same_name;
+use words::word_at;
 use xmlschema::items::COMPOSITE;
 use xmlschema::items::ENUM;
 use xmlschema::items::FIELD;
@@ -28,7 +29,7 @@ ghost use lib.ListN.{length, getD, set};
 ghost use Rattle.xmlschema.specs.Schema.{itemAt, nextUnder, aField};
 ghost use Rattle.xmlschema.specs.Store.{schemaOf, found};
 ghost use Rattle.ordered.specs.Ordered.{Ordered};
-ghost use Rattle.index.specs.Index.{code, fronted, HashOf, Chained, Blank, Linking, Naming, Resolving, Indexed};
+ghost use Rattle.index.specs.Index.{code, fronted, halfAt, shortWord, mix, longWord, narrowed, HashOf, Chained, Blank, Linking, Naming, Resolving, Indexed};
 ghost use Rattle.index.specs.Declarations.{declarationOf, numberOf, keptBy};
 ghost use Rattle.index.specs.declared.Declaration.{Declaration};
 
@@ -58,26 +59,69 @@ const STEPS: u32 = 8;
 // In place of a declaration's number: its chain is longer.
 const UNTOLD: u32 = 1026;
 
-fn wide(b: u8) -> usize
+fn wide(b: u8) -> u64
     ensures { λ r. ⌜ (r ≡ b) × (r < 256) ⌝ }
 {
-    b as usize
+    b as u64
 }
 
-// The hash of a name: two numbers take its bytes in turn, so that neither waits for the other.
+// The number of the 4 bytes from `i` on, the first one lowest.
+fn half_at(s: &[u8], i: usize) -> u64
+    requires { ⌜ i + 4 ≤ length (now s) ⌝ }
+    ensures { λ r. ⌜ (r ≡ halfAt (now (s .entry)) i) × (r < 4294967296) ⌝ }
+{
+    wide(s[i]) + wide(s[i + 1]) * 256 + wide(s[i + 2]) * 65536 + wide(s[i + 3]) * 16777216
+}
+
+// A name of less than 8 bytes as one number.
+fn short_word(name: &[u8]) -> u64
+    ensures { λ r. ⌜ r ≡ shortWord (now (name .entry)) ⌝ }
+{
+    let n = name.len();
+    if 4 <= n {
+        return half_at(name, 0) + half_at(name, n - 4) * 4294967296;
+    }
+    if n == 0 {
+        return 0;
+    }
+    wide(name[0]) + wide(name[n / 2]) * 256 + wide(name[n - 1]) * 65536 + (n as u64) * 16777216
+}
+
+fn mixed(h: u64, w: u64) -> u64
+    ensures { λ r. ⌜ r ≡ mix h w ⌝ }
+{
+    (h % 1152921504606846976 * 9) ^ w
+}
+
+// Any other name: its words are mixed, the last of them up to its end.
+fn long_word(name: &[u8]) -> u64
+    requires { ⌜ 8 ≤ length (now name) ⌝ }
+    ensures { λ r. ⌜ r ≡ longWord (now (name .entry)) ⌝ }
+{
+    let n = name.len();
+    let mut h = n as u64;
+    let mut i = 0;
+    while i + 8 < n {
+        h = mixed(h, word_at(name, i));
+        i += 8;
+    }
+    mixed(h, word_at(name, n - 8))
+}
+
+// The middle of a sum of two products: each byte of the word reaches it.
+fn narrow(w: u64) -> usize
+    ensures { λ r. ⌜ (r ≡ narrowed w) × (r < 1024) ⌝ }
+{
+    ((w % 4294967296 * 1981491285 + w / 4294967296 * 1113222403) / 1073741824 % 1024) as usize
+}
+
 fn hash_of(name: &[u8]) -> usize
     ensures { λ r. ⌜ HashOf (now (name .entry)) r ⌝ }
 {
-    let mut h: usize = 0;
-    let mut g: usize = 0;
-    let mut i = 0;
-    while i < name.len() {
-        let next = (h * 65 + wide(name[i])) % 4294967296;
-        h = g;
-        g = next;
-        i += 1;
+    if name.len() < 8 {
+        return narrow(short_word(name));
     }
-    (h * 37 + g) % 1021
+    narrow(long_word(name))
 }
 
 // Item `i` in front of the list whose head stands at `head`.

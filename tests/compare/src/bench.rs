@@ -66,12 +66,22 @@ fn most(before: &str, each: impl Fn(usize) -> String, after: &str, count: usize)
     text + after
 }
 
-/// Names with a common prefix that have one hash in the converter's index (crates/index, `hash_of`).
-fn colliding(prefix: &str, count: usize) -> Vec<String> {
-    let hash = |name: &str| {
-        let (h, g) = name.bytes().fold((0u64, 0u64), |(h, g), x| (g, (h * 65 + u64::from(x)) % (1 << 32)));
-        (h * 37 + g) % 1021
+/// The hash of a name in the converter's index (crates/index, `hash_of`).
+fn hash(name: &str) -> u64 {
+    let (name, n) = (name.as_bytes(), name.len());
+    let at = |i: usize, k: usize| name[i..i + k].iter().rev().fold(0u64, |w, x| w << 8 | u64::from(*x));
+    let mix = |h: u64, w: u64| (h % (1 << 60) * 9) ^ w;
+    let word = match n {
+        0 => 0,
+        1..=3 => at(0, 1) | at(n / 2, 1) << 8 | at(n - 1, 1) << 16 | (n as u64) << 24,
+        4..=7 => at(0, 4) | at(n - 4, 4) << 32,
+        _ => mix((0..n - 8).step_by(8).fold(n as u64, |h, i| mix(h, at(i, 8))), at(n - 8, 8)),
     };
+    (word % (1 << 32) * 1_981_491_285 + (word >> 32) * 1_113_222_403) >> 30 & 1023
+}
+
+/// Names with a common prefix that have one hash.
+fn colliding(prefix: &str, count: usize) -> Vec<String> {
     let letters: Vec<char> = ('a'..='z').chain('A'..='Z').chain('0'..='9').collect();
     let mut names = Vec::new();
     for a in &letters {

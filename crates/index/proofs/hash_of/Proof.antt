@@ -1,77 +1,43 @@
-use Prim.Native.Nat.{_-_}
-use lib.ListN.{length}
-use Rattle.index.proofs.Finding.{Hashing}
 use Rattle.index.proofs.Laws.{laws}
 use Rattle.index.proofs.hash_of.Statement.{statement}
 use Rattle.index.proofs.hash_of.Tie as tie
 use Rattle.index.proofs.hash_of.Reads as reads
 use Rattle.index.proofs.hash_of.Lts as lts
-use Rattle.index.proofs.wide.Reads as wide-reads
+use Rattle.index.proofs.long_word.Reads as long-word-reads
+use Rattle.index.proofs.narrow.Reads as narrow-reads
+use Rattle.index.proofs.short_word.Reads as short-word-reads
 
-abbrev Inv-loop : tie.InvT-loop
-Inv-loop name h₀ g₀ i₀ h g i = Hashing name i h g
+-- src/lib.rt:122:23
+short-word-requires : tie.Need-short-word-requires
+short-word-requires c κs = search laws
 
-abbrev μ-loop : tie.MeasureT-loop
-μ-loop name h₀ g₀ i₀ h g i = length name - i
+-- src/lib.rt:122:9
+narrow-requires : tie.Need-narrow-requires
+narrow-requires c κs = search laws
 
--- src/lib.rt:57:5
-loop-holds : tie.Need-loop-holds Inv-loop μ-loop
-loop-holds c = search laws
-
--- src/lib.rt:58:21
-mul-next : tie.Need-mul-next Inv-loop μ-loop
-mul-next c = search laws
-
--- src/lib.rt:58:35
-shared-slice-read-wide : tie.Need-shared-slice-read-wide Inv-loop μ-loop
-shared-slice-read-wide c = search laws
-
--- src/lib.rt:58:30
-wide-requires : tie.Need-wide-requires Inv-loop μ-loop
-wide-requires c κs = search laws
-
--- src/lib.rt:58:21
-add-next : tie.Need-add-next Inv-loop μ-loop
-add-next c = search laws
-
--- src/lib.rt:61:9
-add-i : tie.Need-add-i Inv-loop μ-loop
-add-i c = search laws
-
--- src/lib.rt:57:5
-loop-less : tie.Need-loop-less Inv-loop μ-loop
-loop-less c = search laws
-
--- src/lib.rt:57:5
-loop-again : tie.Need-loop-again Inv-loop μ-loop
-loop-again c = search laws
-
--- src/lib.rt:63:6
-mul-result : tie.Need-mul-result Inv-loop μ-loop
-mul-result c = search laws
-
--- src/lib.rt:63:6
-add-result : tie.Need-add-result Inv-loop μ-loop
-add-result c = search laws
-
--- src/lib.rt:51:1
-returns : tie.Need-returns Inv-loop μ-loop
+-- src/lib.rt:122:9
+returns : tie.Need-returns
 returns c = search laws
+
+-- src/lib.rt:124:12
+long-word-requires : tie.Need-long-word-requires
+long-word-requires c κs = search laws
+
+-- src/lib.rt:124:5
+narrow-requires-2 : tie.Need-narrow-requires-2
+narrow-requires-2 c κs = search laws
+
+-- src/lib.rt:118:1
+returns-2 : tie.Need-returns-2
+returns-2 c = search laws
 
 pub hash-of-spec : {M : Type 1} → statement M
 hash-of-spec =
     tie.close
     (tie.spec
-    Inv-loop
-    μ-loop
-    loop-holds
-    mul-next
-    shared-slice-read-wide
-    wide-requires
-    add-next
-    add-i
-    loop-less
-    loop-again
-    mul-result
-    add-result
-    returns)
+    short-word-requires
+    narrow-requires
+    returns
+    long-word-requires
+    narrow-requires-2
+    returns-2)

@@ -1,0 +1,76 @@
+-- Laws of the hash: each takes what the code knows there.
+use mathlib.Core.Path.{_≡_, refl, sym, ap, _∙_}
+use mathlib.Core.Bool.{Bool, true, false}
+use mathlib.Core.List.{List}
+use Prim.Native.Nat.{ℕ, zero, suc, _+_, _-_, _*_, _/_, _%_, _≤_, _<_}
+use native.Mathlib.Omega.{arith}
+use lib.Bits.{bitXor}
+use lib.Dec.{eqb, ltb}
+use lib.ListN.{length, getD}
+use borrow.Author.Tests.{eq-eqb, ne-eqb, lt-ltb, le-ltb}
+use Rattle.texts.specs.Choice.{pick}
+use Rattle.texts.specs.Text.{piece}
+use Rattle.words.specs.Word.{wordOf, IsWord}
+use Rattle.index.specs.Index.{halfAt, shortWord, mix, wordsFrom, longWord, narrowed, hash, HashOf}
+
+-- ---- less than 8 bytes
+
+module _ (s : List ℕ) where
+  pub short-four : 4 ≤ length s → {a b : ℕ} → (a ≡ halfAt s 0) × (a < 4294967296) → (b ≡ halfAt s (length s - 4)) × (b < 4294967296) → a + b * 4294967296 ≡ shortWord s
+  unfolding shortWord
+  short-four h ea eb = rw (le-ltb (length s) 4 h, ea .0, eb .0)
+
+  pub short-none : length s < 4 → length s ≡ 0 → 0 ≡ shortWord s
+  unfolding shortWord
+  short-none h e = rw (lt-ltb (length s) 4 h, eq-eqb (length s) 0 e)
+
+  pub short-some : length s < 4 → (length s ≡ 0 → ⊥) → {a b c : ℕ} → (a ≡ getD s 0 0) × (a < 256) → (b ≡ getD s (length s / 2) 0) × (b < 256) → (c ≡ getD s (length s - 1) 0) × (c < 256) → a + b * 256 + c * 65536 + length s * 16777216 ≡ shortWord s
+  unfolding shortWord
+  short-some h n ea eb ec = rw (lt-ltb (length s) 4 h, ne-eqb (length s) 0 n, ea .0, eb .0, ec .0)
+
+-- ---- 8 and more: what is still to come is unchanged
+
+pub mix-is : (h w : ℕ) → bitXor (h % 1152921504606846976 * 9) w ≡ mix h w
+unfolding mix
+mix-is h w = refl
+
+pub record Hashing (s : List ℕ) (i h : ℕ) : Type 0 where
+  pub left : ℕ
+  pub enough : length s < i + 8 * left
+  pub within : i < length s
+  pub rest : wordsFrom left h i s ≡ longWord s
+
+pub hashing-start : {s : List ℕ} → 8 ≤ length s → Hashing s 0 (length s)
+hashing-start {s} h = record { left = length s; enough = omega arith; within = omega arith; rest = refl }
+
+module _ {s : List ℕ} {i h : ℕ} (k : Hashing s i h) where
+  pub hashing-on : i + 8 < length s → {w : ℕ} → IsWord (piece s i 8) w → {r : ℕ} → r ≡ mix h w → Hashing s (i + 8) r
+  unfolding wordsFrom
+  hashing-on l {w} ew {r} er = go (k .left) (k .enough) (k .rest)
+    where
+      go : (n : ℕ) → length s < i + 8 * n → wordsFrom n h i s ≡ longWord s → Hashing s (i + 8) r
+      go zero e q = absurd (let z = k .within in omega arith)
+      go (suc n) e q = record { left = n; enough = omega arith; within = l; rest = rw (er, ew .is) (rw (lt-ltb (i + 8) (length s) l, wordsFrom) at q) }
+
+  pub hashing-end : length s ≤ i + 8 → {w : ℕ} → IsWord (piece s (length s - 8) 8) w → {r : ℕ} → r ≡ mix h w → r ≡ longWord s
+  unfolding wordsFrom
+  hashing-end l {w} ew {r} er = go (k .left) (k .enough) (k .rest)
+    where
+      go : (n : ℕ) → length s < i + 8 * n → wordsFrom n h i s ≡ longWord s → r ≡ longWord s
+      go zero e q = absurd (let z = k .within in omega arith)
+      go (suc n) e q = rw (er, ew .is) (rw (le-ltb (i + 8) (length s) l, wordsFrom) at q)
+
+-- ---- both
+
+pub narrowed-is : (w : ℕ) → ((w % 4294967296 * 1981491285 + w / 4294967296 * 1113222403) / 1073741824 % 1024 ≡ narrowed w) × ((w % 4294967296 * 1981491285 + w / 4294967296 * 1113222403) / 1073741824 % 1024 < 1024)
+unfolding narrowed
+narrowed-is w = (refl, omega arith)
+
+module _ (s : List ℕ) {w r : ℕ} (er : (r ≡ narrowed w) × (r < 1024)) where
+  pub hash-short : length s < 8 → w ≡ shortWord s → HashOf s r
+  unfolding hash
+  hash-short h e = record { is = rw (lt-ltb (length s) 8 h, ← e) (er .0); low = er .1 }
+
+  pub hash-long : 8 ≤ length s → w ≡ longWord s → HashOf s r
+  unfolding hash
+  hash-long h e = record { is = rw (le-ltb (length s) 8 h, ← e) (er .0); low = er .1 }
