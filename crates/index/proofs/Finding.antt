@@ -42,17 +42,17 @@ inside s i k = by-less i (length (s .items)) (λ l. l) (λ l. absurd (let z : 0 
 
 -- ---- children
 
-pub indexed-long : (s : Schema) (ix : List ℕ) → Indexed s ix → {n : ℕ} → n ≡ length (s .items) → n ≤ 1024 → 3072 + 10 * n ≤ length ix
+pub indexed-long : (s : Schema) (ix : List ℕ) → Indexed s ix → {n : ℕ} → n ≡ length (s .items) → n ≤ 1024 → 12 * n ≤ length ix
 indexed-long s ix x e h = let l = x .long (omega arith) in omega arith
 
 pub under-any : {r : Position} (m : Model) (rec : List ℕ) (kind owner from : ℕ) → ((t : List ℕ) → r ≡ found (nextUnder kind owner from (schemaOf m rec t))) → (text : List ℕ) → r ≡ found (nextUnder kind owner from (schemaOf m rec text))
 under-any m rec kind owner from f text = f text
 
 module _ (s : Schema) (ix : List ℕ) (x : Indexed s ix) (kind owner from : ℕ) where
-  pub child-first : {r : Position} {n : ℕ} → n ≡ length (s .items) → n ≤ 1024 → kind ≤ 9 → owner < n → from ≡ 0 → ((o : Option ℕ) → getD ix (3072 + 10 * owner + kind) 0 ≡ code o → r ≡ found o) → r ≡ found (nextUnder kind owner from s)
+  pub child-first : {r : Position} {n : ℕ} → n ≡ length (s .items) → n ≤ 1024 → kind ≤ 9 → owner < n → from ≡ 0 → ((o : Option ℕ) → getD ix (12 * owner + 2 + kind) 0 ≡ code o → r ≡ found o) → r ≡ found (nextUnder kind owner from s)
   child-first en most hk ho z f = f (nextUnder kind owner from s) (rw z (x .links (omega arith) .first kind owner (omega arith) (omega arith)))
 
-  child-on : length (s .items) ≤ 1024 → 0 < from → from - 1 < length (s .items) → itemAt s (from - 1) .kind ≡ kind → itemAt s (from - 1) .owner ≡ owner → kind < 10 → owner < length (s .items) → getD ix (from - 1) 0 ≡ code (nextUnder kind owner from s)
+  child-on : length (s .items) ≤ 1024 → 0 < from → from - 1 < length (s .items) → itemAt s (from - 1) .kind ≡ kind → itemAt s (from - 1) .owner ≡ owner → kind < 10 → owner < length (s .items) → getD ix (12 * (from - 1)) 0 ≡ code (nextUnder kind owner from s)
   child-on most h l ek eo hk ho =
       let z : from - 1 + 1 ≡ from = omega arith in
       let e = x .links most .next (from - 1) (omega arith) l (omega arith) (omega arith) in
@@ -60,7 +60,7 @@ module _ (s : Schema) (ix : List ℕ) (x : Indexed s ix) (kind owner from : ℕ)
 
 pub child-next : (m : Model) (rec text ix : List ℕ) → Indexed (schemaOf m rec text) ix → (kind owner from : ℕ) {r : Position} → length (schemaOf m rec text .items) ≤ 1024 → kind < 10 → owner < length (schemaOf m rec text .items) → 0 < from
     → {n : ℕ} → n ≡ length (schemaOf m rec text .items) → from - 1 < n → (e : Entry) → ((t : List ℕ) → itemOf t e ≡ itemAt (schemaOf m rec t) (from - 1)) → e .kind ≡ kind → e .owner ≡ owner
-    → ((o : Option ℕ) → getD ix (from - 1) 0 ≡ code o → r ≡ found o) → r ≡ found (nextUnder kind owner from (schemaOf m rec text))
+    → ((o : Option ℕ) → getD ix (12 * (from - 1)) 0 ≡ code o → r ≡ found o) → r ≡ found (nextUnder kind owner from (schemaOf m rec text))
 child-next m rec text ix x kind owner from most hk ho h en l e f ek eo g =
     g (nextUnder kind owner from (schemaOf m rec text))
     (child-on (schemaOf m rec text) ix x kind owner from most h (omega arith) (sym (kind-is m rec (from - 1) e f text) ∙ ek) (sym (owner-is m rec (from - 1) e f text) ∙ eo) hk ho)
@@ -109,9 +109,9 @@ module _ (m : Model) (rec : List ℕ) (i : ℕ) (e : Entry) (f : (t : List ℕ) 
   pub field-kind : e .kind ≡ 9 → itemAt (schemaOf m rec text) i .kind ≡ 9
   field-kind ek = sym (kind-is m rec i e f text) ∙ ek
 
-pub field-within : (s : Schema) (i : ℕ) (ix : List ℕ) → Indexed s ix → length (s .items) ≤ 1024 → itemAt s i .kind ≡ 9 → 2048 + i < length ix
+pub field-within : (s : Schema) (i : ℕ) (ix : List ℕ) → Indexed s ix → length (s .items) ≤ 1024 → itemAt s i .kind ≡ 9 → 12 * i + 1 < length ix
 field-within s i ix x most k = omega (arith, inside s i k, x .long most)
 
-pub field-told : (s : Schema) (i : ℕ) (ix : List ℕ) → Indexed s ix → length (s .items) ≤ 1024 → itemAt s i .kind ≡ 9 → {w : ℕ} → w ≡ getD ix (2048 + i) 0
+pub field-told : (s : Schema) (i : ℕ) (ix : List ℕ) → Indexed s ix → length (s .items) ≤ 1024 → itemAt s i .kind ≡ 9 → {w : ℕ} → w ≡ getD ix (12 * i + 1) 0
     → {r : Declaration} → ((d : Declaration) → w ≡ numberOf d → r ≡ d) → r ≡ declarationOf s (itemAt s i .second)
-field-told s i ix x most k ew g = g (declarationOf s (itemAt s i .second)) (ew ∙ x .types most .is i (inside s i k) k)
+field-told s i ix x most k ew g = g (declarationOf s (itemAt s i .second)) (ew ∙ x .types most .is i (omega arith) (inside s i k) k)

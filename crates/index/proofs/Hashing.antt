@@ -4,14 +4,15 @@ use mathlib.Core.Bool.{Bool, true, false}
 use mathlib.Core.List.{List}
 use Prim.Native.Nat.{ℕ, zero, suc, _+_, _-_, _*_, _/_, _%_, _≤_, _<_}
 use native.Mathlib.Omega.{arith}
-use lib.Bits.{bitXor}
+use lib.Bits.{bitAnd, bitXor, and-le-l, and-le-r}
 use lib.Dec.{eqb, ltb}
 use lib.ListN.{length, getD}
 use borrow.Author.Tests.{eq-eqb, ne-eqb, lt-ltb, le-ltb}
 use Rattle.texts.specs.Choice.{pick}
 use Rattle.texts.specs.Text.{piece}
+use Rattle.xmlschema.specs.Schema.{Schema}
 use Rattle.words.specs.Word.{wordOf, IsWord}
-use Rattle.index.specs.Index.{halfAt, shortWord, mix, wordsFrom, longWord, narrowed, hash, HashOf}
+use Rattle.index.specs.Index.{halfAt, shortWord, mix, wordsFrom, longWord, narrowed, hash, HashOf, maskOf, place, HeadOf}
 
 -- ---- less than 8 bytes
 
@@ -74,3 +75,27 @@ module _ (s : List ℕ) {w r : ℕ} (er : (r ≡ narrowed w) × (r < 1024)) wher
   pub hash-long : 8 ≤ length s → w ≡ longWord s → HashOf s r
   unfolding hash
   hash-long h e = record { is = rw (le-ltb (length s) 8 h, ← e) (er .0); low = er .1 }
+
+-- ---- the head of its chain
+
+pub mask-many : {n : ℕ} → 128 < n → 1023 ≡ maskOf n
+unfolding maskOf
+mask-many {n} h = rw (lt-ltb 128 n h)
+
+pub mask-few : {n : ℕ} → n ≤ 128 → 127 ≡ maskOf n
+unfolding maskOf
+mask-few {n} h = rw (le-ltb 128 n h)
+
+pub masked-many : (h : ℕ) {n : ℕ} → 128 < n → (bitAnd h 1023 ≡ bitAnd h (maskOf n)) × (bitAnd h 1023 ≤ h)
+masked-many h e = (ap (bitAnd h) (mask-many e), and-le-l h 1023)
+
+pub masked-few : (h : ℕ) {n : ℕ} → n ≤ 128 → (bitAnd h 127 ≡ bitAnd h (maskOf n)) × (bitAnd h 127 ≤ h)
+masked-few h e = (ap (bitAnd h) (mask-few e), and-le-l h 127)
+
+pub head-is : (s : Schema) (name : List ℕ) {n : ℕ} → n ≡ length (s .items) → {h : ℕ} → HashOf name h → {k : ℕ} → (k ≡ bitAnd h (maskOf n)) × (k ≤ h) → HeadOf s name (12 * n + k)
+unfolding place
+head-is s name {n} en {h} eh {k} ek =
+    record {
+      is = rw (ek .0, eh .is, en);
+      low = and-le-r (hash name) (maskOf (length (s .items)));
+    }

@@ -40,37 +40,37 @@ module _ (s : Schema) (k o j : ℕ) (h : j < length (s .items)) where
 -- ---- the links
 
 -- none so far
-pub linked-start : (s : Schema) (ix : List ℕ) → ((k : ℕ) → getD ix k 0 ≡ 0) → (n : ℕ) → length (s .items) ≤ n → Linked s n ix
+pub linked-start : (s : Schema) (ix : List ℕ) → ((k o : ℕ) → k < 10 → o < length (s .items) → getD ix (12 * o + 2 + k) 0 ≡ 0) → (n : ℕ) → length (s .items) ≤ n → Linked s n ix
 linked-start s ix z n h =
     record {
-      first = λ k o hk ho. z (3072 + 10 * o + k) ∙ ap code (sym (under-end s k o n h));
+      first = λ k o hk ho. z k o hk ho ∙ ap code (sym (under-end s k o n h));
       next = λ j l b hk ho. absurd (omega arith);
     }
 
 module _ (s : Schema) (ix : List ℕ) (j : ℕ) (l : Linked s (j + 1) ix) (h : j < length (s .items)) where
   -- an item that has a place among the heads
-  module _ (big : 3072 + 10 * length (s .items) ≤ length ix) (most : length (s .items) ≤ 1024) (hk : itemAt s j .kind < 10) (ho : itemAt s j .owner < length (s .items)) where
-    linked-first : (k o : ℕ) → k < 10 → o < length (s .items) → getD (fronted ix (3072 + 10 * itemAt s j .owner + itemAt s j .kind) j j) (3072 + 10 * o + k) 0 ≡ code (nextUnder k o j s)
+  module _ (big : 12 * length (s .items) ≤ length ix) (most : length (s .items) ≤ 1024) (hk : itemAt s j .kind < 10) (ho : itemAt s j .owner < length (s .items)) where
+    linked-first : (k o : ℕ) → k < 10 → o < length (s .items) → getD (fronted ix (12 * itemAt s j .owner + 2 + itemAt s j .kind) (12 * j) j) (12 * o + 2 + k) 0 ≡ code (nextUnder k o j s)
     linked-first k o bk bo =
         by-equal k (itemAt s j .kind)
         (λ ek. by-equal o (itemAt s j .owner)
-        (λ eo. let z : 3072 + 10 * o + k ≡ 3072 + 10 * itemAt s j .owner + itemAt s j .kind = omega arith in
-        ap (λ n. getD (fronted ix (3072 + 10 * itemAt s j .owner + itemAt s j .kind) j j) n 0) z ∙ fronted-head ix _ j j (omega arith) ∙ ap code (sym (under-hit s k o j h (sym ek) (sym eo))))
+        (λ eo. let z : 12 * o + 2 + k ≡ 12 * itemAt s j .owner + 2 + itemAt s j .kind = omega arith in
+        ap (λ n. getD (fronted ix (12 * itemAt s j .owner + 2 + itemAt s j .kind) (12 * j) j) n 0) z ∙ fronted-head ix _ (12 * j) j (omega arith) ∙ ap code (sym (under-hit s k o j h (sym ek) (sym eo))))
         (λ no. other (λ e f. no (sym f))))
         (λ nk. other (λ e f. nk (sym e)))
       where
-        other : (itemAt s j .kind ≡ k → itemAt s j .owner ≡ o → ⊥) → getD (fronted ix (3072 + 10 * itemAt s j .owner + itemAt s j .kind) j j) (3072 + 10 * o + k) 0 ≡ code (nextUnder k o j s)
-        other n = fronted-other ix _ j j (3072 + 10 * o + k) (λ e. n (omega arith) (omega arith)) (λ e. omega arith) ∙ l .first k o bk bo ∙ ap code (sym (under-miss s k o j h n))
+        other : (itemAt s j .kind ≡ k → itemAt s j .owner ≡ o → ⊥) → getD (fronted ix (12 * itemAt s j .owner + 2 + itemAt s j .kind) (12 * j) j) (12 * o + 2 + k) 0 ≡ code (nextUnder k o j s)
+        other n = fronted-other ix _ (12 * j) j (12 * o + 2 + k) (λ e. n (omega arith) (omega arith)) (λ e. omega arith) ∙ l .first k o bk bo ∙ ap code (sym (under-miss s k o j h n))
 
-    linked-this : getD (fronted ix (3072 + 10 * itemAt s j .owner + itemAt s j .kind) j j) j 0 ≡ code (nextUnder (itemAt s j .kind) (itemAt s j .owner) (j + 1) s)
-    linked-this = fronted-at ix _ j j (omega arith) (λ e. omega arith) ∙ l .first (itemAt s j .kind) (itemAt s j .owner) hk ho
+    linked-this : getD (fronted ix (12 * itemAt s j .owner + 2 + itemAt s j .kind) (12 * j) j) (12 * j) 0 ≡ code (nextUnder (itemAt s j .kind) (itemAt s j .owner) (j + 1) s)
+    linked-this = fronted-at ix _ (12 * j) j (omega arith) (λ e. omega arith) ∙ l .first (itemAt s j .kind) (itemAt s j .owner) hk ho
 
-    pub linked-on : Linked s j (fronted ix (3072 + 10 * itemAt s j .owner + itemAt s j .kind) j j)
+    pub linked-on : Linked s j (fronted ix (12 * itemAt s j .owner + 2 + itemAt s j .kind) (12 * j) j)
     linked-on =
         record {
           first = linked-first;
           next = λ i a b bk bo. by-less j i
-              (λ c. fronted-other ix _ j j i (λ e. omega arith) (λ e. omega arith) ∙ l .next i (omega arith) b bk bo)
+              (λ c. fronted-other ix _ (12 * j) j (12 * i) (λ e. omega arith) (λ e. omega arith) ∙ l .next i (omega arith) b bk bo)
               (λ c. let e : i ≡ j = omega arith in rw e linked-this);
         }
 
@@ -85,9 +85,9 @@ module _ (s : Schema) (ix : List ℕ) (j : ℕ) (l : Linked s (j + 1) ix) (h : j
       }
 
 -- the names are no part of the links
-pub linked-frame : (s : Schema) (i : ℕ) (ix ix′ : List ℕ) → length (s .items) ≤ 1024 → ((k : ℕ) → (1024 ≤ k → k < 3072 → ⊥) → getD ix′ k 0 ≡ getD ix k 0) → Linked s i ix → Linked s i ix′
-linked-frame s i ix ix′ most f l =
+pub linked-frame : (s : Schema) (i : ℕ) (ix ix′ : List ℕ) → ((k o : ℕ) → k < 10 → getD ix′ (12 * o + 2 + k) 0 ≡ getD ix (12 * o + 2 + k) 0) → ((j : ℕ) → getD ix′ (12 * j) 0 ≡ getD ix (12 * j) 0) → Linked s i ix → Linked s i ix′
+linked-frame s i ix ix′ f g l =
     record {
-      first = λ k o bk bo. f (3072 + 10 * o + k) (λ x y. omega arith) ∙ l .first k o bk bo;
-      next = λ j a b bk bo. f j (λ x y. omega arith) ∙ l .next j a b bk bo;
+      first = λ k o bk bo. f k o bk ∙ l .first k o bk bo;
+      next = λ j a b bk bo. g j ∙ l .next j a b bk bo;
     }

@@ -3,7 +3,7 @@ use mathlib.Core.Path.{_≡_, refl, sym, ap, _∙_}
 use mathlib.Core.Bool.{Bool, true, false}
 use mathlib.Core.Option.{Option, none, some}
 use mathlib.Core.List.{List}
-use Prim.Native.Nat.{ℕ, _+_, _-_, _≤_, _<_}
+use Prim.Native.Nat.{ℕ, _+_, _*_, _-_, _≤_, _<_}
 use native.Mathlib.Omega.{arith}
 use lib.Dec.{T, eqb, ltb}
 use lib.ListN.{length, getD}
@@ -23,7 +23,7 @@ use Rattle.ordered.proofs.Reading.{kind-is, name-is}
 use Rattle.ordered.proofs.Lasts.{last-step}
 use Rattle.ordered.proofs.Numbering.{by-kind}
 use Rattle.index.specs.Declarations.{declaredBy, declarationOf, numberOf, keptBy}
-use Rattle.index.specs.Index.{code, hash, HashOf, hashed, lastHashed, Chained}
+use Rattle.index.specs.Index.{code, place, HeadOf, hashed, lastHashed, Chained}
 use Rattle.index.proofs.Chaining.{none-passes, some-passes, code-none, code-some, hashed-as}
 
 -- ---- what is kept
@@ -86,28 +86,28 @@ module _ (kept j : ℕ) where
 -- ---- along the chain
 
 -- what is named so is hashed so
-narrow : (kind : ℕ) (name : List ℕ) → declares kind ≡ true → (it : Item) → namedSo kind name it ≡ true → hashed (hash name) it ≡ true
+narrow : (s : Schema) (kind : ℕ) (name : List ℕ) → declares kind ≡ true → (it : Item) → namedSo kind name it ≡ true → hashed s (place s name) it ≡ true
 unfolding hashed
-narrow kind name d it t =
+narrow s kind name d it t =
     let e = both-true (eqb (it .kind) kind) (same (it .name) name) t in
     let k : it .kind ≡ kind = eqb-true (it .kind) kind (e .0) in
     let n : it .name ≡ name = same-equal (it .name) name (e .1) in
-    rw (k, n, d, eq-eqb (hash name) (hash name) refl)
+    rw (k, n, d, eq-eqb (place s name) (place s name) refl)
 
 -- p leads to the last of the first n items that may be named so, and `kept` is what those behind them say
 pub record Seeking (name : List ℕ) (s : Schema) (p kept : ℕ) : Type 0 where
   pub n : ℕ
   pub within : n ≤ length (s .items)
-  pub leads : p ≡ code (lastHashed (hash name) n s)
+  pub leads : p ≡ code (lastHashed (place s name) n s)
   pub same : chosen kept (lastBy (namedSo anEnum name) n s) (lastBy (namedSo aComposite name) n s) (lastBy (namedSo aType name) n s) ≡ numberOf (declarationOf s name)
 
-pub seeking-start : (name : List ℕ) (s : Schema) (ix : List ℕ) → Chained s (length (s .items)) ix → {b : ℕ} → HashOf name b → {p : ℕ} → p ≡ getD ix (1024 + b) 0 → Seeking name s p 0
+pub seeking-start : (name : List ℕ) (s : Schema) (ix : List ℕ) → Chained s (length (s .items)) ix → {b : ℕ} → HeadOf s name b → {p : ℕ} → p ≡ getD ix b 0 → Seeking name s p 0
 unfolding declarationOf lastNamed
 seeking-start name s ix x {b} eb {p} ep =
     record {
       n = length (s .items);
       within = omega arith;
-      leads = ep ∙ x .head b (eb .low) ∙ ap (λ y. code (lastHashed y (length (s .items)) s)) (eb .is);
+      leads = ep ∙ ap (λ y. getD ix y 0) (eb .is) ∙ x .head (place s name) (eb .low);
       same = rw (take-length (s .items)) (chosen-first (lastNamed anEnum name s) (lastNamed aComposite name s) (lastNamed aType name s));
     }
 
@@ -117,12 +117,12 @@ module _ (name : List ℕ) (s : Schema) {p kept : ℕ} (k : Seeking name s p kep
   seeking-none h = sym (chosen-last kept) ∙ (rw (gone anEnum refl, gone aComposite refl, gone aType refl) at (k .same))
     where
       gone : (kind : ℕ) → declares kind ≡ true → lastBy (namedSo kind name) (k .n) s ≡ none
-      gone kind d = none-passes (namedSo kind name) (hashed (hash name)) s (narrow kind name d) (k .n) (k .within) (code-none (lastHashed (hash name) (k .n) s) (let z : p ≡ 0 = omega arith in sym (k .leads) ∙ z))
+      gone kind d = none-passes (namedSo kind name) (hashed s (place s name)) s (narrow s kind name d) (k .n) (k .within) (code-none (lastHashed (place s name) (k .n) s) (let z : p ≡ 0 = omega arith in sym (k .leads) ∙ z))
 
   module _ (h : 0 < p) where
-    passed : (kind : ℕ) → declares kind ≡ true → (p - 1 < k .n) × (hashed (hash name) (itemAt s (p - 1)) ≡ true) × (lastBy (namedSo kind name) (k .n) s ≡ lastBy (namedSo kind name) (p - 1 + 1) s)
+    passed : (kind : ℕ) → declares kind ≡ true → (p - 1 < k .n) × (hashed s (place s name) (itemAt s (p - 1)) ≡ true) × (lastBy (namedSo kind name) (k .n) s ≡ lastBy (namedSo kind name) (p - 1 + 1) s)
     unfolding lastHashed
-    passed kind d = some-passes (namedSo kind name) (hashed (hash name)) s (narrow kind name d) (k .n) (k .within) (p - 1) (code-some (lastHashed (hash name) (k .n) s) p h (k .leads))
+    passed kind d = some-passes (namedSo kind name) (hashed s (place s name)) s (narrow s kind name d) (k .n) (k .within) (p - 1) (code-some (lastHashed (place s name) (k .n) s) p h (k .leads))
 
     pub seeking-low : p - 1 < length (s .items)
     unfolding declares
@@ -136,7 +136,7 @@ module _ (name : List ℕ) (s : Schema) {p kept : ℕ} (k : Seeking name s p kep
 
     declaring : declares (itemAt s (p - 1) .kind) ≡ true
     unfolding declares
-    declaring = hashed-as (itemAt s (p - 1)) (hash name) (passed aType refl .1) .0
+    declaring = hashed-as s (itemAt s (p - 1)) (place s name) (passed aType refl .1) .0
 
     module _ {r : ℕ} (er : r ≡ keptBy (itemAt s (p - 1)) (p - 1) name kept) where
       kept-same : chosen r (lastBy (namedSo anEnum name) (p - 1) s) (lastBy (namedSo aComposite name) (p - 1) s) (lastBy (namedSo aType name) (p - 1) s) ≡ numberOf (declarationOf s name)
@@ -149,22 +149,22 @@ module _ (name : List ℕ) (s : Schema) {p kept : ℕ} (k : Seeking name s p kep
       pub seeking-found : r ≡ 1 → r ≡ numberOf (declarationOf s name)
       seeking-found e = rw e (sym (chosen-one (lastBy (namedSo anEnum name) (p - 1) s) (lastBy (namedSo aComposite name) (p - 1) s) (lastBy (namedSo aType name) (p - 1) s)) ∙ (rw e at kept-same))
 
-    module _ (ix : List ℕ) (x : Chained s (length (s .items)) ix) {q : ℕ} (eq : q ≡ getD ix (2048 + (p - 1)) 0) where
-      next-leads : q ≡ code (lastHashed (hash name) (p - 1) s)
+    module _ (ix : List ℕ) (x : Chained s (length (s .items)) ix) {q : ℕ} (eq : q ≡ getD ix (12 * (p - 1) + 1) 0) where
+      next-leads : q ≡ code (lastHashed (place s name) (p - 1) s)
       unfolding declares
-      next-leads = eq ∙ x .chain (p - 1) seeking-low (hash name) (rw (passed aType refl .1) tt)
+      next-leads = eq ∙ x .chain (p - 1) seeking-low (place s name) (rw (passed aType refl .1) tt)
 
       pub seeking-on : {r : ℕ} → r ≡ keptBy (itemAt s (p - 1)) (p - 1) name kept → Seeking name s q r
       seeking-on er = record { n = p - 1; within = let l = seeking-low in omega arith; leads = next-leads; same = kept-same er }
 
       pub seeking-less : q < p
       unfolding lastHashed declares
-      seeking-less = below (lastHashed (hash name) (p - 1) s) refl next-leads
+      seeking-less = below (lastHashed (place s name) (p - 1) s) refl next-leads
         where
-          below : (o : Option ℕ) → lastHashed (hash name) (p - 1) s ≡ o → q ≡ code o → q < p
+          below : (o : Option ℕ) → lastHashed (place s name) (p - 1) s ≡ o → q ≡ code o → q < p
           below none f e = omega arith
           below (some i) f e =
-              let l : i < p - 1 = some-passes (namedSo aType name) (hashed (hash name)) s (narrow aType name refl) (p - 1) (let w = seeking-low in omega arith) i f .0 in
+              let l : i < p - 1 = some-passes (namedSo aType name) (hashed s (place s name)) s (narrow s aType name refl) (p - 1) (let w = seeking-low in omega arith) i f .0 in
               omega arith
 
 -- a chain that is too long tells nothing

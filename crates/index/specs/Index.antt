@@ -7,7 +7,7 @@ use mathlib.Core.Bool.{Bool, true, false}
 use mathlib.Core.List.{List, [], _∷_}
 use mathlib.Core.Option.{Option, none, some}
 use Prim.Native.Nat.{ℕ, zero, suc, _+_, _-_, _*_, _/_, _%_, _≤_, _<_}
-use lib.Bits.{bitXor}
+use lib.Bits.{bitAnd, bitXor}
 use lib.Dec.{T, eqb, ltb}
 use lib.ListN.{length, getD, take, set}
 use Rattle.texts.specs.Choice.{pick, _and_}
@@ -26,13 +26,13 @@ code (some i) = i + 1
 abbrev pub fronted : List ℕ → ℕ → ℕ → ℕ → List ℕ
 fronted ix head at i = set (set ix at (getD ix head 0)) head (i + 1)
 
--- ---- links: the next of each item, and behind the names the first of 10 kinds under each item
+-- ---- links: of the twelve numbers of each item the first is the next item, and the last ten are the first of 10 kinds under it
 
 pub record Linked (s : Schema) (i : ℕ) (ix : List ℕ) : Type 0 where
-  pub first : (k o : ℕ) → k < 10 → o < length (s .items) → getD ix (3072 + 10 * o + k) 0 ≡ code (nextUnder k o i s)
-  pub next : (j : ℕ) → i ≤ j → j < length (s .items) → itemAt s j .kind < 10 → itemAt s j .owner < length (s .items) → getD ix j 0 ≡ code (nextUnder (itemAt s j .kind) (itemAt s j .owner) (j + 1) s)
+  pub first : (k o : ℕ) → k < 10 → o < length (s .items) → getD ix (12 * o + 2 + k) 0 ≡ code (nextUnder k o i s)
+  pub next : (j : ℕ) → i ≤ j → j < length (s .items) → itemAt s j .kind < 10 → itemAt s j .owner < length (s .items) → getD ix (12 * j) 0 ≡ code (nextUnder (itemAt s j .kind) (itemAt s j .owner) (j + 1) s)
 
--- ---- names: 1,024 heads, then the next of each item that declares
+-- ---- names: behind all items the heads, and of each item that declares the second number is the next
 
 -- the number of the 4 bytes from i on
 unfoldable pub halfAt : List ℕ → ℕ → ℕ
@@ -65,51 +65,57 @@ pub record HashOf (name : List ℕ) (b : ℕ) : Type 0 where
   pub is : b ≡ hash name
   pub low : b < 1024
 
-unfoldable pub hashed : ℕ → Item → Bool
-hashed b it = declares (it .kind) and eqb (hash (it .name)) b
+-- the greatest of the hashes that are told apart, by the number of items
+unfoldable pub maskOf : ℕ → ℕ
+maskOf n = pick (ltb 128 n) 1023 127
+
+unfoldable pub place : Schema → List ℕ → ℕ
+place s name = bitAnd (hash name) (maskOf (length (s .items)))
+
+-- p is where the head of a name's chain stands
+pub record HeadOf (s : Schema) (name : List ℕ) (p : ℕ) : Type 0 where
+  pub is : p ≡ 12 * length (s .items) + place s name
+  pub low : place s name ≤ maskOf (length (s .items))
+
+unfoldable pub hashed : Schema → ℕ → Item → Bool
+hashed s b it = declares (it .kind) and eqb (place s (it .name)) b
 
 -- the last of the first n items that declares a name with the hash b
 unfoldable pub lastHashed : ℕ → ℕ → Schema → Option ℕ
-lastHashed b n s = last (positionsFrom 0 (hashed b) (take n (s .items)))
+lastHashed b n s = last (positionsFrom 0 (hashed s b) (take n (s .items)))
 
 pub record Chained (s : Schema) (n : ℕ) (ix : List ℕ) : Type 0 where
-  pub head : (b : ℕ) → b < 1024 → getD ix (1024 + b) 0 ≡ code (lastHashed b n s)
-  pub chain : (j : ℕ) → j < n → (b : ℕ) → T (hashed b (itemAt s j)) → getD ix (2048 + j) 0 ≡ code (lastHashed b j s)
+  pub head : (b : ℕ) → b ≤ maskOf (length (s .items)) → getD ix (12 * length (s .items) + b) 0 ≡ code (lastHashed b n s)
+  pub chain : (j : ℕ) → j < n → (b : ℕ) → T (hashed s b (itemAt s j)) → getD ix (12 * j + 1) 0 ≡ code (lastHashed b j s)
 
 -- ---- type names: what the one of each field is declared as, where the next of an item that declares would stand
 
 pub record Resolved (s : Schema) (n : ℕ) (ix : List ℕ) : Type 0 where
-  pub is : (j : ℕ) → j < n → itemAt s j .kind ≡ aField → getD ix (2048 + j) 0 ≡ numberOf (declarationOf s (itemAt s j .second))
+  pub is : (j : ℕ) → n ≤ j → j < length (s .items) → itemAt s j .kind ≡ aField → getD ix (12 * j + 1) 0 ≡ numberOf (declarationOf s (itemAt s j .second))
 
 -- ---- all, where there are as many items as a schema may have
 
 pub record Indexed (s : Schema) (ix : List ℕ) : Type 0 where
-  pub long : length (s .items) ≤ 1024 → 3072 + 10 * length (s .items) ≤ length ix
+  pub long : length (s .items) ≤ 1024 → 12 * length (s .items) ≤ length ix
   pub links : length (s .items) ≤ 1024 → Linked s 0 ix
-  pub types : length (s .items) ≤ 1024 → Resolved s (length (s .items)) ix
+  pub types : length (s .items) ≤ 1024 → Resolved s 0 ix
 
 -- ---- while it is built
 
 -- an array of zeros that is long enough
 pub record Blank (s : Schema) (ix : List ℕ) : Type 0 where
-  pub long : length (s .items) ≤ 1024 → 3072 + 10 * length (s .items) ≤ length ix
+  pub long : length (s .items) ≤ 1024 → 12 * length (s .items) + maskOf (length (s .items)) < length ix
   pub zero : (k : ℕ) → getD ix k 0 ≡ 0
 
--- the items from i on are linked, and there are no names yet
-pub record Linking (s : Schema) (i : ℕ) (ix : List ℕ) : Type 0 where
-  pub long : 3072 + 10 * length (s .items) ≤ length ix
-  pub linked : Linked s i ix
-  pub zero : (k : ℕ) → 1024 ≤ k → k < 3072 → getD ix k 0 ≡ 0
-
--- all items are linked, and the first n have their names in the chains
+-- the first n items have their names in the chains, and there are no links yet
 pub record Naming (s : Schema) (n : ℕ) (ix : List ℕ) : Type 0 where
-  pub long : 3072 + 10 * length (s .items) ≤ length ix
-  pub linked : Linked s 0 ix
+  pub long : 12 * length (s .items) + maskOf (length (s .items)) < length ix
+  pub zero : (k o : ℕ) → k < 10 → o < length (s .items) → getD ix (12 * o + 2 + k) 0 ≡ 0
   pub chained : Chained s n ix
 
--- all names are in the chains, and the type names of the first n items are resolved
-pub record Resolving (s : Schema) (n : ℕ) (ix : List ℕ) : Type 0 where
-  pub long : 3072 + 10 * length (s .items) ≤ length ix
-  pub linked : Linked s 0 ix
+-- all names are in the chains, the items from l on are linked, and the type names of those from r on are resolved
+pub record Settling (s : Schema) (l r : ℕ) (ix : List ℕ) : Type 0 where
+  pub long : 12 * length (s .items) + maskOf (length (s .items)) < length ix
+  pub linked : Linked s l ix
   pub chained : Chained s (length (s .items)) ix
-  pub resolved : Resolved s n ix
+  pub resolved : Resolved s r ix

@@ -1,6 +1,6 @@
 // An index over a model, for its searches: children by links, declarations by chains of a short hash.
 //
-// `build` fills a lent array from any model in one pass each; `child` then promises what the model's own `next_under`
+// `build` fills a lent array from any model in two passes; `child` then promises what the model's own `next_under`
 // promises, and `declared` what its `last_named` says of a field's type name, without walking all items. Where a chain
 // is long, as names that collide make it, the names in order (crate ordered) answer, so no name is compared with all.
 // Nothing is asked of the model: where it has more than 1,024 items, which no document gives, the model's searches answer.
@@ -25,30 +25,39 @@ use xmlschema::items::second_of;
 ghost use mathlib.Core.Path.{_≡_};
 ghost use mathlib.Core.Option.{Option};
 ghost use Prim.Native.Nat.{ℕ, _+_, _≤_, _<_};
+ghost use lib.Bits.{bitAnd};
 ghost use lib.ListN.{length, getD, set};
 ghost use Rattle.xmlschema.specs.Schema.{itemAt, nextUnder, aField};
 ghost use Rattle.xmlschema.specs.Store.{schemaOf, found};
 ghost use Rattle.ordered.specs.Ordered.{Ordered};
-ghost use Rattle.index.specs.Index.{code, fronted, halfAt, shortWord, mix, longWord, narrowed, HashOf, Chained, Blank, Linking, Naming, Resolving, Indexed};
+ghost use Rattle.index.specs.Index.{code, fronted, halfAt, shortWord, mix, longWord, narrowed, HashOf, maskOf, HeadOf, Chained, Blank, Naming, Settling, Indexed};
 ghost use Rattle.index.specs.Declarations.{declarationOf, numberOf, keptBy};
 ghost use Rattle.index.specs.declared.Declaration.{Declaration};
 
-// The index holds the next item after each of 1,024, the last declaration of each of 1,024 hashes, for each of 1,024
-// items the declaration before it with the same hash, or, of a field, what its type name is declared as, and last the
-// first item of each of 10 kinds under each item. Where these parts begin; the first begins at 0.
-const HEADS: usize = 1024;
+// The index holds twelve numbers for each item: the next item; the declaration before it with the same hash or, of a
+// field, what its type name is declared as; and from the third on the first item of each of 10 kinds under it. Behind
+// all items stands the last declaration of each hash.
+const EACH: usize = 12;
 
-const CHAIN: usize = 2048;
+const CHAIN: usize = 1;
 
-const FIRST: usize = 3072;
+const FIRST: usize = 2;
 
-// How many numbers that is for as many items as a schema may have, and for a few: the array is cleared whole, which a
-// small document would notice.
+// How many numbers that is for as many items as a schema may have, and for fewer: the array is cleared whole, which a
+// document notices that has few.
 pub const SIZE: usize = 13312;
 
-pub const FEW: u32 = 64;
+pub const SOME: u32 = 384;
 
-pub const FEW_SIZE: usize = 3712;
+pub const SOME_SIZE: usize = 5632;
+
+pub const FEW: u32 = 128;
+
+pub const FEW_SIZE: usize = 1664;
+
+pub const LEAST: u32 = 16;
+
+pub const LEAST_SIZE: usize = 320;
 
 // As many items as the index holds, and a schema may have.
 pub const MOST: u32 = 1024;
@@ -124,6 +133,24 @@ fn hash_of(name: &[u8]) -> usize
     narrow(long_word(name))
 }
 
+// The hashes that are told apart are 1,024, and 128 where the items are few.
+fn masked(h: usize, n: u32) -> usize
+    ensures { λ r. ⌜ (r ≡ bitAnd h (maskOf n)) × (r ≤ h) ⌝ }
+{
+    if FEW < n {
+        return h & 1023;
+    }
+    h & 127
+}
+
+// Where the last declaration with the hash of a name stands.
+fn head_of(m: Model, rec: &[u32], text: &[u8], name: &[u8]) -> usize
+    ensures { λ r. ⌜ HeadOf (schemaOf m (now (rec .entry)) (now (text .entry))) (now (name .entry)) r ⌝ }
+{
+    let n = count(m, rec, text);
+    EACH * (n as usize) + masked(hash_of(name), n)
+}
+
 // Item `i` in front of the list whose head stands at `head`.
 fn put_front(ix: &mut [u16], head: usize, at: usize, i: u32)
     requires { ⌜ (head < length (now ix)) × (at < length (now ix)) × (i < 1024) ⌝ }
@@ -143,49 +170,27 @@ fn put_number(ix: &mut [u16], at: usize, n: u32)
 
 // ---- building
 
-fn link_item(m: Model, rec: &[u32], text: &[u8], i: u32, ix: &mut [u16])
-    requires { ⌜ Linking (schemaOf m (now rec) (now text)) (i + 1) (now ix) × (i < length (schemaOf m (now rec) (now text) .items)) × (length (schemaOf m (now rec) (now text) .items) ≤ 1024) ⌝ }
-    ensures { λ r. ⌜ Linking (schemaOf m (now (rec .entry)) (now (text .entry))) i (now (ix .exit)) ⌝ }
+fn kind_of(m: Model, rec: &[u32], text: &[u8], i: u32) -> u32
+    ensures { λ r. ⌜ r ≡ itemAt (schemaOf m (now (rec .entry)) (now (text .entry))) i .kind ⌝ }
 {
     let e = item(m, rec, i);
-    if 9 < e.kind {
-        return;
-    }
-    if count(m, rec, text) <= e.owner {
-        return;
-    }
-    let head = FIRST + 10 * (e.owner as usize) + e.kind as usize;
-    let at = i as usize;
-    put_front(ix, head, at, i);
-}
-
-fn put_links(m: Model, rec: &[u32], text: &[u8], ix: &mut [u16])
-    requires { ⌜ Blank (schemaOf m (now rec) (now text)) (now ix) × (length (schemaOf m (now rec) (now text) .items) ≤ 1024) ⌝ }
-    ensures { λ r. ⌜ Linking (schemaOf m (now (rec .entry)) (now (text .entry))) 0 (now (ix .exit)) ⌝ }
-{
-    let mut n = count(m, rec, text);
-    while 0 < n {
-        let i = n - 1;
-        link_item(m, rec, text, i, ix);
-        n = i;
-    }
+    e.kind
 }
 
 fn name_item(m: Model, rec: &[u32], text: &[u8], i: u32, ix: &mut [u16])
     requires { ⌜ Naming (schemaOf m (now rec) (now text)) i (now ix) × (i < length (schemaOf m (now rec) (now text) .items)) × (length (schemaOf m (now rec) (now text) .items) ≤ 1024) ⌝ }
     ensures { λ r. ⌜ Naming (schemaOf m (now (rec .entry)) (now (text .entry))) (i + 1) (now (ix .exit)) ⌝ }
 {
-    let e = item(m, rec, i);
-    if is_declaring(e.kind) {
-        let hash = hash_of(name_of(e, text));
-        let head = HEADS + hash;
-        let at = CHAIN + i as usize;
+    if is_declaring(kind_of(m, rec, text, i)) {
+        let e = item(m, rec, i);
+        let head = head_of(m, rec, text, name_of(e, text));
+        let at = EACH * (i as usize) + CHAIN;
         put_front(ix, head, at, i);
     }
 }
 
 fn put_names(m: Model, rec: &[u32], text: &[u8], ix: &mut [u16])
-    requires { ⌜ Linking (schemaOf m (now rec) (now text)) 0 (now ix) × (length (schemaOf m (now rec) (now text) .items) ≤ 1024) ⌝ }
+    requires { ⌜ Blank (schemaOf m (now rec) (now text)) (now ix) × (length (schemaOf m (now rec) (now text) .items) ≤ 1024) ⌝ }
     ensures { λ r. ⌜ Naming (schemaOf m (now (rec .entry)) (now (text .entry))) (length (schemaOf m (now (rec .entry)) (now (text .entry)) .items)) (now (ix .exit)) ⌝ }
 {
     let n = count(m, rec, text);
@@ -194,6 +199,22 @@ fn put_names(m: Model, rec: &[u32], text: &[u8], ix: &mut [u16])
         name_item(m, rec, text, i, ix);
         i += 1;
     }
+}
+
+fn link_item(m: Model, rec: &[u32], text: &[u8], i: u32, ix: &mut [u16])
+    requires { ⌜ Settling (schemaOf m (now rec) (now text)) (i + 1) i (now ix) × (i < length (schemaOf m (now rec) (now text) .items)) × (length (schemaOf m (now rec) (now text) .items) ≤ 1024) ⌝ }
+    ensures { λ r. ⌜ Settling (schemaOf m (now (rec .entry)) (now (text .entry))) i i (now (ix .exit)) ⌝ }
+{
+    let e = item(m, rec, i);
+    if 9 < e.kind {
+        return;
+    }
+    if count(m, rec, text) <= e.owner {
+        return;
+    }
+    let head = EACH * (e.owner as usize) + FIRST + e.kind as usize;
+    let at = EACH * (i as usize);
+    put_front(ix, head, at, i);
 }
 
 fn number(n: u16) -> u32
@@ -237,7 +258,7 @@ fn resolved(m: Model, rec: &[u32], text: &[u8], ix: &[u16], name: &[u8]) -> u32
 {
     let mut kept = 0;
     let mut left = STEPS;
-    let mut p = word(ix, HEADS + hash_of(name));
+    let mut p = word(ix, head_of(m, rec, text, name));
     while 0 < p {
         if left == 0 {
             return UNTOLD;
@@ -248,70 +269,88 @@ fn resolved(m: Model, rec: &[u32], text: &[u8], ix: &[u16], name: &[u8]) -> u32
         if kept == 1 {
             return kept;
         }
-        p = word(ix, CHAIN + i as usize);
+        p = word(ix, EACH * (i as usize) + CHAIN);
     }
     kept
 }
 
-// The type name of item `i`, if it is a field: 1 further, or still at `i` where its chain is long.
+// The type name of item `i`, if it is a field: now at `i`, or still behind it where its chain is long.
 fn resolve_item(m: Model, rec: &[u32], text: &[u8], i: u32, ix: &mut [u16]) -> u32
-    requires { ⌜ Resolving (schemaOf m (now rec) (now text)) i (now ix) × (i < length (schemaOf m (now rec) (now text) .items)) × (length (schemaOf m (now rec) (now text) .items) ≤ 1024) ⌝ }
-    ensures { λ r. ⌜ Resolving (schemaOf m (now (rec .entry)) (now (text .entry))) r (now (ix .exit)) × (i ≤ r) × (r ≤ i + 1) ⌝ }
+    requires { ⌜ Settling (schemaOf m (now rec) (now text)) (i + 1) (i + 1) (now ix) × (i < length (schemaOf m (now rec) (now text) .items)) × (length (schemaOf m (now rec) (now text) .items) ≤ 1024) ⌝ }
+    ensures { λ r. ⌜ Settling (schemaOf m (now (rec .entry)) (now (text .entry))) (i + 1) r (now (ix .exit)) × (i ≤ r) × (r ≤ i + 1) ⌝ }
 {
-    let e = item(m, rec, i);
-    if e.kind == FIELD {
+    if kind_of(m, rec, text, i) == FIELD {
+        let e = item(m, rec, i);
         let d = resolved(m, rec, text, ix, second_of(e, text));
         if d == UNTOLD {
-            return i;
+            return i + 1;
         }
-        let at = CHAIN + i as usize;
+        let at = EACH * (i as usize) + CHAIN;
         put_number(ix, at, d);
-        return i + 1;
+        return i;
     }
-    i + 1
+    i
 }
 
 fn order_item(m: Model, rec: &[u32], text: &[u8], names: &[u16], n: usize, i: u32, ix: &mut [u16])
-    requires { ⌜ Resolving (schemaOf m (now rec) (now text)) i (now ix) × Ordered (schemaOf m (now rec) (now text)) (length (schemaOf m (now rec) (now text) .items)) (now names) n × (i < length (schemaOf m (now rec) (now text) .items)) × (length (schemaOf m (now rec) (now text) .items) ≤ 1024) ⌝ }
-    ensures { λ r. ⌜ Resolving (schemaOf m (now (rec .entry)) (now (text .entry))) (i + 1) (now (ix .exit)) ⌝ }
+    requires { ⌜ Settling (schemaOf m (now rec) (now text)) (i + 1) (i + 1) (now ix) × Ordered (schemaOf m (now rec) (now text)) (length (schemaOf m (now rec) (now text) .items)) (now names) n × (i < length (schemaOf m (now rec) (now text) .items)) × (length (schemaOf m (now rec) (now text) .items) ≤ 1024) ⌝ }
+    ensures { λ r. ⌜ Settling (schemaOf m (now (rec .entry)) (now (text .entry))) (i + 1) i (now (ix .exit)) ⌝ }
 {
-    let e = item(m, rec, i);
-    if e.kind == FIELD {
+    if kind_of(m, rec, text, i) == FIELD {
+        let e = item(m, rec, i);
         let d = number_of(m, rec, text, names, n, second_of(e, text));
-        let at = CHAIN + i as usize;
+        let at = EACH * (i as usize) + CHAIN;
         put_number(ix, at, d);
     }
 }
 
-// The type names from item `from` on, by the names in order.
+fn settle_ordered(
+    m: Model,
+    rec: &[u32],
+    text: &[u8],
+    names: &[u16],
+    n: usize,
+    i: u32,
+    ix: &mut [u16],
+)
+    requires { ⌜ Settling (schemaOf m (now rec) (now text)) (i + 1) (i + 1) (now ix) × Ordered (schemaOf m (now rec) (now text)) (length (schemaOf m (now rec) (now text) .items)) (now names) n × (i < length (schemaOf m (now rec) (now text) .items)) × (length (schemaOf m (now rec) (now text) .items) ≤ 1024) ⌝ }
+    ensures { λ r. ⌜ Settling (schemaOf m (now (rec .entry)) (now (text .entry))) i i (now (ix .exit)) ⌝ }
+{
+    order_item(m, rec, text, names, n, i, ix);
+    link_item(m, rec, text, i, ix);
+}
+
+// The items before `from`, their type names by the names in order.
 fn put_rest(m: Model, rec: &[u32], text: &[u8], from: u32, ix: &mut [u16])
-    requires { ⌜ Resolving (schemaOf m (now rec) (now text)) from (now ix) × (from ≤ length (schemaOf m (now rec) (now text) .items)) × (length (schemaOf m (now rec) (now text) .items) ≤ 1024) ⌝ }
-    ensures { λ r. ⌜ Resolving (schemaOf m (now (rec .entry)) (now (text .entry))) (length (schemaOf m (now (rec .entry)) (now (text .entry)) .items)) (now (ix .exit)) ⌝ }
+    requires { ⌜ Settling (schemaOf m (now rec) (now text)) from from (now ix) × (from ≤ length (schemaOf m (now rec) (now text) .items)) × (length (schemaOf m (now rec) (now text) .items) ≤ 1024) ⌝ }
+    ensures { λ r. ⌜ Settling (schemaOf m (now (rec .entry)) (now (text .entry))) 0 0 (now (ix .exit)) ⌝ }
 {
     let mut names = [0u16; NAMES];
     let n = put_ordered(m, rec, text, &mut names);
-    let c = count(m, rec, text);
-    let mut i = from;
-    while i < c {
-        order_item(m, rec, text, &names, n, i, ix);
-        i += 1;
+    let mut c = from;
+    while 0 < c {
+        let i = c - 1;
+        settle_ordered(m, rec, text, &names, n, i, ix);
+        c = i;
     }
 }
 
-// All type names: by the chains as far as these are short, and the rest by the names in order.
-fn put_resolved(m: Model, rec: &[u32], text: &[u8], ix: &mut [u16])
+// Links and type names, from the last item down: the type names by the chains as far as these are short, and the rest
+// by the names in order.
+fn put_settled(m: Model, rec: &[u32], text: &[u8], ix: &mut [u16])
     requires { ⌜ Naming (schemaOf m (now rec) (now text)) (length (schemaOf m (now rec) (now text) .items)) (now ix) × (length (schemaOf m (now rec) (now text) .items) ≤ 1024) ⌝ }
-    ensures { λ r. ⌜ Resolving (schemaOf m (now (rec .entry)) (now (text .entry))) (length (schemaOf m (now (rec .entry)) (now (text .entry)) .items)) (now (ix .exit)) ⌝ }
+    ensures { λ r. ⌜ Settling (schemaOf m (now (rec .entry)) (now (text .entry))) 0 0 (now (ix .exit)) ⌝ }
 {
-    let n = count(m, rec, text);
-    let mut i = 0;
-    while i < n {
-        let next = resolve_item(m, rec, text, i, ix);
-        if next == i {
-            put_rest(m, rec, text, next, ix);
+    let mut n = count(m, rec, text);
+    while 0 < n {
+        let i = n - 1;
+        let told = resolve_item(m, rec, text, i, ix);
+        if told == n {
+            put_rest(m, rec, text, n, ix);
             return;
         }
-        i = next;
+        link_item(m, rec, text, i, ix);
+        n = i;
     }
 }
 
@@ -321,9 +360,8 @@ pub fn build(m: Model, rec: &[u32], text: &[u8], ix: &mut [u16])
     ensures { λ r. ⌜ Indexed (schemaOf m (now (rec .entry)) (now (text .entry))) (now (ix .exit)) ⌝ }
 {
     if count(m, rec, text) <= MOST {
-        put_links(m, rec, text, ix);
         put_names(m, rec, text, ix);
-        put_resolved(m, rec, text, ix);
+        put_settled(m, rec, text, ix);
     }
 }
 
@@ -357,7 +395,7 @@ fn next_child(
         let e = item(m, rec, i);
         if e.kind == kind {
             if e.owner == owner {
-                let at = i as usize;
+                let at = EACH * (i as usize);
                 return position(ix[at]);
             }
         }
@@ -389,7 +427,7 @@ pub fn child(
         return next_under(m, rec, kind, owner, from);
     }
     if from == 0 {
-        let head = FIRST + 10 * (owner as usize) + kind as usize;
+        let head = EACH * (owner as usize) + FIRST + kind as usize;
         return position(ix[head]);
     }
     next_child(m, rec, text, ix, kind, owner, from)
@@ -436,7 +474,7 @@ pub fn field_declared(m: Model, rec: &[u32], text: &[u8], ix: &[u16], i: u32) ->
     requires { ⌜ Indexed (schemaOf m (now rec) (now text)) (now ix) × (length (schemaOf m (now rec) (now text) .items) ≤ 1024) × (itemAt (schemaOf m (now rec) (now text)) i .kind ≡ aField) ⌝ }
     ensures { λ r. ⌜ r ≡ declarationOf (schemaOf m (now (rec .entry)) (now (text .entry))) (itemAt (schemaOf m (now (rec .entry)) (now (text .entry))) i .second) ⌝ }
 {
-    let at = CHAIN + i as usize;
+    let at = EACH * (i as usize) + CHAIN;
     numbered(number(ix[at]))
 }
 

@@ -22,8 +22,12 @@ use crate::bound::source_most;
 use crate::source::put_source;
 use index::FEW;
 use index::FEW_SIZE;
+use index::LEAST;
+use index::LEAST_SIZE;
 use index::MOST;
 use index::SIZE;
+use index::SOME;
+use index::SOME_SIZE;
 use index::build;
 use refusals::Answer;
 use refusals::Refusal;
@@ -75,8 +79,19 @@ fn generate_in(m: Model, rec: &[u32], text: &[u8], ix: &[u16], out: &mut [u8]) -
 pub fn generate(m: Model, rec: &[u32], text: &[u8], out: &mut [u8]) -> Answer
     ensures { λ r. ⌜ Generated (schemaOf m (now (rec .entry)) (now (text .entry))) (now (out .entry)) (now (out .exit)) r ⌝ }
 {
-    if count(m, rec, text) <= FEW {
+    let n = count(m, rec, text);
+    if n <= LEAST {
+        let mut ix = [0u16; LEAST_SIZE];
+        build(m, rec, text, &mut ix);
+        return generate_in(m, rec, text, &ix, out);
+    }
+    if n <= FEW {
         let mut ix = [0u16; FEW_SIZE];
+        build(m, rec, text, &mut ix);
+        return generate_in(m, rec, text, &ix, out);
+    }
+    if n <= SOME {
+        let mut ix = [0u16; SOME_SIZE];
         build(m, rec, text, &mut ix);
         return generate_in(m, rec, text, &ix, out);
     }

@@ -7,51 +7,55 @@ use Rattle.index.proofs.put_front.Reads as put-front-reads
 use Rattle.xmlschema.proofs.items.count.Reads as count-reads
 use Rattle.xmlschema.proofs.items.item.Reads as item-reads
 
--- src/lib.rt:106:9
+-- src/lib.rt:208:9
 item-requires : tie.Need-item-requires
 item-requires c κs = search laws
 
--- src/lib.rt:108:9
+-- src/lib.rt:210:9
 returns : tie.Need-returns
 returns c = search laws
 
--- src/lib.rt:110:8
+-- src/lib.rt:212:8
 count-requires : tie.Need-count-requires
 count-requires c κs = search laws
 
--- src/lib.rt:111:9
+-- src/lib.rt:213:9
 returns-2 : tie.Need-returns-2
 returns-2 c = search laws
 
--- src/lib.rt:113:30
+-- src/lib.rt:215:24
 cast-head : tie.Need-cast-head
 cast-head c = search laws
 
--- src/lib.rt:113:24
+-- src/lib.rt:215:16
 mul-head : tie.Need-mul-head
 mul-head c = search laws
 
--- src/lib.rt:113:16
+-- src/lib.rt:215:16
 add-head : tie.Need-add-head
 add-head c = search laws
 
--- src/lib.rt:113:50
+-- src/lib.rt:215:52
 cast-head-2 : tie.Need-cast-head-2
 cast-head-2 c = search laws
 
--- src/lib.rt:113:16
+-- src/lib.rt:215:16
 add-head-2 : tie.Need-add-head-2
 add-head-2 c = search laws
 
--- src/lib.rt:115:5
+-- src/lib.rt:216:14
+mul-at : tie.Need-mul-at
+mul-at c = search laws
+
+-- src/lib.rt:217:5
 put-front-requires : tie.Need-put-front-requires
 put-front-requires c κs = search laws
 
--- src/lib.rt:102:1
+-- src/lib.rt:204:1
 same-length : tie.Need-same-length
 same-length c = search laws
 
--- src/lib.rt:102:1
+-- src/lib.rt:204:1
 returns-3 : tie.Need-returns-3
 returns-3 c = search laws
 
@@ -68,6 +72,7 @@ link-item-spec =
     add-head
     cast-head-2
     add-head-2
+    mul-at
     put-front-requires
     same-length
     returns-3)

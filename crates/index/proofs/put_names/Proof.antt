@@ -1,5 +1,5 @@
 use mathlib.Core.Path.{_≡_}
-use Prim.Native.Nat.{_≤_, _-_}
+use Prim.Native.Nat.{_-_, _≤_}
 use lib.ListN.{length}
 use Rattle.xmlschema.specs.Store.{schemaOf}
 use Rattle.index.specs.Index.{Naming}
@@ -17,35 +17,35 @@ Inv-loop m rec text ix₀ n i₀ ix i = Naming (schemaOf m rec text) i ix × (i 
 abbrev μ-loop : tie.MeasureT-loop
 μ-loop m rec text ix₀ n i₀ ix i = n - i
 
--- src/lib.rt:124:9
+-- src/lib.rt:196:9
 count-requires : tie.Need-count-requires Inv-loop μ-loop
 count-requires c κs = search laws
 
--- src/lib.rt:126:5
+-- src/lib.rt:198:5
 loop-holds : tie.Need-loop-holds Inv-loop μ-loop
 loop-holds c = search laws
 
--- src/lib.rt:127:9
+-- src/lib.rt:199:9
 name-item-requires : tie.Need-name-item-requires Inv-loop μ-loop
 name-item-requires c κs = search laws
 
--- src/lib.rt:128:9
+-- src/lib.rt:200:9
 add-i : tie.Need-add-i Inv-loop μ-loop
 add-i c = search laws
 
--- src/lib.rt:126:5
+-- src/lib.rt:198:5
 loop-less : tie.Need-loop-less Inv-loop μ-loop
 loop-less c = search laws
 
--- src/lib.rt:126:5
+-- src/lib.rt:198:5
 loop-again : tie.Need-loop-again Inv-loop μ-loop
 loop-again c = search laws
 
--- src/lib.rt:120:1
+-- src/lib.rt:192:1
 same-length : tie.Need-same-length Inv-loop μ-loop
 same-length c = search laws
 
--- src/lib.rt:120:1
+-- src/lib.rt:192:1
 returns : tie.Need-returns Inv-loop μ-loop
 returns c = search laws
 

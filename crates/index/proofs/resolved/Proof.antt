@@ -6,7 +6,7 @@ use Rattle.index.proofs.resolved.Statement.{statement}
 use Rattle.index.proofs.resolved.Tie as tie
 use Rattle.index.proofs.resolved.Reads as reads
 use Rattle.index.proofs.resolved.Lts as lts
-use Rattle.index.proofs.hash_of.Reads as hash-of-reads
+use Rattle.index.proofs.head_of.Reads as head-of-reads
 use Rattle.index.proofs.kept_at.Reads as kept-at-reads
 use Rattle.index.proofs.word.Reads as word-reads
 
@@ -16,63 +16,63 @@ Inv-loop m rec text ix name kept₀ left₀ p₀ kept left p = Seeking name (sch
 abbrev μ-loop : tie.MeasureT-loop
 μ-loop m rec text ix name kept₀ left₀ p₀ kept left p = p
 
--- src/lib.rt:191:34
-hash-of-requires : tie.Need-hash-of-requires Inv-loop μ-loop
-hash-of-requires c κs = search laws
+-- src/lib.rt:261:26
+head-of-requires : tie.Need-head-of-requires Inv-loop μ-loop
+head-of-requires c κs = search laws
 
--- src/lib.rt:191:26
-add-word : tie.Need-add-word Inv-loop μ-loop
-add-word c = search laws
-
--- src/lib.rt:191:9
+-- src/lib.rt:261:9
 word-requires : tie.Need-word-requires Inv-loop μ-loop
 word-requires c κs = search laws
 
--- src/lib.rt:192:5
+-- src/lib.rt:262:5
 loop-holds : tie.Need-loop-holds Inv-loop μ-loop
 loop-holds c = search laws
 
--- src/lib.rt:194:13
+-- src/lib.rt:264:13
 returns : tie.Need-returns Inv-loop μ-loop
 returns c = search laws
 
--- src/lib.rt:196:9
+-- src/lib.rt:266:9
 sub-left : tie.Need-sub-left Inv-loop μ-loop
 sub-left c = search laws
 
--- src/lib.rt:197:17
+-- src/lib.rt:267:17
 sub-i : tie.Need-sub-i Inv-loop μ-loop
 sub-i c = search laws
 
--- src/lib.rt:198:9
+-- src/lib.rt:268:9
 kept-at-requires : tie.Need-kept-at-requires Inv-loop μ-loop
 kept-at-requires c κs = search laws
 
--- src/lib.rt:200:13
+-- src/lib.rt:270:13
 returns-2 : tie.Need-returns-2 Inv-loop μ-loop
 returns-2 c = search laws
 
--- src/lib.rt:202:30
+-- src/lib.rt:272:30
 cast-word : tie.Need-cast-word Inv-loop μ-loop
 cast-word c = search laws
 
--- src/lib.rt:202:22
-add-word-2 : tie.Need-add-word-2 Inv-loop μ-loop
-add-word-2 c = search laws
+-- src/lib.rt:272:22
+mul-word : tie.Need-mul-word Inv-loop μ-loop
+mul-word c = search laws
 
--- src/lib.rt:202:9
+-- src/lib.rt:272:22
+add-word : tie.Need-add-word Inv-loop μ-loop
+add-word c = search laws
+
+-- src/lib.rt:272:9
 word-requires-2 : tie.Need-word-requires-2 Inv-loop μ-loop
 word-requires-2 c κs = search laws
 
--- src/lib.rt:192:5
+-- src/lib.rt:262:5
 loop-less : tie.Need-loop-less Inv-loop μ-loop
 loop-less c = search laws
 
--- src/lib.rt:192:5
+-- src/lib.rt:262:5
 loop-again : tie.Need-loop-again Inv-loop μ-loop
 loop-again c = search laws
 
--- src/lib.rt:185:1
+-- src/lib.rt:255:1
 returns-3 : tie.Need-returns-3 Inv-loop μ-loop
 returns-3 c = search laws
 
@@ -82,8 +82,7 @@ resolved-spec =
     (tie.spec
     Inv-loop
     μ-loop
-    hash-of-requires
-    add-word
+    head-of-requires
     word-requires
     loop-holds
     returns
@@ -92,7 +91,8 @@ resolved-spec =
     kept-at-requires
     returns-2
     cast-word
-    add-word-2
+    mul-word
+    add-word
     word-requires-2
     loop-less
     loop-again
