@@ -34,7 +34,7 @@ use Rattle.saxlite.proofs.Knowing.{up-each, goes, plainName, known-plai
 -- ---- the numbers of the names that matter
 
 module _ (keys : ℕ) where
-  pub codes-schema : keys ≡ 1 → CodesOf (keysBy keys) (record { first = 2; second = 0; third = 0; fourth = 0 })
+  pub codes-schema : keys ≡ 1 → CodesOf (keysBy keys) (record { first = 2; second = 8; third = 9; fourth = 0 })
   unfolding same
   codes-schema e = rw e (record { first = tt; second = tt; third = tt; fourth = tt })
 
@@ -76,8 +76,8 @@ module _ (name : List ℕ) {b₁ : Bool} (e₁ : b₁ ≡ same name (ascii "mess
 
 -- ---- what is noted
 
-codes-same : (key : List ℕ) (c k : ℕ) → T (codes key c) → 0 < k → k < 14 → eqb k c ≡ same (knownName k) key
-codes-same key c k t h l = agrees (eqb k c) (same (knownName k) key) (up-each 13 (λ k. pick (eqb k c) (same (knownName k) key) (pick (same (knownName k) key) false true)) (and-right (leb c 7) _ t) k h (omega arith))
+codes-same : (key : List ℕ) (c k : ℕ) → T (codes key c) → 0 < k → k < 18 → eqb k c ≡ same (knownName k) key
+codes-same key c k t h l = agrees (eqb k c) (same (knownName k) key) (up-each 17 (λ k. pick (eqb k c) (same (knownName k) key) (pick (same (knownName k) key) false true)) (and-right (leb c 9) _ t) k h (omega arith))
   where
     agrees : (a b : Bool) → T (pick a b (pick b false true)) → a ≡ b
     agrees true true u = refl
@@ -106,7 +106,7 @@ plain-space (b ∷ s) t = is-not (isXmlns (b ∷ s)) (and-right (all goes s) (no
     is-not true u = absurd u
     is-not false u = refl
 
-module _ (code : ℕ) (h : 0 < code) (l : code < 14) (value len : ℕ) (key : List ℕ) (c was long : ℕ) (t : T (codes key c)) where
+module _ (code : ℕ) (h : 0 < code) (l : code < 18) (value len : ℕ) (key : List ℕ) (c was long : ℕ) (t : T (codes key c)) where
   known-noted : {m : Bool} → m ≡ eqb code c → {y z : ℕ} → y ≡ pick m (value + 1) was → z ≡ pick m len long → foundAt y z ≡ later (valueIfNamed (knownName code) value len key) (foundAt was long)
   known-noted {m} e hy hz =
       let s = e ∙ codes-same key c code t h l in
@@ -114,7 +114,7 @@ module _ (code : ℕ) (h : 0 < code) (l : code < 14) (value len : ℕ) (key : Li
       (by-test m (λ t. rw (hy, hz, t) (found-value value len)) (λ t. rw (hy, hz, t) refl))
 
 -- each m is what the comparison with a number says
-module _ (code : ℕ) (h : 0 < code) (l : code < 14) (value len : ℕ) (was : Notes) (cs : Codes) where
+module _ (code : ℕ) (h : 0 < code) (l : code < 18) (value len : ℕ) (was : Notes) (cs : Codes) where
   pub known-more :
       {m₁ m₂ m₃ m₄ : Bool} → m₁ ≡ eqb code (cs .first) → m₂ ≡ eqb code (cs .second) → m₃ ≡ eqb code (cs .third) → m₄ ≡ eqb code (cs .fourth) →
       {r : Notes} → r .first ≡ pick m₁ (value + 1) (was .first) → r .len1 ≡ pick m₁ len (was .len1) → r .second ≡ pick m₂ (value + 1) (was .second) → r .len2 ≡ pick m₂ len (was .len2) → r .third ≡ pick m₃ (value + 1) (was .third) → r .len3 ≡ pick m₃ len (was .len3) → r .fourth ≡ pick m₄ (value + 1) (was .fourth) → r .len4 ≡ pick m₄ len (was .len4) →
@@ -128,7 +128,7 @@ module _ (code : ℕ) (h : 0 < code) (l : code < 14) (value len : ℕ) (was : No
       }
 
 -- a name that matters in no tag changes nothing
-pub known-past : (code : ℕ) → 7 < code → code < 14 → (value len : ℕ) (was : Notes) (cs : Codes) (k : Keys) → CodesOf k cs → NotedMore (knownName code) value len k was was
+pub known-past : (code : ℕ) → 9 < code → code < 18 → (value len : ℕ) (was : Notes) (cs : Codes) (k : Keys) → CodesOf k cs → NotedMore (knownName code) value len k was was
 known-past code h l value len was cs k t =
     record {
       first = past (k .first) (cs .first) (was .first) (was .len1) (t .first);
@@ -139,11 +139,11 @@ known-past code h l value len was cs k t =
   where
     past : (key : List ℕ) (c x y : ℕ) → T (codes key c) → foundAt x y ≡ later (valueIfNamed (knownName code) value len key) (foundAt x y)
     past key c x y u =
-        let n : code ≡ c → ⊥ = λ e. omega (arith, leb→le c 7 (and-left (leb c 7) _ u)) in
+        let n : code ≡ c → ⊥ = λ e. omega (arith, leb→le c 9 (and-left (leb c 9) _ u)) in
         known-noted code (omega arith) l value len key c x y u (sym (ne-eqb code c n)) refl refl
 
 module _ {doc : List ℕ} {name n code : ℕ} (e : NamedAs doc name n code) (h : 0 < code) where
-  pub named-below : code < 14
+  pub named-below : code < 18
   named-below = e .named h .0
 
   pub by-name : (value len : ℕ) {was r : Notes} {cs : Codes} {k : Keys} → ((j : Keys) → CodesOf j cs → NotedMore (knownName code) value len j was r) → CodesOf k cs → NotedMore (piece doc name n) value len k was r

@@ -59,9 +59,9 @@ abbrev pub plainName : List ℕ → Bool
 plainName [] = false
 plainName (b ∷ s) = goes b and all goes s and not (isXmlns (b ∷ s))
 
-pub known-plain : (code : ℕ) → 0 < code → code < 14 → T (plainName (knownName code))
+pub known-plain : (code : ℕ) → 0 < code → code < 18 → T (plainName (knownName code))
 unfolding isAttributeNameEnd isTagNameEnd isSpace all isXmlns same startsWith
-known-plain code h l = up-each 13 (λ k. plainName (knownName k)) tt code h (omega arith)
+known-plain code h l = up-each 17 (λ k. plainName (knownName k)) tt code h (omega arith)
 
 module _ (b : ℕ) (t : T (goes b)) where
   goes-not : isAttributeNameEnd b ≡ false
@@ -138,7 +138,7 @@ module _ (doc : List ℕ) (at place : ℕ) {i : ℕ} (e : i ≡ scan isSpace doc
 
 -- ---- the same for a known attribute
 
-quoted-named : (doc : List ℕ) (i code value place : ℕ) (n : ℕ) → code < 14 → piece doc i n ≡ knownName code → Named doc code (quotedAt 34 doc i n value place)
+quoted-named : (doc : List ℕ) (i code value place : ℕ) (n : ℕ) → code < 18 → piece doc i n ≡ knownName code → Named doc code (quotedAt 34 doc i n value place)
 unfolding quotedAt
 quoted-named doc i code value place n h e = pick-by (Named doc code) (ltb (scan (until (is 34)) doc value) (length doc)) (λ t. (h, e)) (λ f. tt)
 

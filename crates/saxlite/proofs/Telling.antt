@@ -15,7 +15,7 @@ use Rattle.saxlite.specs.Known.{knownName, knownText, KnownAt, ToldShort
 
 -- ---- the comparison with one name
 
-module _ (doc : List ℕ) (at code len : ℕ) (l : code < 14) (e : len ≡ length (knownName code)) where
+module _ (doc : List ℕ) (at code len : ℕ) (l : code < 18) (e : len ≡ length (knownName code)) where
   known-yes : startsWith (knownText code) (drop at doc) ≡ true → KnownAt doc at (record { code = code; len = len })
   known-yes t = record { numbered = l; stands = λ h. t; length = λ h. e }
 
@@ -28,6 +28,9 @@ module _ (doc : List ℕ) (at : ℕ) {code len : ℕ} {b : Bool} where
 
 pub known-encoding : (doc : List ℕ) (at : ℕ) {b : Bool} → b ≡ startsWith (ascii "characterEncoding=\"") (drop at doc) → b ≡ true → KnownAt doc at (record { code = 7; len = 17 })
 known-encoding doc at e t = known-yes doc at 7 17 (lit< tt) refl (sym e ∙ t)
+
+pub known-version : (doc : List ℕ) (at : ℕ) {b : Bool} → b ≡ startsWith (ascii "semanticVersion=\"") (drop at doc) → b ≡ true → KnownAt doc at (record { code = 17; len = 15 })
+known-version doc at e t = known-yes doc at 17 15 (lit< tt) refl (sym e ∙ t)
 
 pub told-name : ToldShort 1 4 281474976710656 37647090016622
 unfolding wordOf
@@ -53,29 +56,41 @@ pub told-encodingtype : ToldLong 6 12 7453010313431182949 281474976710656 376470
 unfolding wordOf
 told-encodingtype = record { below = lit< tt; long = refl; text = record { eight = refl; number = refl; bytes = tt; rest = record { few = leb→le 6 8 tt; power = refl; number = refl; bytes = tt } } }
 
-pub told-description : ToldLong 8 11 8390322045806929252 1099511627776 147059535721
+pub told-description : ToldLong 10 11 8390322045806929252 1099511627776 147059535721
 unfolding wordOf
 told-description = record { below = lit< tt; long = refl; text = record { eight = refl; number = refl; bytes = tt; rest = record { few = leb→le 5 8 tt; power = refl; number = refl; bytes = tt } } }
 
-pub told-semantictype : ToldLong 9 12 7163384699739268467 281474976710656 37647090219348
+pub told-semantictype : ToldLong 11 12 7163384699739268467 281474976710656 37647090219348
 unfolding wordOf
 told-semantictype = record { below = lit< tt; long = refl; text = record { eight = refl; number = refl; bytes = tt; rest = record { few = leb→le 6 8 tt; power = refl; number = refl; bytes = tt } } }
 
-pub told-offset : ToldLong 10 6 2467256149945509487 1 0
+pub told-offset : ToldLong 12 6 2467256149945509487 1 0
 unfolding wordOf
 told-offset = record { below = lit< tt; long = refl; text = record { eight = refl; number = refl; bytes = tt; rest = record { few = leb→le 0 8 tt; power = refl; number = refl; bytes = tt } } }
 
-pub told-blocklength : ToldLong 11 11 7954848340933307490 1099511627776 147059143783
+pub told-blocklength : ToldLong 13 11 7954848340933307490 1099511627776 147059143783
 unfolding wordOf
 told-blocklength = record { below = lit< tt; long = refl; text = record { eight = refl; number = refl; bytes = tt; rest = record { few = leb→le 5 8 tt; power = refl; number = refl; bytes = tt } } }
 
-pub told-presence : ToldLong 12 8 7305804402531857008 65536 8765
+pub told-presence : ToldLong 14 8 7305804402531857008 65536 8765
 unfolding wordOf
 told-presence = record { below = lit< tt; long = refl; text = record { eight = refl; number = refl; bytes = tt; rest = record { few = leb→le 2 8 tt; power = refl; number = refl; bytes = tt } } }
 
-pub told-sinceversion : ToldLong 13 12 8243089686431426931 281474976710656 37647241144691
+pub told-sinceversion : ToldLong 15 12 8243089686431426931 281474976710656 37647241144691
 unfolding wordOf
 told-sinceversion = record { below = lit< tt; long = refl; text = record { eight = refl; number = refl; bytes = tt; rest = record { few = leb→le 6 8 tt; power = refl; number = refl; bytes = tt } } }
+
+pub told-version : ToldLong 8 7 4426597982450902390 256 34
+unfolding wordOf
+told-version = record { below = lit< tt; long = refl; text = record { eight = refl; number = refl; bytes = tt; rest = record { few = leb→le 1 8 tt; power = refl; number = refl; bytes = tt } } }
+
+pub told-package : ToldLong 9 7 4424055877072544112 256 34
+unfolding wordOf
+told-package = record { below = lit< tt; long = refl; text = record { eight = refl; number = refl; bytes = tt; rest = record { few = leb→le 1 8 tt; power = refl; number = refl; bytes = tt } } }
+
+pub told-byteorder : ToldLong 16 9 7306090180831902050 16777216 2243954
+unfolding wordOf
+told-byteorder = record { below = lit< tt; long = refl; text = record { eight = refl; number = refl; bytes = tt; rest = record { few = leb→le 3 8 tt; power = refl; number = refl; bytes = tt } } }
 
 pub known-none : (doc : List ℕ) (at : ℕ) {r : Known} → r ≡ record { code = 0; len = 0 } → KnownAt doc at r
 known-none doc at e = rw e (record { numbered = lit< tt; stands = λ h. absurd (omega arith); length = λ h. absurd (omega arith) })

@@ -24,7 +24,7 @@ nth (w ∷ ws) zero = w
 nth (w ∷ ws) (suc k) = nth ws k
 
 abbrev pub knownName : ℕ → List ℕ
-knownName = nth ([] ∷ ascii "name" ∷ ascii "id" ∷ ascii "type" ∷ ascii "length" ∷ ascii "primitiveType" ∷ ascii "encodingType" ∷ ascii "characterEncoding" ∷ ascii "description" ∷ ascii "semanticType" ∷ ascii "offset" ∷ ascii "blockLength" ∷ ascii "presence" ∷ ascii "sinceVersion" ∷ [])
+knownName = nth ([] ∷ ascii "name" ∷ ascii "id" ∷ ascii "type" ∷ ascii "length" ∷ ascii "primitiveType" ∷ ascii "encodingType" ∷ ascii "characterEncoding" ∷ ascii "version" ∷ ascii "package" ∷ ascii "description" ∷ ascii "semanticType" ∷ ascii "offset" ∷ ascii "blockLength" ∷ ascii "presence" ∷ ascii "sinceVersion" ∷ ascii "byteOrder" ∷ ascii "semanticVersion" ∷ [])
 
 -- as it is nearly always written
 abbrev pub knownText : ℕ → List ℕ
@@ -32,18 +32,18 @@ knownText code = knownName code ++ ascii "=\""
 
 -- r is none, or what stands at `at`
 pub record KnownAt (doc : List ℕ) (at : ℕ) (r : Known) : Type 0 where
-  pub numbered : r .code < 14
+  pub numbered : r .code < 18
   pub stands : 0 < r .code → startsWith (knownText (r .code)) (drop at doc) ≡ true
   pub length : 0 < r .code → r .len ≡ length (knownName (r .code))
 
 -- the numbers by which such a text is told by words
 pub record ToldShort (code len modulus front : ℕ) : Type 0 where
-  pub below : code < 14
+  pub below : code < 18
   pub long : len ≡ length (knownName code)
   pub text : ShortText (knownText code) modulus front
 
 pub record ToldLong (code len front modulus back : ℕ) : Type 0 where
-  pub below : code < 14
+  pub below : code < 18
   pub long : len ≡ length (knownName code)
   pub text : LongText (knownText code) front modulus back
 
@@ -57,9 +57,9 @@ abbrev pub upTo : ℕ → (ℕ → Bool) → Bool
 upTo zero p = true
 upTo (suc n) p = p (suc n) and upTo n p
 
--- c is the number of the key, or of none where the key is not known; the names up to 7 are those that matter in some tag
+-- c is the number of the key, or of none where the key is not known; the names up to 9 are those that matter in some tag
 abbrev pub codes : List ℕ → ℕ → Bool
-codes key c = leb c 7 and upTo 13 (λ k. pick (eqb k c) (same (knownName k) key) (pick (same (knownName k) key) false true))
+codes key c = leb c 9 and upTo 17 (λ k. pick (eqb k c) (same (knownName k) key) (pick (same (knownName k) key) false true))
 
 pub record CodesOf (k : Keys) (c : Codes) : Type 0 where
   pub first : T (codes (k .first) (c .first))
@@ -71,7 +71,7 @@ pub record CodesOf (k : Keys) (c : Codes) : Type 0 where
 
 -- the attribute has the name of that number
 abbrev pub Named : List ℕ → ℕ → TagPart → Type 0
-Named doc code (Part name n value len next) = (code < 14) × (piece doc name n ≡ knownName code)
+Named doc code (Part name n value len next) = (code < 18) × (piece doc name n ≡ knownName code)
 Named doc code (TagEnd next closed) = Unit {0}
 Named doc code (Bad refusal) = Unit {0}
 
@@ -81,7 +81,7 @@ pub record QuickAt (doc : List ℕ) (at place : ℕ) (r : Quick) : Type 0 where
 
 -- a raw name is that of the number
 pub record NamedAs (doc : List ℕ) (name n code : ℕ) : Type 0 where
-  pub named : 0 < code → (code < 14) × (piece doc name n ≡ knownName code)
+  pub named : 0 < code → (code < 18) × (piece doc name n ≡ knownName code)
 
 -- what is noted under the four names after one more attribute with that raw name
 pub record NotedMore (raw : List ℕ) (value len : ℕ) (k : Keys) (was r : Notes) : Type 0 where

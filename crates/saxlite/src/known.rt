@@ -28,8 +28,8 @@ pub fn codes_of(keys: usize) -> Codes
     match keys {
         1 => Codes {
             first: 2,
-            second: 0,
-            third: 0,
+            second: 8,
+            third: 9,
             fourth: 0,
         },
         2 => Codes {
@@ -89,7 +89,7 @@ fn known_long(
     none()
 }
 
-// And for the one that is longer.
+// And for the two that are longer.
 fn known_encoding(doc: &[u8], at: usize) -> Known
     ensures { λ r. ⌜ KnownAt (now (doc .entry)) at r ⌝ }
 {
@@ -99,7 +99,92 @@ fn known_encoding(doc: &[u8], at: usize) -> Known
     none()
 }
 
-// The known attribute that stands at `at`, by its first letter.
+fn known_version(doc: &[u8], at: usize) -> Known
+    ensures { λ r. ⌜ KnownAt (now (doc .entry)) at r ⌝ }
+{
+    if texts::starts_with(doc, at, b"semanticVersion=\"") {
+        return Known { code: 17, len: 15 };
+    }
+    none()
+}
+
+// Where more than one name has a first letter: primitiveType, presence, package.
+fn known_p(doc: &[u8], at: usize) -> Known
+    requires { ⌜ at + 16 ≤ length (now doc) ⌝ }
+    ensures { λ r. ⌜ KnownAt (now (doc .entry)) at r ⌝ }
+{
+    let first = known_long(
+        doc,
+        at,
+        5,
+        13,
+        0x7669_7469_6d69_7270,
+        0x100_0000_0000_0000,
+        0x22_3d65_7079_5465,
+    );
+    if 0 < first.code {
+        return first;
+    }
+    let second = known_long(doc, at, 14, 8, 0x6563_6e65_7365_7270, 0x1_0000, 0x223d);
+    if 0 < second.code {
+        return second;
+    }
+    known_long(doc, at, 9, 7, 0x3d65_6761_6b63_6170, 0x100, 0x22)
+}
+
+// semanticType, sinceVersion, semanticVersion.
+fn known_s(doc: &[u8], at: usize) -> Known
+    requires { ⌜ at + 16 ≤ length (now doc) ⌝ }
+    ensures { λ r. ⌜ KnownAt (now (doc .entry)) at r ⌝ }
+{
+    let first = known_long(
+        doc,
+        at,
+        11,
+        12,
+        0x6369_746e_616d_6573,
+        0x1_0000_0000_0000,
+        0x223d_6570_7954,
+    );
+    if 0 < first.code {
+        return first;
+    }
+    let second = known_long(
+        doc,
+        at,
+        15,
+        12,
+        0x7265_5665_636e_6973,
+        0x1_0000_0000_0000,
+        0x223d_6e6f_6973,
+    );
+    if 0 < second.code {
+        return second;
+    }
+    known_version(doc, at)
+}
+
+// blockLength, byteOrder.
+fn known_b(doc: &[u8], at: usize) -> Known
+    requires { ⌜ at + 16 ≤ length (now doc) ⌝ }
+    ensures { λ r. ⌜ KnownAt (now (doc .entry)) at r ⌝ }
+{
+    let first = known_long(
+        doc,
+        at,
+        13,
+        11,
+        0x6e65_4c6b_636f_6c62,
+        0x100_0000_0000,
+        0x22_3d68_7467,
+    );
+    if 0 < first.code {
+        return first;
+    }
+    known_long(doc, at, 16, 9, 0x6564_724f_6574_7962, 0x100_0000, 0x22_3d72)
+}
+
+// The known attribute that stands at `at`, by its first letter. The numbers are those of the bytes of name, '=' and '"'.
 fn known_by(doc: &[u8], at: usize) -> Known
     requires { ⌜ at + 16 ≤ length (now doc) ⌝ }
     ensures { λ r. ⌜ KnownAt (now (doc .entry)) at r ⌝ }
@@ -111,51 +196,15 @@ fn known_by(doc: &[u8], at: usize) -> Known
         b'd' => known_long(
             doc,
             at,
-            8,
+            10,
             11,
             0x7470_6972_6373_6564,
             0x100_0000_0000,
             0x22_3d6e_6f69,
         ),
-        b'p' => {
-            let first = known_long(
-                doc,
-                at,
-                5,
-                13,
-                0x7669_7469_6d69_7270,
-                0x100_0000_0000_0000,
-                0x22_3d65_7079_5465,
-            );
-            if 0 < first.code {
-                return first;
-            }
-            known_long(doc, at, 12, 8, 0x6563_6e65_7365_7270, 0x1_0000, 0x223d)
-        }
-        b's' => {
-            let first = known_long(
-                doc,
-                at,
-                9,
-                12,
-                0x6369_746e_616d_6573,
-                0x1_0000_0000_0000,
-                0x223d_6570_7954,
-            );
-            if 0 < first.code {
-                return first;
-            }
-            known_long(
-                doc,
-                at,
-                13,
-                12,
-                0x7265_5665_636e_6973,
-                0x1_0000_0000_0000,
-                0x223d_6e6f_6973,
-            )
-        }
-        b'o' => known_long(doc, at, 10, 6, 0x223d_7465_7366_666f, 1, 0),
+        b'p' => known_p(doc, at),
+        b's' => known_s(doc, at),
+        b'o' => known_long(doc, at, 12, 6, 0x223d_7465_7366_666f, 1, 0),
         b'l' => known_long(doc, at, 4, 6, 0x223d_6874_676e_656c, 1, 0),
         b'e' => known_long(
             doc,
@@ -166,16 +215,9 @@ fn known_by(doc: &[u8], at: usize) -> Known
             0x1_0000_0000_0000,
             0x223d_6570_7954,
         ),
-        b'b' => known_long(
-            doc,
-            at,
-            11,
-            11,
-            0x6e65_4c6b_636f_6c62,
-            0x100_0000_0000,
-            0x22_3d68_7467,
-        ),
+        b'b' => known_b(doc, at),
         b'c' => known_encoding(doc, at),
+        b'v' => known_long(doc, at, 8, 7, 0x3d6e_6f69_7372_6576, 0x100, 0x22),
         _ => none(),
     }
 }

@@ -261,11 +261,11 @@ fn noted_with(
 
 // The same with a known attribute.
 fn noted_known(code: usize, codes: Codes, value: usize, len: usize, earlier: Notes) -> Notes
-    requires { ⌜ (0 < code) × (code < 14) × (value < 2 ^ 63) ⌝ }
+    requires { ⌜ (0 < code) × (code < 18) × (value < 2 ^ 63) ⌝ }
     ensures { λ r. ⌜ ((k : Keys) → CodesOf k codes → NotedMore (knownName code) value len k earlier r) ⌝ }
 {
     // Names that matter in no tag.
-    if 7 < code {
+    if 9 < code {
         return earlier;
     }
     let at = value + 1;

@@ -1,4 +1,4 @@
-use Rattle.saxlite.proofs.Laws.{laws}
+use Rattle.saxlite.proofs.Laws.{beginning}
 use Rattle.saxlite.proofs.beginning.begin_at.Statement.{statement}
 use Rattle.saxlite.proofs.beginning.begin_at.Tie as tie
 use Rattle.saxlite.proofs.beginning.begin_at.Reads as reads
@@ -12,55 +12,55 @@ use Rattle.texts.proofs.part.Reads as part-reads
 
 -- src/beginning.rt:147:9
 opening-at-requires : tie.Need-opening-at-requires
-opening-at-requires c κs = search laws
+opening-at-requires c κs = search beginning
 
 -- src/beginning.rt:149:19
 add-end : tie.Need-add-end
-add-end c = search laws
+add-end c = search beginning
 
 -- src/beginning.rt:150:9
 returns : tie.Need-returns
-returns c = search laws
+returns c = search beginning
 
 -- src/beginning.rt:156:13
 table-requires : tie.Need-table-requires
-table-requires c κs = search laws
+table-requires c κs = search beginning
 
 -- src/beginning.rt:157:9
 tag-name-end-requires : tie.Need-tag-name-end-requires
-tag-name-end-requires c κs = search laws
+tag-name-end-requires c κs = search beginning
 
 -- src/beginning.rt:158:13
 sub-n : tie.Need-sub-n
-sub-n c = search laws
+sub-n c = search beginning
 
 -- src/beginning.rt:159:27
 part-requires : tie.Need-part-requires
-part-requires c κs = search laws
+part-requires c κs = search beginning
 
 -- src/beginning.rt:159:9
 prefix-len-requires : tie.Need-prefix-len-requires
-prefix-len-requires c κs = search laws
+prefix-len-requires c κs = search beginning
 
 -- src/beginning.rt:160:17
 add-local : tie.Need-add-local
-add-local c = search laws
+add-local c = search beginning
 
 -- src/beginning.rt:161:15
 sub-len : tie.Need-sub-len
-sub-len c = search laws
+sub-len c = search beginning
 
 -- src/beginning.rt:162:24
 part-requires-2 : tie.Need-part-requires-2
-part-requires-2 c κs = search laws
+part-requires-2 c κs = search beginning
 
 -- src/beginning.rt:162:9
 keys-of-requires : tie.Need-keys-of-requires
-keys-of-requires c κs = search laws
+keys-of-requires c κs = search beginning
 
 -- src/beginning.rt:143:1
 returns-2 : tie.Need-returns-2
-returns-2 c = search laws
+returns-2 c = search beginning
 
 pub begin-at-spec : {M : Type 1} → statement M
 begin-at-spec =

@@ -1,4 +1,4 @@
-use Rattle.saxlite.proofs.Laws.{laws}
+use Rattle.saxlite.proofs.Laws.{beginning}
 use Rattle.saxlite.proofs.beginning.opening_at.Statement.{statement}
 use Rattle.saxlite.proofs.beginning.opening_at.Tie as tie
 use Rattle.saxlite.proofs.beginning.opening_at.Reads as reads
@@ -8,31 +8,31 @@ use Rattle.saxlite.proofs.beginning.opening_by.Reads as opening-by-read
 
 -- src/beginning.rt:134:9
 none-requires : tie.Need-none-requires
-none-requires c κs = search laws
+none-requires c κs = search beginning
 
 -- src/beginning.rt:134:9
 returns : tie.Need-returns
-returns c = search laws
+returns c = search beginning
 
 -- src/beginning.rt:136:8
 sub-if2 : tie.Need-sub-if2
-sub-if2 c = search laws
+sub-if2 c = search beginning
 
 -- src/beginning.rt:137:9
 none-requires-2 : tie.Need-none-requires-2
-none-requires-2 c κs = search laws
+none-requires-2 c κs = search beginning
 
 -- src/beginning.rt:137:9
 returns-2 : tie.Need-returns-2
-returns-2 c = search laws
+returns-2 c = search beginning
 
 -- src/beginning.rt:139:5
 opening-by-requires : tie.Need-opening-by-requires
-opening-by-requires c κs = search laws
+opening-by-requires c κs = search beginning
 
 -- src/beginning.rt:130:1
 returns-3 : tie.Need-returns-3
-returns-3 c = search laws
+returns-3 c = search beginning
 
 pub opening-at-spec : {M : Type 1} → statement M
 opening-at-spec =

@@ -1,4 +1,4 @@
-use Rattle.saxlite.proofs.Laws.{laws}
+use Rattle.saxlite.proofs.Laws.{beginning}
 use Rattle.saxlite.proofs.beginning.opening_long.Statement.{statement}
 use Rattle.saxlite.proofs.beginning.opening_long.Tie as tie
 use Rattle.saxlite.proofs.beginning.opening_long.Reads as reads
@@ -8,19 +8,19 @@ use Rattle.words.proofs.stands_long.Reads as stands-long-reads
 
 -- src/beginning.rt:79:8
 stands-long-requires : tie.Need-stands-long-requires
-stands-long-requires c κs = search laws
+stands-long-requires c κs = search beginning
 
 -- src/beginning.rt:80:9
 returns : tie.Need-returns
-returns c = search laws
+returns c = search beginning
 
 -- src/beginning.rt:87:5
 none-requires : tie.Need-none-requires
-none-requires c κs = search laws
+none-requires c κs = search beginning
 
 -- src/beginning.rt:66:1
 returns-2 : tie.Need-returns-2
-returns-2 c = search laws
+returns-2 c = search beginning
 
 pub opening-long-spec : {M : Type 1} → statement M
 opening-long-spec = tie.close (tie.spec stands-long-requires returns none-requires returns-2)
