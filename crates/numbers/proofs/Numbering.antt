@@ -7,7 +7,7 @@ use Prim.Native.Nat.{ℕ, suc, _+_, _-_, _*_, _≤_, _<_}
 use native.Mathlib.Numerals.{add-one}
 use native.Mathlib.Omega.{arith}
 use lib.Dec.{eqb, leb}
-use lib.ListN.{length, drop, getD, length-drop, drop-of-length-le}
+use lib.ListN.{length, take, drop, getD, length-drop, drop-of-length-le}
 use lib.Seq.{drop-cons, take-all}
 use borrow.Author.Tests.{le-leb, lt-leb, eq-eqb, ne-eqb}
 use Rattle.texts.specs.Choice.{pick, _and_}
@@ -122,3 +122,21 @@ pub number-plain : (s : List ℕ) {r : Number} → (length s ≡ 0 → ⊥) → 
 unfolding numberOf unsigned
 number-plain [] h n er = absurd (h refl)
 number-plain (b ∷ s) h n er = er ∙ sym (rw (ne-eqb b 43 n))
+
+-- ---- one digit
+
+digit-alone : (b : ℕ) → 48 ≤ b → b ≤ 57 → Value (b - 48) ≡ parsed (numberOf (some (b ∷ [])))
+unfolding digitsOf
+digit-alone b h k =
+    let z : 10 * 0 + (b - 48) ≡ b - 48 = omega arith in
+    let e : boundedFrom 0 (b ∷ []) ≡ some (10 * 0 + (b - 48)) = bounded-on 0 b [] (digit-yes b h k) ∙ bounded-end (10 * 0 + (b - 48)) (omega arith) in
+    number-plain (b ∷ []) (λ l. omega arith) (λ l. omega arith) (ap parsed (sym (e ∙ ap some z)))
+
+module _ (s : List ℕ) (at : ℕ) where
+  pub digit-none : (n : ℕ) → Bad ≡ Value n → Bad ≡ parsed (numberOf (some (piece s at 1)))
+  digit-none n e = absurd (let z : _≡_ {A = ℕ} 0 1 = cc in omega arith)
+
+  pub digit-said : {b : ℕ} → at < length s → b ≡ getD s at 0 → 48 ≤ b → b ≤ 57 → (n : ℕ) → Value (b - 48) ≡ Value n → Value (b - 48) ≡ parsed (numberOf (some (piece s at 1)))
+  digit-said {b} h e k l n v =
+      let p : piece s at 1 ≡ b ∷ [] = ap (take 1) (drop-cons s at 0 h) ∙ ap (λ x. x ∷ []) (sym e) in
+      digit-alone b k l ∙ ap (λ t. parsed (numberOf (some t))) (sym p)

@@ -5,7 +5,10 @@
 use texts::part;
 ghost use mathlib.Core.Path.{_≡_};
 ghost use mathlib.Core.Option.{some};
+ghost use Prim.Native.Nat.{ℕ};
+ghost use Rattle.texts.specs.Text.{piece};
 ghost use Rattle.numbers.specs.Numbers.{digitsOf, numberOf, parsed};
+ghost use Rattle.numbers.specs.declared.Number.the-variants.{Value};
 
 pub enum Number {
     Value(u32),
@@ -57,4 +60,22 @@ pub fn number_of(s: &[u8]) -> Number
         return digits(part(s, 1, s.len()));
     }
     digits(s)
+}
+
+// The number that the one byte at a place says, where it is a digit; else nothing is said.
+pub fn digit_at(s: &[u8], at: usize) -> Number
+    ensures { λ r. ⌜ ((n : ℕ) → r ≡ Value n → r ≡ parsed (numberOf (some (piece (now (s .entry)) at 1)))) ⌝ }
+{
+    if s.len() <= at {
+        return Number::Bad;
+    }
+    let b = wide(s[at]);
+    if b < 48 {
+        return Number::Bad;
+    }
+    if 57 < b {
+        return Number::Bad;
+    }
+    let n = b - 48;
+    Number::Value(n as u32)
 }

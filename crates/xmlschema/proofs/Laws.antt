@@ -3,7 +3,7 @@ use borrow.Author.Needs.{needs}
 use Rattle.texts.proofs.Pieces.{byte-past}
 use Rattle.xmlschema.proofs.Showing.{count-shown, item-shown, no-item-shown, package-shown, name-shown, second-shown, encoding-shown}
 use Rattle.xmlschema.proofs.Searching.{kind-and, kind-named, kind-not, seeking-start, seeking-on, next-none, next-found, next-under-none, next-under-found, backward-start, named-on, last-none, last-found, any-start, any-on, any-none, any-found}
-use Rattle.xmlschema.proofs.Takes.{value-least, value-room, taken-absent, taken-value, number-absent, number-value, number-told, number-fits, number-at, given-not, given-yes, made-named, made-typed, made-type}
+use Rattle.xmlschema.proofs.Takes.{value-least, value-room, taken-absent, taken-value, number-absent, number-value, number-told, digit-told, number-fits, number-at, given-not, given-yes, made-named, made-typed, made-type}
 use Rattle.xmlschema.proofs.Stacking.{top-none, top-some, top-here, top-same, pop-none, pop-kept}
 use Rattle.xmlschema.proofs.Adding.{after-refused, after-same, add-full, add-fine, made-kept, made-steady, made-added, made-low, made-high}
 use Rattle.xmlschema.proofs.Opening.{number-room, high-text, high-top, ready-high, type-ready, named-ready, field-ready, enum-ready, number-ready, number-kept, bad-message, bad-group, bad-field, bad-type, bad-id, bad-version, ref-dropped, member-dropped, group-dropped, field-dropped, ref-on, composite-on, enum-on, value-on, value-lost, member-on, type-on, message-on, group-on, field-message, field-group, field-misplaced}
@@ -15,7 +15,7 @@ use Rattle.xmlschema.proofs.Stepping.{step-text, step-open, step-close,
 
 pub ruleset laws = (byte-past, count-shown, item-shown, no-item-shown, package-shown, name-shown, second-shown, encoding-shown, kind-and, kind-named, kind-not, seeking-start, seeking-on, next-none, next-found, next-under-none, next-under-found, backward-start, named-on, last-none, last-found, any-start, any-on, any-none, any-found, needs)
 
-pub ruleset taking = (value-least, value-room, taken-absent, taken-value, number-absent, number-value, number-told, number-fits, number-at, given-not, given-yes, made-named, made-typed, made-type, needs)
+pub ruleset taking = (value-least, value-room, taken-absent, taken-value, number-absent, number-value, number-told, digit-told, number-fits, number-at, given-not, given-yes, made-named, made-typed, made-type, needs)
 
 pub ruleset stacking = (top-none, top-some, top-here, top-same, pop-none, needs)
 

@@ -140,6 +140,12 @@ number-told doc text low {from = from} {len = len} e {w} ew er {n} en =
       scratch = record { alike = λ h k. alike-self; long = refl };
     })
 
+-- one digit; r is what stands there
+pub digit-told : (doc text : List ℕ) (low : ℕ) {f : Found} {from len : ℕ} → f ≡ Value from len → len ≡ 1
+    → {r : Number} → ((n : ℕ) → r ≡ number.Value n → r ≡ parsed (numberOf (some (piece doc from 1)))) → {n : ℕ} → r ≡ number.Value n → ReadAt f doc low text (number.Value n) text
+digit-told doc text low {from = from} {len = len} e el q {n} en =
+    number-told doc text low e (ap (piece doc from) (sym el)) (q n en) en
+
 -- whether a value is there
 pub given-not : {f : Found} → f ≡ Absent → (doc : List ℕ) → eqb 0 1 ≡ isGiven (valueIn doc f)
 given-not e doc = rw e

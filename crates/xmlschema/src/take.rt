@@ -1,6 +1,7 @@
 // Attribute values taken into the text buffer, from its top downwards; numbers read on the way.
 use crate::items::Entry;
 use numbers::Number;
+use numbers::digit_at;
 use numbers::number_of;
 use saxlite::entities::decode_room;
 use saxlite::tag::Found;
@@ -89,17 +90,33 @@ fn decoded_number(doc: &[u8], from: usize, len: usize, text: &mut [u8], low: usi
     number_of(part(text, low, n))
 }
 
-// The value that was found as a number. What is one as it stands has nothing to decode.
+// A piece of the document as a number. What is one as it stands has nothing to decode.
+fn piece_number(doc: &[u8], from: usize, len: usize, text: &mut [u8], low: usize) -> Number
+    requires { ⌜ low + len ≤ length (now text) ⌝ }
+    ensures { λ r. ⌜ ReadAt (Value from len) (now (doc .entry)) low (now (text .entry)) r (now (text .exit)) ⌝ }
+{
+    match number_of(part(doc, from, len)) {
+        Number::Value(n) => Number::Value(n),
+        Number::Bad => decoded_number(doc, from, len, text, low),
+    }
+}
+
+// The value that was found as a number. Most are one digit.
 pub fn read_number(doc: &[u8], found: Found, text: &mut [u8], low: usize) -> Number
     requires { ⌜ low + rawLength found ≤ length (now text) ⌝ }
     ensures { λ r. ⌜ ReadAt found (now (doc .entry)) low (now (text .entry)) r (now (text .exit)) ⌝ }
 {
     match found {
         Found::Absent => Number::Value(0),
-        Found::Value { from, len } => match number_of(part(doc, from, len)) {
-            Number::Value(n) => Number::Value(n),
-            Number::Bad => decoded_number(doc, from, len, text, low),
-        },
+        Found::Value { from, len } => {
+            if len == 1 {
+                match digit_at(doc, from) {
+                    Number::Value(n) => return Number::Value(n),
+                    Number::Bad => return piece_number(doc, from, len, text, low),
+                }
+            }
+            piece_number(doc, from, len, text, low)
+        }
     }
 }
 
