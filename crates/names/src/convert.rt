@@ -112,20 +112,28 @@ fn store_snake(out: &mut [u8], at: usize, t: &[u8; 256], name: &[u8]) -> usize
     d + i
 }
 
-pub fn put_snake(out: &mut [u8], at: usize, name: &[u8]) -> usize
+// Who prints many names makes the table once and lends it.
+pub fn put_snake_in(out: &mut [u8], at: usize, t: &[u8; 256], name: &[u8]) -> usize
+    requires { ⌜ IsTable (now t) ⌝ }
     ensures { λ r. ⌜ Printed (now (out .entry)) at (now (out .exit)) r (camelToSnake (now (name .entry))) ⌝ }
 {
-    let t = table();
     if surely_fits(out.len(), at, name.len()) {
-        return store_snake(out, at, &t, name);
+        return store_snake(out, at, t, name);
     }
     let mut p = at;
     let mut i = 0;
     while i < name.len() {
-        p = put_snake_at(out, p, &t, name, i);
+        p = put_snake_at(out, p, t, name, i);
         i += 1;
     }
     p
+}
+
+pub fn put_snake(out: &mut [u8], at: usize, name: &[u8]) -> usize
+    ensures { λ r. ⌜ Printed (now (out .entry)) at (now (out .exit)) r (camelToSnake (now (name .entry))) ⌝ }
+{
+    let t = table();
+    put_snake_in(out, at, &t, name)
 }
 
 // ---- Screaming
@@ -178,20 +186,27 @@ fn store_screaming(out: &mut [u8], at: usize, t: &[u8; 256], name: &[u8]) -> usi
     d + i
 }
 
-pub fn put_screaming(out: &mut [u8], at: usize, name: &[u8]) -> usize
+pub fn put_screaming_in(out: &mut [u8], at: usize, t: &[u8; 256], name: &[u8]) -> usize
+    requires { ⌜ IsTable (now t) ⌝ }
     ensures { λ r. ⌜ Printed (now (out .entry)) at (now (out .exit)) r (camelToScreamingSnake (now (name .entry))) ⌝ }
 {
-    let t = table();
     if surely_fits(out.len(), at, name.len()) {
-        return store_screaming(out, at, &t, name);
+        return store_screaming(out, at, t, name);
     }
     let mut p = at;
     let mut i = 0;
     while i < name.len() {
-        p = put_screaming_at(out, p, &t, name, i);
+        p = put_screaming_at(out, p, t, name, i);
         i += 1;
     }
     p
+}
+
+pub fn put_screaming(out: &mut [u8], at: usize, name: &[u8]) -> usize
+    ensures { λ r. ⌜ Printed (now (out .entry)) at (now (out .exit)) r (camelToScreamingSnake (now (name .entry))) ⌝ }
+{
+    let t = table();
+    put_screaming_in(out, at, &t, name)
 }
 
 // ---- back from snake

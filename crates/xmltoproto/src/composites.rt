@@ -19,6 +19,7 @@ ghost use mathlib.Core.List.{[]};
 ghost use Prim.Native.Nat.{_+_};
 ghost use Rattle.texts.specs.Choice.{pick};
 ghost use Rattle.texts.specs.Lists.{each, numbered};
+ghost use Rattle.classes.specs.Table.{IsTable};
 ghost use Rattle.printing.specs.Printed.{Printed};
 ghost use Rattle.xmlschema.specs.Schema.{itemAt, under, aMember, aRef};
 ghost use Rattle.index.specs.Index.{Indexed};
@@ -30,17 +31,20 @@ ghost use Rattle.xmltoproto.specs.Parts.{Members};
 fn put_member(
     out: &mut [u8],
     at: usize,
+    t: &[u8; 256],
     m: Model,
     rec: &[u32],
     text: &[u8],
     i: u32,
     number: u32,
 ) -> usize
+    requires { ⌜ IsTable (now t) ⌝ }
     ensures { λ r. ⌜ Printed (now (out .entry)) at (now (out .exit)) r (memberText number (itemAt (schemaOf m (now (rec .entry)) (now (text .entry))) i)) ⌝ }
 {
     put_typed(
         out,
         at,
+        t,
         m,
         rec,
         text,
@@ -54,17 +58,29 @@ fn put_member(
 fn put_ref(
     out: &mut [u8],
     at: usize,
+    t: &[u8; 256],
     m: Model,
     rec: &[u32],
     text: &[u8],
     i: u32,
     number: u32,
 ) -> usize
+    requires { ⌜ IsTable (now t) ⌝ }
     ensures { λ r. ⌜ Printed (now (out .entry)) at (now (out .exit)) r (refText number (itemAt (schemaOf m (now (rec .entry)) (now (text .entry))) i)) ⌝ }
 {
     let type_name = second_at(m, rec, text, i);
     let name = name_at(m, rec, text, i);
-    put_line(out, at, b"  ", Shape::Plain, type_name, b"", name, number)
+    put_line(
+        out,
+        at,
+        t,
+        b"  ",
+        Shape::Plain,
+        type_name,
+        b"",
+        name,
+        number,
+    )
 }
 
 // How many members a composite has.
@@ -92,13 +108,14 @@ fn members_in(m: Model, rec: &[u32], text: &[u8], ix: &[u16], c: u32) -> u32
 fn put_members(
     out: &mut [u8],
     at: usize,
+    t: &[u8; 256],
     m: Model,
     rec: &[u32],
     text: &[u8],
     ix: &[u16],
     c: u32,
 ) -> usize
-    requires { ⌜ Indexed (schemaOf m (now rec) (now text)) (now ix) ⌝ }
+    requires { ⌜ IsTable (now t) × Indexed (schemaOf m (now rec) (now text)) (now ix) ⌝ }
     ensures { λ r. ⌜ Printed (now (out .entry)) at (now (out .exit)) r (numbered (λ n i. memberText n (itemAt (schemaOf m (now (rec .entry)) (now (text .entry))) i)) 1 (under aMember c (schemaOf m (now (rec .entry)) (now (text .entry))))) ⌝ }
 {
     let n = count(m, rec, text);
@@ -109,7 +126,7 @@ fn put_members(
         match child(m, rec, text, ix, MEMBER, c, from) {
             Position::At(i) => {
                 k += 1;
-                p = put_member(out, p, m, rec, text, i, k);
+                p = put_member(out, p, t, m, rec, text, i, k);
                 from = i + 1;
             }
             Position::Nothing => {
@@ -124,6 +141,7 @@ fn put_members(
 fn put_refs(
     out: &mut [u8],
     at: usize,
+    t: &[u8; 256],
     m: Model,
     rec: &[u32],
     text: &[u8],
@@ -131,7 +149,7 @@ fn put_refs(
     c: u32,
     members: u32,
 ) -> usize
-    requires { ⌜ Members (schemaOf m (now rec) (now text)) c members × Indexed (schemaOf m (now rec) (now text)) (now ix) ⌝ }
+    requires { ⌜ IsTable (now t) × Members (schemaOf m (now rec) (now text)) c members × Indexed (schemaOf m (now rec) (now text)) (now ix) ⌝ }
     ensures { λ r. ⌜ Printed (now (out .entry)) at (now (out .exit)) r (numbered (λ n i. refText n (itemAt (schemaOf m (now (rec .entry)) (now (text .entry))) i)) (members + 1) (under aRef c (schemaOf m (now (rec .entry)) (now (text .entry))))) ⌝ }
 {
     let n = count(m, rec, text);
@@ -142,7 +160,7 @@ fn put_refs(
         match child(m, rec, text, ix, REF, c, from) {
             Position::At(i) => {
                 k += 1;
-                p = put_ref(out, p, m, rec, text, i, k);
+                p = put_ref(out, p, t, m, rec, text, i, k);
                 from = i + 1;
             }
             Position::Nothing => {
@@ -156,36 +174,38 @@ fn put_refs(
 fn put_parts(
     out: &mut [u8],
     at: usize,
+    t: &[u8; 256],
     m: Model,
     rec: &[u32],
     text: &[u8],
     ix: &[u16],
     c: u32,
 ) -> usize
-    requires { ⌜ Indexed (schemaOf m (now rec) (now text)) (now ix) ⌝ }
+    requires { ⌜ IsTable (now t) × Indexed (schemaOf m (now rec) (now text)) (now ix) ⌝ }
     ensures { λ r. ⌜ Printed (now (out .entry)) at (now (out .exit)) r (partTexts (schemaOf m (now (rec .entry)) (now (text .entry))) c) ⌝ }
 {
     let members = members_in(m, rec, text, ix, c);
-    let p = put_members(out, at, m, rec, text, ix, c);
-    put_refs(out, p, m, rec, text, ix, c, members)
+    let p = put_members(out, at, t, m, rec, text, ix, c);
+    put_refs(out, p, t, m, rec, text, ix, c, members)
 }
 
 fn put_composite(
     out: &mut [u8],
     at: usize,
+    t: &[u8; 256],
     m: Model,
     rec: &[u32],
     text: &[u8],
     ix: &[u16],
     c: u32,
 ) -> usize
-    requires { ⌜ Indexed (schemaOf m (now rec) (now text)) (now ix) ⌝ }
+    requires { ⌜ IsTable (now t) × Indexed (schemaOf m (now rec) (now text)) (now ix) ⌝ }
     ensures { λ r. ⌜ Printed (now (out .entry)) at (now (out .exit)) r (compositeText (schemaOf m (now (rec .entry)) (now (text .entry))) c) ⌝ }
 {
     let p = put_bytes(out, at, b"message ");
     let p = put_bytes(out, p, name_at(m, rec, text, c));
     let p = put_bytes(out, p, b" {\n");
-    let p = put_parts(out, p, m, rec, text, ix, c);
+    let p = put_parts(out, p, t, m, rec, text, ix, c);
     put_bytes(out, p, b"}\n\n")
 }
 
@@ -203,17 +223,18 @@ pub fn is_printed(m: Model, rec: &[u32], text: &[u8], c: u32) -> bool
 fn put_composite_if_printed(
     out: &mut [u8],
     at: usize,
+    t: &[u8; 256],
     m: Model,
     rec: &[u32],
     text: &[u8],
     ix: &[u16],
     c: u32,
 ) -> usize
-    requires { ⌜ Indexed (schemaOf m (now rec) (now text)) (now ix) ⌝ }
+    requires { ⌜ IsTable (now t) × Indexed (schemaOf m (now rec) (now text)) (now ix) ⌝ }
     ensures { λ r. ⌜ Printed (now (out .entry)) at (now (out .exit)) r (pick (isPrinted (itemAt (schemaOf m (now (rec .entry)) (now (text .entry))) c)) (compositeText (schemaOf m (now (rec .entry)) (now (text .entry))) c) []) ⌝ }
 {
     if is_printed(m, rec, text, c) {
-        return put_composite(out, at, m, rec, text, ix, c);
+        return put_composite(out, at, t, m, rec, text, ix, c);
     }
     at
 }
@@ -221,12 +242,13 @@ fn put_composite_if_printed(
 pub fn put_composites(
     out: &mut [u8],
     at: usize,
+    t: &[u8; 256],
     m: Model,
     rec: &[u32],
     text: &[u8],
     ix: &[u16],
 ) -> usize
-    requires { ⌜ Indexed (schemaOf m (now rec) (now text)) (now ix) ⌝ }
+    requires { ⌜ IsTable (now t) × Indexed (schemaOf m (now rec) (now text)) (now ix) ⌝ }
     ensures { λ r. ⌜ Printed (now (out .entry)) at (now (out .exit)) r (each (compositeText (schemaOf m (now (rec .entry)) (now (text .entry)))) (printedComposites (schemaOf m (now (rec .entry)) (now (text .entry))))) ⌝ }
 {
     let n = count(m, rec, text);
@@ -235,7 +257,7 @@ pub fn put_composites(
     while from < n {
         match next_of(m, rec, COMPOSITE, from) {
             Position::At(i) => {
-                p = put_composite_if_printed(out, p, m, rec, text, ix, i);
+                p = put_composite_if_printed(out, p, t, m, rec, text, ix, i);
                 from = i + 1;
             }
             Position::Nothing => {

@@ -1,9 +1,10 @@
 // One line of a message: its note, type, name, number and option.
 use crate::types::Shape;
 use escaping::put_quoted;
-use names::convert::put_snake;
+use names::convert::put_snake_in;
 use printing::put_bytes;
 use printing::put_decimal;
+ghost use Rattle.classes.specs.Table.{IsTable};
 ghost use Rattle.printing.specs.Printed.{Printed};
 ghost use Rattle.names.specs.Conversions.{camelToSnake};
 ghost use Rattle.xmltoproto.specs.Source.{noteLine, bracketed, line};
@@ -78,6 +79,7 @@ fn put_option(out: &mut [u8], at: usize, shape: Shape, primitive: &[u8]) -> usiz
 pub fn put_line(
     out: &mut [u8],
     at: usize,
+    t: &[u8; 256],
     indent: &[u8],
     shape: Shape,
     primitive: &[u8],
@@ -85,13 +87,14 @@ pub fn put_line(
     name: &[u8],
     number: u32,
 ) -> usize
+    requires { ⌜ IsTable (now t) ⌝ }
     ensures { λ r. ⌜ Printed (now (out .entry)) at (now (out .exit)) r (line (now (indent .entry)) (protoIn shape (now (primitive .entry)) (now (encoding .entry))) (camelToSnake (now (name .entry))) number) ⌝ }
 {
     let p = put_note(out, at, indent, shape, encoding);
     let p = put_bytes(out, p, indent);
     let p = put_word(out, p, shape, primitive);
     let p = put_bytes(out, p, b" ");
-    let p = put_snake(out, p, name);
+    let p = put_snake_in(out, p, t, name);
     let p = put_bytes(out, p, b" = ");
     let p = put_decimal(out, p, number);
     let p = put_option(out, p, shape, primitive);

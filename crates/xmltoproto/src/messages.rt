@@ -10,7 +10,7 @@ use crate::view::number_at;
 use crate::view::second_at;
 use index::child;
 use names::convert::put_singular;
-use names::convert::put_snake;
+use names::convert::put_snake_in;
 use printing::put_bytes;
 use printing::put_decimal;
 use xmlschema::items::FIELD;
@@ -21,6 +21,7 @@ use xmlschema::items::Position;
 use xmlschema::items::count;
 use xmlschema::items::next_of;
 ghost use Rattle.texts.specs.Lists.{each};
+ghost use Rattle.classes.specs.Table.{IsTable};
 ghost use Rattle.printing.specs.Printed.{Printed};
 ghost use Rattle.xmlschema.specs.Schema.{itemAt, under, allOf, aMessage, aGroup, aField};
 ghost use Rattle.index.specs.Index.{Indexed};
@@ -31,6 +32,7 @@ ghost use Rattle.xmltoproto.specs.Parts.{groupHead};
 fn put_field(
     out: &mut [u8],
     at: usize,
+    t: &[u8; 256],
     m: Model,
     rec: &[u32],
     text: &[u8],
@@ -38,26 +40,47 @@ fn put_field(
     indent: &[u8],
     i: u32,
 ) -> usize
-    requires { ⌜ Indexed (schemaOf m (now rec) (now text)) (now ix) ⌝ }
+    requires { ⌜ IsTable (now t) × Indexed (schemaOf m (now rec) (now text)) (now ix) ⌝ }
     ensures { λ r. ⌜ Printed (now (out .entry)) at (now (out .exit)) r (fieldText (schemaOf m (now (rec .entry)) (now (text .entry))) (now (indent .entry)) (itemAt (schemaOf m (now (rec .entry)) (now (text .entry))) i)) ⌝ }
 {
     let type_name = second_at(m, rec, text, i);
     let name = name_at(m, rec, text, i);
     let number = number_at(m, rec, text, i);
     match sense_in(m, rec, text, ix, i) {
-        Sense::Declared => put_line(out, at, indent, Shape::Plain, type_name, b"", name, number),
-        Sense::Typed(t) => put_typed(out, at, m, rec, text, indent, t, name, number),
+        Sense::Declared => put_line(
+            out,
+            at,
+            t,
+            indent,
+            Shape::Plain,
+            type_name,
+            b"",
+            name,
+            number,
+        ),
+        Sense::Typed(k) => put_typed(out, at, t, m, rec, text, indent, k, name, number),
         Sense::BuiltIn => {
             let shape = shape_of(type_name, 0, b"");
-            put_line(out, at, indent, shape, type_name, b"", name, number)
+            put_line(out, at, t, indent, shape, type_name, b"", name, number)
         }
-        Sense::Unknown => put_line(out, at, indent, Shape::Plain, type_name, b"", name, number),
+        Sense::Unknown => put_line(
+            out,
+            at,
+            t,
+            indent,
+            Shape::Plain,
+            type_name,
+            b"",
+            name,
+            number,
+        ),
     }
 }
 
 fn put_fields(
     out: &mut [u8],
     at: usize,
+    t: &[u8; 256],
     m: Model,
     rec: &[u32],
     text: &[u8],
@@ -65,7 +88,7 @@ fn put_fields(
     indent: &[u8],
     owner: u32,
 ) -> usize
-    requires { ⌜ Indexed (schemaOf m (now rec) (now text)) (now ix) ⌝ }
+    requires { ⌜ IsTable (now t) × Indexed (schemaOf m (now rec) (now text)) (now ix) ⌝ }
     ensures { λ r. ⌜ Printed (now (out .entry)) at (now (out .exit)) r (each (λ f. fieldText (schemaOf m (now (rec .entry)) (now (text .entry))) (now (indent .entry)) (itemAt (schemaOf m (now (rec .entry)) (now (text .entry))) f)) (under aField owner (schemaOf m (now (rec .entry)) (now (text .entry))))) ⌝ }
 {
     let n = count(m, rec, text);
@@ -74,7 +97,7 @@ fn put_fields(
     while from < n {
         match child(m, rec, text, ix, FIELD, owner, from) {
             Position::At(i) => {
-                p = put_field(out, p, m, rec, text, ix, indent, i);
+                p = put_field(out, p, t, m, rec, text, ix, indent, i);
                 from = i + 1;
             }
             Position::Nothing => {
@@ -88,39 +111,41 @@ fn put_fields(
 fn put_group_head(
     out: &mut [u8],
     at: usize,
+    t: &[u8; 256],
     m: Model,
     rec: &[u32],
     text: &[u8],
     ix: &[u16],
     g: u32,
 ) -> usize
-    requires { ⌜ Indexed (schemaOf m (now rec) (now text)) (now ix) ⌝ }
+    requires { ⌜ IsTable (now t) × Indexed (schemaOf m (now rec) (now text)) (now ix) ⌝ }
     ensures { λ r. ⌜ Printed (now (out .entry)) at (now (out .exit)) r (groupHead (schemaOf m (now (rec .entry)) (now (text .entry))) g) ⌝ }
 {
     let p = put_bytes(out, at, b"  message ");
     let p = put_singular(out, p, name_at(m, rec, text, g));
     let p = put_bytes(out, p, b" {\n");
-    put_fields(out, p, m, rec, text, ix, b"    ", g)
+    put_fields(out, p, t, m, rec, text, ix, b"    ", g)
 }
 
 fn put_group(
     out: &mut [u8],
     at: usize,
+    t: &[u8; 256],
     m: Model,
     rec: &[u32],
     text: &[u8],
     ix: &[u16],
     g: u32,
 ) -> usize
-    requires { ⌜ Indexed (schemaOf m (now rec) (now text)) (now ix) ⌝ }
+    requires { ⌜ IsTable (now t) × Indexed (schemaOf m (now rec) (now text)) (now ix) ⌝ }
     ensures { λ r. ⌜ Printed (now (out .entry)) at (now (out .exit)) r (groupText (schemaOf m (now (rec .entry)) (now (text .entry))) g) ⌝ }
 {
     let name = name_at(m, rec, text, g);
-    let p = put_group_head(out, at, m, rec, text, ix, g);
+    let p = put_group_head(out, at, t, m, rec, text, ix, g);
     let p = put_bytes(out, p, b"  }\n  repeated ");
     let p = put_singular(out, p, name);
     let p = put_bytes(out, p, b" ");
-    let p = put_snake(out, p, name);
+    let p = put_snake_in(out, p, t, name);
     let p = put_bytes(out, p, b" = ");
     let p = put_decimal(out, p, number_at(m, rec, text, g));
     put_bytes(out, p, b";\n")
@@ -129,13 +154,14 @@ fn put_group(
 fn put_groups(
     out: &mut [u8],
     at: usize,
+    t: &[u8; 256],
     m: Model,
     rec: &[u32],
     text: &[u8],
     ix: &[u16],
     owner: u32,
 ) -> usize
-    requires { ⌜ Indexed (schemaOf m (now rec) (now text)) (now ix) ⌝ }
+    requires { ⌜ IsTable (now t) × Indexed (schemaOf m (now rec) (now text)) (now ix) ⌝ }
     ensures { λ r. ⌜ Printed (now (out .entry)) at (now (out .exit)) r (each (groupText (schemaOf m (now (rec .entry)) (now (text .entry)))) (under aGroup owner (schemaOf m (now (rec .entry)) (now (text .entry))))) ⌝ }
 {
     let n = count(m, rec, text);
@@ -144,7 +170,7 @@ fn put_groups(
     while from < n {
         match child(m, rec, text, ix, GROUP, owner, from) {
             Position::At(i) => {
-                p = put_group(out, p, m, rec, text, ix, i);
+                p = put_group(out, p, t, m, rec, text, ix, i);
                 from = i + 1;
             }
             Position::Nothing => {
@@ -158,13 +184,14 @@ fn put_groups(
 fn put_message(
     out: &mut [u8],
     at: usize,
+    t: &[u8; 256],
     m: Model,
     rec: &[u32],
     text: &[u8],
     ix: &[u16],
     i: u32,
 ) -> usize
-    requires { ⌜ Indexed (schemaOf m (now rec) (now text)) (now ix) ⌝ }
+    requires { ⌜ IsTable (now t) × Indexed (schemaOf m (now rec) (now text)) (now ix) ⌝ }
     ensures { λ r. ⌜ Printed (now (out .entry)) at (now (out .exit)) r (messageText (schemaOf m (now (rec .entry)) (now (text .entry))) i) ⌝ }
 {
     let p = put_bytes(out, at, b"message ");
@@ -172,20 +199,21 @@ fn put_message(
     let p = put_bytes(out, p, b" {\n  option (sbe.template_id) = ");
     let p = put_decimal(out, p, number_at(m, rec, text, i));
     let p = put_bytes(out, p, b";\n");
-    let p = put_fields(out, p, m, rec, text, ix, b"  ", i);
-    let p = put_groups(out, p, m, rec, text, ix, i);
+    let p = put_fields(out, p, t, m, rec, text, ix, b"  ", i);
+    let p = put_groups(out, p, t, m, rec, text, ix, i);
     put_bytes(out, p, b"}\n\n")
 }
 
 pub fn put_messages(
     out: &mut [u8],
     at: usize,
+    t: &[u8; 256],
     m: Model,
     rec: &[u32],
     text: &[u8],
     ix: &[u16],
 ) -> usize
-    requires { ⌜ Indexed (schemaOf m (now rec) (now text)) (now ix) ⌝ }
+    requires { ⌜ IsTable (now t) × Indexed (schemaOf m (now rec) (now text)) (now ix) ⌝ }
     ensures { λ r. ⌜ Printed (now (out .entry)) at (now (out .exit)) r (each (messageText (schemaOf m (now (rec .entry)) (now (text .entry)))) (allOf aMessage (schemaOf m (now (rec .entry)) (now (text .entry))))) ⌝ }
 {
     let n = count(m, rec, text);
@@ -194,7 +222,7 @@ pub fn put_messages(
     while from < n {
         match next_of(m, rec, MESSAGE, from) {
             Position::At(i) => {
-                p = put_message(out, p, m, rec, text, ix, i);
+                p = put_message(out, p, t, m, rec, text, ix, i);
                 from = i + 1;
             }
             Position::Nothing => {

@@ -7,6 +7,7 @@ use crate::enums::put_enums;
 use crate::messages::put_messages;
 use crate::view::id_of;
 use crate::view::version_of;
+use classes::table;
 use printing::put_bytes;
 use printing::put_decimal;
 use xmlschema::items::Model;
@@ -54,8 +55,9 @@ pub fn put_source(
     requires { ⌜ Indexed (schemaOf m (now rec) (now text)) (now ix) ⌝ }
     ensures { λ r. ⌜ Printed (now (out .entry)) at (now (out .exit)) r (source (schemaOf m (now (rec .entry)) (now (text .entry)))) ⌝ }
 {
+    let t = table();
     let p = put_header(out, at, m, rec, text);
-    let p = put_enums(out, p, m, rec, text, ix);
-    let p = put_composites(out, p, m, rec, text, ix);
-    put_messages(out, p, m, rec, text, ix)
+    let p = put_enums(out, p, &t, m, rec, text, ix);
+    let p = put_composites(out, p, &t, m, rec, text, ix);
+    put_messages(out, p, &t, m, rec, text, ix)
 }

@@ -5,6 +5,7 @@ use crate::view::encoding_at;
 use crate::view::second_at;
 use crate::view::size_at;
 use xmlschema::items::Model;
+ghost use Rattle.classes.specs.Table.{IsTable};
 ghost use Rattle.printing.specs.Printed.{Printed};
 ghost use Rattle.names.specs.Conversions.{camelToSnake};
 ghost use Rattle.xmlschema.specs.Schema.{itemAt};
@@ -16,6 +17,7 @@ ghost use Rattle.xmltoproto.specs.Source.{line};
 pub fn put_typed(
     out: &mut [u8],
     at: usize,
+    t: &[u8; 256],
     m: Model,
     rec: &[u32],
     text: &[u8],
@@ -24,10 +26,11 @@ pub fn put_typed(
     name: &[u8],
     number: u32,
 ) -> usize
+    requires { ⌜ IsTable (now t) ⌝ }
     ensures { λ r. ⌜ Printed (now (out .entry)) at (now (out .exit)) r (line (now (indent .entry)) (protoOf (formOf (itemAt (schemaOf m (now (rec .entry)) (now (text .entry))) i))) (camelToSnake (now (name .entry))) number) ⌝ }
 {
     let primitive = second_at(m, rec, text, i);
     let encoding = encoding_at(m, rec, text, i);
     let shape = shape_of(primitive, size_at(m, rec, text, i), encoding);
-    put_line(out, at, indent, shape, primitive, encoding, name, number)
+    put_line(out, at, t, indent, shape, primitive, encoding, name, number)
 }

@@ -18,10 +18,10 @@ use Rattle.xmlschema.proofs.items.next_of.Reads as next-of-reads
 use Rattle.xmltoproto.proofs.composites.put_composite_if_printed.Reads as put-composite-if-printed-reads
 
 abbrev Inv-loop : tie.InvT-loop
-Inv-loop out₀ at m rec text ix n p₀ from₀ out p from = Walking (λ c. pick (isPrinted (itemAt (schemaOf m rec text) c)) (compositeText (schemaOf m rec text) c) []) (allOf aComposite (schemaOf m rec text)) (ofKind aComposite) (schemaOf m rec text) from out₀ at out p
+Inv-loop out₀ at t m rec text ix n p₀ from₀ out p from = Walking (λ c. pick (isPrinted (itemAt (schemaOf m rec text) c)) (compositeText (schemaOf m rec text) c) []) (allOf aComposite (schemaOf m rec text)) (ofKind aComposite) (schemaOf m rec text) from out₀ at out p
 
 abbrev μ-loop : tie.MeasureT-loop
-μ-loop out₀ at m rec text ix n p₀ from₀ out p from = n - from
+μ-loop out₀ at t m rec text ix n p₀ from₀ out p from = n - from
 
 -- src/composites.rt:192:9
 count-requires : tie.Need-count-requires Inv-loop μ-loop

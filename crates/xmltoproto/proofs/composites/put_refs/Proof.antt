@@ -15,10 +15,10 @@ use Rattle.index.proofs.child.Reads as child-reads
 use Rattle.xmltoproto.proofs.composites.put_ref.Reads as put-ref-reads
 
 abbrev Inv-loop : tie.InvT-loop
-Inv-loop out₀ at m rec text ix c members n p₀ k₀ from₀ out p k from = Numbering (λ n i. refText n (itemAt (schemaOf m rec text) i)) members (under aRef c (schemaOf m rec text)) (underOwner aRef c) (schemaOf m rec text) n k from out₀ at out p
+Inv-loop out₀ at t m rec text ix c members n p₀ k₀ from₀ out p k from = Numbering (λ n i. refText n (itemAt (schemaOf m rec text) i)) members (under aRef c (schemaOf m rec text)) (underOwner aRef c) (schemaOf m rec text) n k from out₀ at out p
 
 abbrev μ-loop : tie.MeasureT-loop
-μ-loop out₀ at m rec text ix c members n p₀ k₀ from₀ out p k from = n - from
+μ-loop out₀ at t m rec text ix c members n p₀ k₀ from₀ out p k from = n - from
 
 -- src/composites.rt:125:9
 count-requires : tie.Need-count-requires Inv-loop μ-loop

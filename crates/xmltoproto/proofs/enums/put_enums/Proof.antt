@@ -15,10 +15,10 @@ use Rattle.xmlschema.proofs.items.next_of.Reads as next-of-reads
 use Rattle.xmltoproto.proofs.enums.put_enum.Reads as put-enum-reads
 
 abbrev Inv-loop : tie.InvT-loop
-Inv-loop out₀ at m rec text ix n p₀ from₀ out p from = Walking (enumText (schemaOf m rec text)) (allOf anEnum (schemaOf m rec text)) (ofKind anEnum) (schemaOf m rec text) from out₀ at out p
+Inv-loop out₀ at t m rec text ix n p₀ from₀ out p from = Walking (enumText (schemaOf m rec text)) (allOf anEnum (schemaOf m rec text)) (ofKind anEnum) (schemaOf m rec text) from out₀ at out p
 
 abbrev μ-loop : tie.MeasureT-loop
-μ-loop out₀ at m rec text ix n p₀ from₀ out p from = n - from
+μ-loop out₀ at t m rec text ix n p₀ from₀ out p from = n - from
 
 -- src/enums.rt:90:9
 count-requires : tie.Need-count-requires Inv-loop μ-loop

@@ -7,7 +7,7 @@ use Rattle.xmltoproto.proofs.enums.put_value.Statement.{statement}
 use Rattle.xmltoproto.proofs.enums.put_value.Tie as tie
 use Rattle.xmltoproto.proofs.enums.put_value.Reads as reads
 use Rattle.xmltoproto.proofs.enums.put_value.Lts as lts
-use Rattle.names.proofs.convert.put_screaming.Reads as put-screaming-reads
+use Rattle.names.proofs.convert.put_screaming_in.Reads as put-screaming-in-reads
 use Rattle.printing.proofs.put_bytes.Reads as put-bytes-reads
 use Rattle.xmltoproto.proofs.enums.put_known_prefix.Reads as put-known-prefix-reads
 use Rattle.xmltoproto.proofs.view.name_at.Reads as name-at-reads
@@ -26,15 +26,15 @@ put-known-prefix-requires : tie.Need-put-known-prefix-requires
 put-known-prefix-requires c κs =
     let at-put-bytes = c .before .before .before in
     let start = at-put-bytes .before .before .before .before .before .before .before in
-    (start .pre .0, standing-kept (omega arith) (start .pre .1) (at-put-bytes .put-bytes .ensures))
+    (start .pre .0, standing-kept (omega arith) (start .pre .1) (at-put-bytes .put-bytes .ensures), start .pre .2)
 
 -- src/enums.rt:67:35
 name-at-requires : tie.Need-name-at-requires
 name-at-requires c κs = search laws
 
 -- src/enums.rt:67:9
-put-screaming-requires : tie.Need-put-screaming-requires
-put-screaming-requires c κs = search laws
+put-screaming-in-requires : tie.Need-put-screaming-in-requires
+put-screaming-in-requires c κs = search laws
 
 -- src/enums.rt:68:31
 slice-aggregate-put-bytes-2 : tie.Need-slice-aggregate-put-bytes-2
@@ -71,7 +71,7 @@ returns c =
     let at-name-at = at-put-screaming .before in
     let at-put-known-prefix = at-name-at .before .before .before .before in
     let at-put-bytes = at-put-known-prefix .before .before .before .before in
-    value-printed _ _ (at-name-at .name-at .ensures) (at-second-at .second-at .ensures) ((at-put-bytes .put-bytes .ensures) ▸ (at-put-known-prefix .put-known-prefix .ensures) ▸ (at-put-screaming .put-screaming .ensures) ▸ (at-put-bytes2 .put-bytes2 .ensures) ▸ (at-put-bytes3 .put-bytes3 .ensures) ▸ (at-put-bytes4 .put-bytes4 .ensures))
+    value-printed _ _ (at-name-at .name-at .ensures) (at-second-at .second-at .ensures) ((at-put-bytes .put-bytes .ensures) ▸ (at-put-known-prefix .put-known-prefix .ensures) ▸ (at-put-screaming .put-screaming-in .ensures) ▸ (at-put-bytes2 .put-bytes2 .ensures) ▸ (at-put-bytes3 .put-bytes3 .ensures) ▸ (at-put-bytes4 .put-bytes4 .ensures))
 
 -- src/enums.rt:51:1
 same-length : tie.Need-same-length
@@ -85,7 +85,7 @@ put-value-spec =
     put-bytes-requires
     put-known-prefix-requires
     name-at-requires
-    put-screaming-requires
+    put-screaming-in-requires
     slice-aggregate-put-bytes-2
     put-bytes-requires-2
     second-at-requires

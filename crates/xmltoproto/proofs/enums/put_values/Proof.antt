@@ -21,12 +21,12 @@ use Rattle.xmltoproto.proofs.enums.put_prefix.Reads as put-prefix-reads
 use Rattle.xmltoproto.proofs.enums.put_value.Reads as put-value-reads
 
 abbrev Inv-loop : tie.InvT-loop
-Inv-loop out₀ at m rec text ix name e width n stood₀ p₀ from₀ out stood p from =
+Inv-loop out₀ at t m rec text ix name e width n stood₀ p₀ from₀ out stood p from =
     Walking (λ v. valueText name (itemAt (schemaOf m rec text) v)) (under aValue e (schemaOf m rec text)) (underOwner aValue e) (schemaOf m rec text) from out₀ at out p
     × Standing (prefixOf name) out stood p
 
 abbrev μ-loop : tie.MeasureT-loop
-μ-loop out₀ at m rec text ix name e width n stood₀ p₀ from₀ out stood p from = n - from
+μ-loop out₀ at t m rec text ix name e width n stood₀ p₀ from₀ out stood p from = n - from
 
 -- src/enums.rt:87:28
 slice-aggregate-put-prefix : tie.Need-slice-aggregate-put-prefix Inv-loop μ-loop

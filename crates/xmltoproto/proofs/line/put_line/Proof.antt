@@ -5,7 +5,7 @@ use Rattle.xmltoproto.proofs.line.put_line.Statement.{statement}
 use Rattle.xmltoproto.proofs.line.put_line.Tie as tie
 use Rattle.xmltoproto.proofs.line.put_line.Reads as reads
 use Rattle.xmltoproto.proofs.line.put_line.Lts as lts
-use Rattle.names.proofs.convert.put_snake.Reads as put-snake-reads
+use Rattle.names.proofs.convert.put_snake_in.Reads as put-snake-in-reads
 use Rattle.printing.proofs.put_bytes.Reads as put-bytes-reads
 use Rattle.printing.proofs.put_decimal.Reads as put-decimal-reads
 use Rattle.xmltoproto.proofs.line.put_note.Reads as put-note-reads
@@ -33,8 +33,8 @@ put-bytes-requires-2 : tie.Need-put-bytes-requires-2
 put-bytes-requires-2 c κs = search laws
 
 -- src/line.rt:95:9
-put-snake-requires : tie.Need-put-snake-requires
-put-snake-requires c κs = search laws
+put-snake-in-requires : tie.Need-put-snake-in-requires
+put-snake-in-requires c κs = search laws
 
 -- src/line.rt:96:31
 slice-aggregate-put-bytes-2 : tie.Need-slice-aggregate-put-bytes-2
@@ -73,7 +73,7 @@ returns c =
     let at-put-word = at-put-bytes2 .before .before .before .before .before in
     let at-put-bytes = at-put-word .before .before .before .before in
     let at-put-note = at-put-bytes .before .before .before .before in
-    (at-put-note .put-note .ensures) ▸ (at-put-bytes .put-bytes .ensures) ▸ (at-put-word .put-word .ensures) ▸ (at-put-bytes2 .put-bytes2 .ensures) ▸ (at-put-snake .put-snake .ensures) ▸ (at-put-bytes3 .put-bytes3 .ensures) ▸ (at-put-decimal .put-decimal .ensures) ▸ (at-put-option .put-option .ensures) ▸ (at-put-bytes4 .put-bytes4 .ensures)
+    (at-put-note .put-note .ensures) ▸ (at-put-bytes .put-bytes .ensures) ▸ (at-put-word .put-word .ensures) ▸ (at-put-bytes2 .put-bytes2 .ensures) ▸ (at-put-snake .put-snake-in .ensures) ▸ (at-put-bytes3 .put-bytes3 .ensures) ▸ (at-put-decimal .put-decimal .ensures) ▸ (at-put-option .put-option .ensures) ▸ (at-put-bytes4 .put-bytes4 .ensures)
 
 -- src/line.rt:79:1
 same-length : tie.Need-same-length
@@ -88,7 +88,7 @@ put-line-spec =
     put-word-requires
     slice-aggregate-put-bytes
     put-bytes-requires-2
-    put-snake-requires
+    put-snake-in-requires
     slice-aggregate-put-bytes-2
     put-bytes-requires-3
     put-decimal-requires

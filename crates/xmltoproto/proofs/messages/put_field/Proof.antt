@@ -40,8 +40,8 @@ put-line-requires : tie.Need-put-line-requires
 put-line-requires c κs = search laws
 
 -- src/messages.rt:46:22
-enum-known-t : tie.Need-enum-known-t
-enum-known-t c = search laws
+enum-known-k : tie.Need-enum-known-k
+enum-known-k c = search laws
 
 -- src/messages.rt:46:28
 put-typed-requires : tie.Need-put-typed-requires
@@ -122,7 +122,7 @@ put-field-spec =
     enum-told
     slice-aggregate-put-line
     put-line-requires
-    enum-known-t
+    enum-known-k
     put-typed-requires
     enum-told-2
     slice-aggregate-shape-of

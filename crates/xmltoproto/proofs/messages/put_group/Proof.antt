@@ -6,7 +6,7 @@ use Rattle.xmltoproto.proofs.messages.put_group.Tie as tie
 use Rattle.xmltoproto.proofs.messages.put_group.Reads as reads
 use Rattle.xmltoproto.proofs.messages.put_group.Lts as lts
 use Rattle.names.proofs.convert.put_singular.Reads as put-singular-reads
-use Rattle.names.proofs.convert.put_snake.Reads as put-snake-reads
+use Rattle.names.proofs.convert.put_snake_in.Reads as put-snake-in-reads
 use Rattle.printing.proofs.put_bytes.Reads as put-bytes-reads
 use Rattle.printing.proofs.put_decimal.Reads as put-decimal-reads
 use Rattle.xmltoproto.proofs.messages.put_group_head.Reads as put-group-head-reads
@@ -42,8 +42,8 @@ put-bytes-requires-2 : tie.Need-put-bytes-requires-2
 put-bytes-requires-2 c κs = search laws
 
 -- src/messages.rt:100:9
-put-snake-requires : tie.Need-put-snake-requires
-put-snake-requires c κs = search laws
+put-snake-in-requires : tie.Need-put-snake-in-requires
+put-snake-in-requires c κs = search laws
 
 -- src/messages.rt:101:31
 slice-aggregate-put-bytes-3 : tie.Need-slice-aggregate-put-bytes-3
@@ -82,7 +82,7 @@ returns c =
     let at-put-bytes = at-put-singular .before .before .before .before in
     let at-put-group-head = at-put-bytes .before .before .before .before .before in
     let at-name-at = at-put-group-head .before .before in
-    group-printed _ _ (at-name-at .name-at .ensures) (at-number-at .number-at .ensures) ((at-put-group-head .put-group-head .ensures) ▸ (at-put-bytes .put-bytes .ensures) ▸ (at-put-singular .put-singular .ensures) ▸ (at-put-bytes2 .put-bytes2 .ensures) ▸ (at-put-snake .put-snake .ensures) ▸ (at-put-bytes3 .put-bytes3 .ensures) ▸ (at-put-decimal .put-decimal .ensures) ▸ (at-put-bytes4 .put-bytes4 .ensures))
+    group-printed _ _ (at-name-at .name-at .ensures) (at-number-at .number-at .ensures) ((at-put-group-head .put-group-head .ensures) ▸ (at-put-bytes .put-bytes .ensures) ▸ (at-put-singular .put-singular .ensures) ▸ (at-put-bytes2 .put-bytes2 .ensures) ▸ (at-put-snake .put-snake-in .ensures) ▸ (at-put-bytes3 .put-bytes3 .ensures) ▸ (at-put-decimal .put-decimal .ensures) ▸ (at-put-bytes4 .put-bytes4 .ensures))
 
 -- src/messages.rt:92:1
 same-length : tie.Need-same-length
@@ -99,7 +99,7 @@ put-group-spec =
     put-singular-requires
     slice-aggregate-put-bytes-2
     put-bytes-requires-2
-    put-snake-requires
+    put-snake-in-requires
     slice-aggregate-put-bytes-3
     put-bytes-requires-3
     number-at-requires

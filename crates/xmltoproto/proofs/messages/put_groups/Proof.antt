@@ -15,10 +15,10 @@ use Rattle.index.proofs.child.Reads as child-reads
 use Rattle.xmltoproto.proofs.messages.put_group.Reads as put-group-reads
 
 abbrev Inv-loop : tie.InvT-loop
-Inv-loop out₀ at m rec text ix owner n p₀ from₀ out p from = Walking (groupText (schemaOf m rec text)) (under aGroup owner (schemaOf m rec text)) (underOwner aGroup owner) (schemaOf m rec text) from out₀ at out p
+Inv-loop out₀ at t m rec text ix owner n p₀ from₀ out p from = Walking (groupText (schemaOf m rec text)) (under aGroup owner (schemaOf m rec text)) (underOwner aGroup owner) (schemaOf m rec text) from out₀ at out p
 
 abbrev μ-loop : tie.MeasureT-loop
-μ-loop out₀ at m rec text ix owner n p₀ from₀ out p from = n - from
+μ-loop out₀ at t m rec text ix owner n p₀ from₀ out p from = n - from
 
 -- src/messages.rt:109:9
 count-requires : tie.Need-count-requires Inv-loop μ-loop

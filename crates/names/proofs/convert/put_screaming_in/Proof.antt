@@ -4,24 +4,19 @@ use Rattle.printing.proofs.Repeating.{Repeating}
 use Rattle.names.specs.Conversions.{screamingAt}
 use Rattle.names.proofs.Laws.{laws}
 use Rattle.names.proofs.Storing.{storing}
-use Rattle.names.proofs.convert.put_screaming.Statement.{statement}
-use Rattle.names.proofs.convert.put_screaming.Tie as tie
-use Rattle.names.proofs.convert.put_screaming.Reads as reads
-use Rattle.names.proofs.convert.put_screaming.Lts as lts
-use Rattle.classes.proofs.table.Reads as table-reads
+use Rattle.names.proofs.convert.put_screaming_in.Statement.{statement}
+use Rattle.names.proofs.convert.put_screaming_in.Tie as tie
+use Rattle.names.proofs.convert.put_screaming_in.Reads as reads
+use Rattle.names.proofs.convert.put_screaming_in.Lts as lts
 use Rattle.names.proofs.convert.put_screaming_at.Reads as put-screaming-at-reads
 use Rattle.names.proofs.convert.store_screaming.Reads as store-screaming-reads
 use Rattle.names.proofs.convert.surely_fits.Reads as surely-fits-reads
 
 abbrev Inv-loop : tie.InvT-loop
-Inv-loop out₀ at name t p₀ i₀ out p i = Repeating (screamingAt name) (length name) out₀ at out p i
+Inv-loop out₀ at t name p₀ i₀ out p i = Repeating (screamingAt name) (length name) out₀ at out p i
 
 abbrev μ-loop : tie.MeasureT-loop
-μ-loop out₀ at name t p₀ i₀ out p i = length name - i
-
--- src/convert.rt:184:13
-table-requires : tie.Need-table-requires Inv-loop μ-loop
-table-requires c κs = search laws
+μ-loop out₀ at t name p₀ i₀ out p i = length name - i
 
 -- src/convert.rt:185:8
 surely-fits-requires : tie.Need-surely-fits-requires Inv-loop μ-loop
@@ -67,13 +62,12 @@ same-length-2 c = search laws
 returns-2 : tie.Need-returns-2 Inv-loop μ-loop
 returns-2 c = search laws
 
-pub put-screaming-spec : {M : Type 1} → statement M
-put-screaming-spec =
+pub put-screaming-in-spec : {M : Type 1} → statement M
+put-screaming-in-spec =
     tie.close
     (tie.spec
     Inv-loop
     μ-loop
-    table-requires
     surely-fits-requires
     store-screaming-requires
     same-length

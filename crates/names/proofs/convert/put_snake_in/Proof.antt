@@ -4,24 +4,19 @@ use Rattle.printing.proofs.Repeating.{Repeating}
 use Rattle.names.specs.Conversions.{snakeAt}
 use Rattle.names.proofs.Laws.{laws}
 use Rattle.names.proofs.Storing.{storing}
-use Rattle.names.proofs.convert.put_snake.Statement.{statement}
-use Rattle.names.proofs.convert.put_snake.Tie as tie
-use Rattle.names.proofs.convert.put_snake.Reads as reads
-use Rattle.names.proofs.convert.put_snake.Lts as lts
-use Rattle.classes.proofs.table.Reads as table-reads
+use Rattle.names.proofs.convert.put_snake_in.Statement.{statement}
+use Rattle.names.proofs.convert.put_snake_in.Tie as tie
+use Rattle.names.proofs.convert.put_snake_in.Reads as reads
+use Rattle.names.proofs.convert.put_snake_in.Lts as lts
 use Rattle.names.proofs.convert.put_snake_at.Reads as put-snake-at-reads
 use Rattle.names.proofs.convert.store_snake.Reads as store-snake-reads
 use Rattle.names.proofs.convert.surely_fits.Reads as surely-fits-reads
 
 abbrev Inv-loop : tie.InvT-loop
-Inv-loop out₀ at name t p₀ i₀ out p i = Repeating (snakeAt name) (length name) out₀ at out p i
+Inv-loop out₀ at t name p₀ i₀ out p i = Repeating (snakeAt name) (length name) out₀ at out p i
 
 abbrev μ-loop : tie.MeasureT-loop
-μ-loop out₀ at name t p₀ i₀ out p i = length name - i
-
--- src/convert.rt:118:13
-table-requires : tie.Need-table-requires Inv-loop μ-loop
-table-requires c κs = search laws
+μ-loop out₀ at t name p₀ i₀ out p i = length name - i
 
 -- src/convert.rt:119:8
 surely-fits-requires : tie.Need-surely-fits-requires Inv-loop μ-loop
@@ -67,13 +62,12 @@ same-length-2 c = search laws
 returns-2 : tie.Need-returns-2 Inv-loop μ-loop
 returns-2 c = search laws
 
-pub put-snake-spec : {M : Type 1} → statement M
-put-snake-spec =
+pub put-snake-in-spec : {M : Type 1} → statement M
+put-snake-in-spec =
     tie.close
     (tie.spec
     Inv-loop
     μ-loop
-    table-requires
     surely-fits-requires
     store-snake-requires
     same-length
