@@ -1,10 +1,10 @@
 -- The laws that the proofs of functions cite, one set a topic: `search laws` at each need.
 use borrow.Author.Needs.{needs}
 use Rattle.texts.proofs.Among.{among-here, among-later, among-last}
-use Rattle.printing.proofs.Sequencing.{length-printed, _▸_}
+use Rattle.printing.proofs.Sequencing.{length-printed, printed-yes, printed-no, _▸_}
 use Rattle.xmltoproto.proofs.Viewing.{name-seen, second-seen, encoding-seen, number-seen, size-seen, no-size-seen, id-seen, version-seen}
 use Rattle.xmltoproto.proofs.Typing.{chars-given, chars-absent, byte-told, raw-short, array-short, raw-long, array-char, array-other, shape-int8, shape-int16, shape-uint8, shape-uint16, shape-plain, shape-text, shape-foreign, shape-raw, shape-primitive, built-signed, built-unsigned, built-other, sense-declared, sense-typed, sense-built-in, sense-unknown}
-use Rattle.xmltoproto.proofs.Laying.{length-printed-option, encoding-printed-option, note-foreign, note-text-none, note-raw-none, note-signed-none, note-unsigned-none, note-plain-none, word-text, word-foreign, word-raw, word-signed, word-unsigned, word-plain, option-text, option-foreign, option-raw, option-signed, option-unsigned, option-plain}
+use Rattle.xmltoproto.proofs.Laying.{length-printed-option, encoding-printed-option, foreign-printed, digit-printed, note-foreign, note-text-none, note-raw-none, note-signed-none, note-unsigned-none, note-plain-none, word-text, word-foreign, word-raw, word-signed, word-unsigned, word-plain, option-text, option-foreign, option-raw, option-signed, option-unsigned, option-plain}
 use Rattle.xmltoproto.proofs.Walking.{next-of, last-of, next-child, last-child, last-end}
 use Rattle.xmltoproto.proofs.Looping.{walking-under, walking-of, walking-on, walking-end, walking-length, numbering-members, numbering-refs, numbering-on, numbering-end, numbering-first, numbering-length, counting-under, counting-on, members-end, asking-under, asking-yes, asking-on, asking-end, seeking-of, seeking-yes, seeking-on, seeking-end}
 use Rattle.xmltoproto.proofs.Sources.{package-none, package-some, header-printed, value-printed, enum-printed, typed-printed, member-printed, ref-printed, field-declared, field-unknown, field-typed, field-built-in, parts-printed, composite-printed, printed-header, printed-other, chosen, not-chosen, composites-printed, group-head-printed, group-printed, message-printed}
@@ -16,7 +16,7 @@ pub ruleset view = (name-seen, second-seen, encoding-seen, number-seen, size-see
 
 pub ruleset types = (among-here, among-later, among-last, chars-given, chars-absent, byte-told, raw-short, array-short, raw-long, array-char, array-other, shape-int8, shape-int16, shape-uint8, shape-uint16, shape-plain, shape-text, shape-foreign, shape-raw, shape-primitive, built-signed, built-unsigned, built-other, sense-declared, sense-typed, sense-built-in, sense-unknown, needs)
 
-pub ruleset line = (length-printed-option, encoding-printed-option, note-foreign, note-text-none, note-raw-none, note-signed-none, note-unsigned-none, note-plain-none, word-text, word-foreign, word-raw, word-signed, word-unsigned, word-plain, option-text, option-foreign, option-raw, option-signed, option-unsigned, option-plain, length-printed, needs)
+pub ruleset line = (length-printed-option, encoding-printed-option, foreign-printed, digit-printed, note-foreign, note-text-none, note-raw-none, note-signed-none, note-unsigned-none, note-plain-none, word-text, word-foreign, word-raw, word-signed, word-unsigned, word-plain, option-text, option-foreign, option-raw, option-signed, option-unsigned, option-plain, printed-yes, printed-no, length-printed, needs)
 
 pub ruleset walk = (next-of, last-of, next-child, last-child, last-end, walking-under, walking-of, walking-on, walking-end, walking-length, composites-printed, length-printed, needs)
 

@@ -1,10 +1,11 @@
 -- Laws of one line of a message.
 use mathlib.Core.Path.{_≡_, refl}
-use mathlib.Core.List.{List, _++_, append-assoc}
-use Prim.Native.Nat.{ℕ}
+use mathlib.Core.List.{List, [], _∷_, _++_, append-assoc}
+use Prim.Native.Nat.{ℕ, _+_, _<_}
 use Rattle.texts.specs.Text.{ascii}
 use Rattle.printing.specs.Decimal.{decimal}
 use Rattle.printing.specs.Printed.{Printed}
+use Rattle.printing.proofs.Decimals.{decimal-one}
 use Rattle.printing.proofs.Sequencing.{blank, _▸_}
 use Rattle.escaping.specs.Escape.{quoted}
 use Rattle.xmltoproto.specs.Types.{noteOn}
@@ -36,11 +37,18 @@ module _ {o : List ℕ} {at : ℕ} {o₁ : List ℕ} {r₁ : ℕ} {o₂ : List �
   unfolding encodingOption
   encoding-printed-option w p q t = p ▸ q ▸ t
 
-  pub note-foreign : (i e : List ℕ) {o₄ : List ℕ} {r₄ : ℕ} {sh : Shape} {n : ℕ} → sh ≡ shape.Foreign n → Printed o at o₁ r₁ i → Printed o₁ r₁ o₂ r₂ (ascii "// SBE characterEncoding ") → Printed o₂ r₂ o₃ r₃ (quoted e)
-      → Printed o₃ r₃ o₄ r₄ (ascii " is not UTF-8 compatible, so this field is bytes.\n") → Printed o at o₄ r₄ (noteLine i (noteIn sh e))
-  note-foreign i e f p q t u = rw (f, ← note-text i e) (p ▸ q ▸ t ▸ u)
+  pub foreign-printed : (i e : List ℕ) {o₄ : List ℕ} {r₄ : ℕ} → Printed o at o₁ r₁ i → Printed o₁ r₁ o₂ r₂ (ascii "// SBE characterEncoding ") → Printed o₂ r₂ o₃ r₃ (quoted e)
+      → Printed o₃ r₃ o₄ r₄ (ascii " is not UTF-8 compatible, so this field is bytes.\n") → Printed o at o₄ r₄ (noteLine i (noteOn e))
+  foreign-printed i e p q t u = rw (← note-text i e) (p ▸ q ▸ t ▸ u)
+
+-- a number of one digit
+pub digit-printed : {o : List ℕ} {at : ℕ} {o₁ : List ℕ} {r₁ : ℕ} (n : ℕ) → n < 10 → Printed o at o₁ r₁ ((48 + n) ∷ []) → Printed o at o₁ r₁ (decimal n)
+digit-printed n h p = rw (decimal-one n h) p
 
 -- ---- by shape
+
+pub note-foreign : {sh : Shape} {o : List ℕ} {at : ℕ} {o′ : List ℕ} {r : ℕ} (i e : List ℕ) {n : ℕ} → sh ≡ shape.Foreign n → Printed o at o′ r (noteLine i (noteOn e)) → Printed o at o′ r (noteLine i (noteIn sh e))
+note-foreign i e f p = rw f p
 
 module _ {sh : Shape} {o : List ℕ} {at : ℕ} where
   module _ (i e : List ℕ) where

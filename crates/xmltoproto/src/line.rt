@@ -2,29 +2,58 @@
 use crate::types::Shape;
 use escaping::put_quoted;
 use names::convert::put_snake_in;
+use printing::put_byte;
 use printing::put_bytes;
 use printing::put_decimal;
 ghost use Rattle.classes.specs.Table.{IsTable};
+ghost use Rattle.printing.specs.Decimal.{decimal};
 ghost use Rattle.printing.specs.Printed.{Printed};
 ghost use Rattle.names.specs.Conversions.{camelToSnake};
+ghost use Rattle.xmltoproto.specs.Types.{noteOn};
+ghost use Rattle.xmltoproto.specs.Parts.{indentOf};
 ghost use Rattle.xmltoproto.specs.Source.{noteLine, bracketed, line};
 ghost use Rattle.xmltoproto.specs.Shapes.{noteIn, wordIn, optionIn, protoIn, lengthOption, encodingOption};
 
-// The comment that names an encoding.
-fn put_note(out: &mut [u8], at: usize, indent: &[u8], shape: Shape, encoding: &[u8]) -> usize
-    ensures { λ r. ⌜ Printed (now (out .entry)) at (now (out .exit)) r (noteLine (now (indent .entry)) (noteIn shape (now (encoding .entry)))) ⌝ }
+// The indent of a message's line, or of a group's.
+fn put_indent(out: &mut [u8], at: usize, deep: bool) -> usize
+    ensures { λ r. ⌜ Printed (now (out .entry)) at (now (out .exit)) r (indentOf deep) ⌝ }
+{
+    if deep {
+        put_bytes(out, at, b"    ")
+    } else {
+        put_bytes(out, at, b"  ")
+    }
+}
+
+// A number, most often of one digit, for which no call is made.
+fn put_number(out: &mut [u8], at: usize, n: u32) -> usize
+    ensures { λ r. ⌜ Printed (now (out .entry)) at (now (out .exit)) r (decimal n) ⌝ }
+{
+    if n < 10 {
+        return put_byte(out, at, 48 + n as u8);
+    }
+    put_decimal(out, at, n)
+}
+
+// The comment that names an encoding: few lines have one, so its texts are kept out of the way of the others.
+fn put_foreign(out: &mut [u8], at: usize, deep: bool, encoding: &[u8]) -> usize
+    ensures { λ r. ⌜ Printed (now (out .entry)) at (now (out .exit)) r (noteLine (indentOf deep) (noteOn (now (encoding .entry)))) ⌝ }
+{
+    let p = put_indent(out, at, deep);
+    let p = put_bytes(out, p, b"// SBE characterEncoding ");
+    let p = put_quoted(out, p, encoding);
+    put_bytes(
+        out,
+        p,
+        b" is not UTF-8 compatible, so this field is bytes.\n",
+    )
+}
+
+fn put_note(out: &mut [u8], at: usize, deep: bool, shape: Shape, encoding: &[u8]) -> usize
+    ensures { λ r. ⌜ Printed (now (out .entry)) at (now (out .exit)) r (noteLine (indentOf deep) (noteIn shape (now (encoding .entry)))) ⌝ }
 {
     match shape {
-        Shape::Foreign(_) => {
-            let p = put_bytes(out, at, indent);
-            let p = put_bytes(out, p, b"// SBE characterEncoding ");
-            let p = put_quoted(out, p, encoding);
-            put_bytes(
-                out,
-                p,
-                b" is not UTF-8 compatible, so this field is bytes.\n",
-            )
-        }
+        Shape::Foreign(_) => put_foreign(out, at, deep, encoding),
         Shape::Text(_) => at,
         Shape::Raw(_) => at,
         Shape::Signed => at,
@@ -80,7 +109,7 @@ pub fn put_line(
     out: &mut [u8],
     at: usize,
     t: &[u8; 256],
-    indent: &[u8],
+    deep: bool,
     shape: Shape,
     primitive: &[u8],
     encoding: &[u8],
@@ -88,15 +117,15 @@ pub fn put_line(
     number: u32,
 ) -> usize
     requires { ⌜ IsTable (now t) ⌝ }
-    ensures { λ r. ⌜ Printed (now (out .entry)) at (now (out .exit)) r (line (now (indent .entry)) (protoIn shape (now (primitive .entry)) (now (encoding .entry))) (camelToSnake (now (name .entry))) number) ⌝ }
+    ensures { λ r. ⌜ Printed (now (out .entry)) at (now (out .exit)) r (line (indentOf deep) (protoIn shape (now (primitive .entry)) (now (encoding .entry))) (camelToSnake (now (name .entry))) number) ⌝ }
 {
-    let p = put_note(out, at, indent, shape, encoding);
-    let p = put_bytes(out, p, indent);
+    let p = put_note(out, at, deep, shape, encoding);
+    let p = put_indent(out, p, deep);
     let p = put_word(out, p, shape, primitive);
     let p = put_bytes(out, p, b" ");
     let p = put_snake_in(out, p, t, name);
     let p = put_bytes(out, p, b" = ");
-    let p = put_decimal(out, p, number);
+    let p = put_number(out, p, number);
     let p = put_option(out, p, shape, primitive);
     put_bytes(out, p, b";\n")
 }

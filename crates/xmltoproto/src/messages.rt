@@ -3,7 +3,7 @@ use crate::line::put_line;
 use crate::typed::put_typed;
 use crate::types::Sense;
 use crate::types::Shape;
-use crate::types::sense_in;
+use crate::types::field_sense;
 use crate::types::shape_of;
 use crate::view::name_at;
 use crate::view::number_at;
@@ -27,7 +27,7 @@ ghost use Rattle.xmlschema.specs.Schema.{itemAt, under, allOf, aMessage, aGroup
 ghost use Rattle.index.specs.Index.{Indexed};
 ghost use Rattle.xmlschema.specs.Store.{schemaOf};
 ghost use Rattle.xmltoproto.specs.Source.{fieldText, groupText, messageText};
-ghost use Rattle.xmltoproto.specs.Parts.{groupHead};
+ghost use Rattle.xmltoproto.specs.Parts.{indentOf, groupHead};
 
 fn put_field(
     out: &mut [u8],
@@ -37,43 +37,23 @@ fn put_field(
     rec: &[u32],
     text: &[u8],
     ix: &[u16],
-    indent: &[u8],
+    deep: bool,
     i: u32,
 ) -> usize
     requires { ⌜ IsTable (now t) × Indexed (schemaOf m (now rec) (now text)) (now ix) ⌝ }
-    ensures { λ r. ⌜ Printed (now (out .entry)) at (now (out .exit)) r (fieldText (schemaOf m (now (rec .entry)) (now (text .entry))) (now (indent .entry)) (itemAt (schemaOf m (now (rec .entry)) (now (text .entry))) i)) ⌝ }
+    ensures { λ r. ⌜ Printed (now (out .entry)) at (now (out .exit)) r (fieldText (schemaOf m (now (rec .entry)) (now (text .entry))) (indentOf deep) (itemAt (schemaOf m (now (rec .entry)) (now (text .entry))) i)) ⌝ }
 {
     let type_name = second_at(m, rec, text, i);
     let name = name_at(m, rec, text, i);
     let number = number_at(m, rec, text, i);
-    match sense_in(m, rec, text, ix, i) {
-        Sense::Declared => put_line(
-            out,
-            at,
-            t,
-            indent,
-            Shape::Plain,
-            type_name,
-            b"",
-            name,
-            number,
-        ),
-        Sense::Typed(k) => put_typed(out, at, t, m, rec, text, indent, k, name, number),
+    match field_sense(m, rec, text, ix, i) {
+        Sense::Declared => put_line(out, at, t, deep, Shape::Plain, type_name, b"", name, number),
+        Sense::Typed(k) => put_typed(out, at, t, m, rec, text, deep, k, name, number),
         Sense::BuiltIn => {
             let shape = shape_of(type_name, 0, b"");
-            put_line(out, at, t, indent, shape, type_name, b"", name, number)
+            put_line(out, at, t, deep, shape, type_name, b"", name, number)
         }
-        Sense::Unknown => put_line(
-            out,
-            at,
-            t,
-            indent,
-            Shape::Plain,
-            type_name,
-            b"",
-            name,
-            number,
-        ),
+        Sense::Unknown => put_line(out, at, t, deep, Shape::Plain, type_name, b"", name, number),
     }
 }
 
@@ -85,11 +65,11 @@ fn put_fields(
     rec: &[u32],
     text: &[u8],
     ix: &[u16],
-    indent: &[u8],
+    deep: bool,
     owner: u32,
 ) -> usize
     requires { ⌜ IsTable (now t) × Indexed (schemaOf m (now rec) (now text)) (now ix) ⌝ }
-    ensures { λ r. ⌜ Printed (now (out .entry)) at (now (out .exit)) r (each (λ f. fieldText (schemaOf m (now (rec .entry)) (now (text .entry))) (now (indent .entry)) (itemAt (schemaOf m (now (rec .entry)) (now (text .entry))) f)) (under aField owner (schemaOf m (now (rec .entry)) (now (text .entry))))) ⌝ }
+    ensures { λ r. ⌜ Printed (now (out .entry)) at (now (out .exit)) r (each (λ f. fieldText (schemaOf m (now (rec .entry)) (now (text .entry))) (indentOf deep) (itemAt (schemaOf m (now (rec .entry)) (now (text .entry))) f)) (under aField owner (schemaOf m (now (rec .entry)) (now (text .entry))))) ⌝ }
 {
     let n = count(m, rec, text);
     let mut p = at;
@@ -97,7 +77,7 @@ fn put_fields(
     while from < n {
         match child(m, rec, text, ix, FIELD, owner, from) {
             Position::At(i) => {
-                p = put_field(out, p, t, m, rec, text, ix, indent, i);
+                p = put_field(out, p, t, m, rec, text, ix, deep, i);
                 from = i + 1;
             }
             Position::Nothing => {
@@ -124,7 +104,7 @@ fn put_group_head(
     let p = put_bytes(out, at, b"  message ");
     let p = put_singular(out, p, name_at(m, rec, text, g));
     let p = put_bytes(out, p, b" {\n");
-    put_fields(out, p, t, m, rec, text, ix, b"    ", g)
+    put_fields(out, p, t, m, rec, text, ix, true, g)
 }
 
 fn put_group(
@@ -199,7 +179,7 @@ fn put_message(
     let p = put_bytes(out, p, b" {\n  option (sbe.template_id) = ");
     let p = put_decimal(out, p, number_at(m, rec, text, i));
     let p = put_bytes(out, p, b";\n");
-    let p = put_fields(out, p, t, m, rec, text, ix, b"  ", i);
+    let p = put_fields(out, p, t, m, rec, text, ix, false, i);
     let p = put_groups(out, p, t, m, rec, text, ix, i);
     put_bytes(out, p, b"}\n\n")
 }

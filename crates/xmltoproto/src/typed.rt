@@ -11,6 +11,7 @@ ghost use Rattle.names.specs.Conversions.{camelToSnake};
 ghost use Rattle.xmlschema.specs.Schema.{itemAt};
 ghost use Rattle.xmlschema.specs.Store.{schemaOf};
 ghost use Rattle.xmltoproto.specs.Types.{formOf, protoOf};
+ghost use Rattle.xmltoproto.specs.Parts.{indentOf};
 ghost use Rattle.xmltoproto.specs.Source.{line};
 
 // The line of the type or member at `i`, under a name and a number.
@@ -21,16 +22,16 @@ pub fn put_typed(
     m: Model,
     rec: &[u32],
     text: &[u8],
-    indent: &[u8],
+    deep: bool,
     i: u32,
     name: &[u8],
     number: u32,
 ) -> usize
     requires { ⌜ IsTable (now t) ⌝ }
-    ensures { λ r. ⌜ Printed (now (out .entry)) at (now (out .exit)) r (line (now (indent .entry)) (protoOf (formOf (itemAt (schemaOf m (now (rec .entry)) (now (text .entry))) i))) (camelToSnake (now (name .entry))) number) ⌝ }
+    ensures { λ r. ⌜ Printed (now (out .entry)) at (now (out .exit)) r (line (indentOf deep) (protoOf (formOf (itemAt (schemaOf m (now (rec .entry)) (now (text .entry))) i))) (camelToSnake (now (name .entry))) number) ⌝ }
 {
     let primitive = second_at(m, rec, text, i);
     let encoding = encoding_at(m, rec, text, i);
     let shape = shape_of(primitive, size_at(m, rec, text, i), encoding);
-    put_line(out, at, t, indent, shape, primitive, encoding, name, number)
+    put_line(out, at, t, deep, shape, primitive, encoding, name, number)
 }

@@ -2,9 +2,14 @@
 use crate::view::second_at;
 use charsets::is_compatible;
 use index::Declaration;
+use index::MOST;
 use index::declared;
+use index::field_declared;
 use texts::equal;
+use xmlschema::items::FIELD;
 use xmlschema::items::Model;
+use xmlschema::items::count;
+use xmlschema::items::item;
 ghost use mathlib.Core.Path.{_≡_};
 ghost use mathlib.Core.List.{List, []};
 ghost use Prim.Native.Nat.{ℕ};
@@ -180,4 +185,27 @@ pub fn sense_in(m: Model, rec: &[u32], text: &[u8], ix: &[u16], i: u32) -> Sense
             Sense::Unknown
         }
     }
+}
+
+// The same; a field's declaration is at hand in the index.
+pub fn field_sense(m: Model, rec: &[u32], text: &[u8], ix: &[u16], i: u32) -> Sense
+    requires { ⌜ Indexed (schemaOf m (now rec) (now text)) (now ix) ⌝ }
+    ensures { λ r. ⌜ meaningIn (schemaOf m (now (rec .entry)) (now (text .entry))) (itemAt (schemaOf m (now (rec .entry)) (now (text .entry))) i .second) r ≡ meaning (schemaOf m (now (rec .entry)) (now (text .entry))) (itemAt (schemaOf m (now (rec .entry)) (now (text .entry))) i .second) ⌝ }
+{
+    let e = item(m, rec, i);
+    if e.kind == FIELD {
+        if count(m, rec, text) <= MOST {
+            return match field_declared(m, rec, text, ix, i) {
+                Declaration::Named => Sense::Declared,
+                Declaration::Typed(k) => Sense::Typed(k),
+                Declaration::Nothing => {
+                    if is_built_in(second_at(m, rec, text, i)) {
+                        return Sense::BuiltIn;
+                    }
+                    Sense::Unknown
+                }
+            };
+        }
+    }
+    sense_in(m, rec, text, ix, i)
 }

@@ -6,10 +6,6 @@ use Rattle.xmltoproto.proofs.composites.put_member.Lts as lts
 use Rattle.xmltoproto.proofs.typed.put_typed.Reads as put-typed-reads
 use Rattle.xmltoproto.proofs.view.name_at.Reads as name-at-reads
 
--- src/composites.rt:46:9
-slice-aggregate-put-typed : tie.Need-slice-aggregate-put-typed
-slice-aggregate-put-typed c = search laws
-
 -- src/composites.rt:48:9
 name-at-requires : tie.Need-name-at-requires
 name-at-requires c κs = search laws
@@ -29,4 +25,4 @@ returns c = search laws
 pub put-member-spec : {M : Type 1} → statement M
 put-member-spec =
     tie.close
-    (tie.spec slice-aggregate-put-typed name-at-requires put-typed-requires same-length returns)
+    (tie.spec name-at-requires put-typed-requires same-length returns)

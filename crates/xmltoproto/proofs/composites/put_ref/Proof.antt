@@ -19,10 +19,6 @@ name-at-requires c κs = search laws
 slice-aggregate-put-line : tie.Need-slice-aggregate-put-line
 slice-aggregate-put-line c = search laws
 
--- src/composites.rt:66:55
-slice-aggregate-put-line-2 : tie.Need-slice-aggregate-put-line-2
-slice-aggregate-put-line-2 c = search laws
-
 -- src/composites.rt:66:5
 put-line-requires : tie.Need-put-line-requires
 put-line-requires c κs = search laws
@@ -42,7 +38,6 @@ put-ref-spec =
     second-at-requires
     name-at-requires
     slice-aggregate-put-line
-    slice-aggregate-put-line-2
     put-line-requires
     same-length
     returns)

@@ -5,7 +5,7 @@ use Rattle.xmltoproto.proofs.messages.put_field.Reads as reads
 use Rattle.xmltoproto.proofs.messages.put_field.Lts as lts
 use Rattle.xmltoproto.proofs.line.put_line.Reads as put-line-reads
 use Rattle.xmltoproto.proofs.typed.put_typed.Reads as put-typed-reads
-use Rattle.xmltoproto.proofs.types.sense_in.Reads as sense-in-reads
+use Rattle.xmltoproto.proofs.types.field_sense.Reads as field-sense-reads
 use Rattle.xmltoproto.proofs.types.shape_of.Reads as shape-of-reads
 use Rattle.xmltoproto.proofs.view.name_at.Reads as name-at-reads
 use Rattle.xmltoproto.proofs.view.number_at.Reads as number-at-reads
@@ -24,8 +24,8 @@ number-at-requires : tie.Need-number-at-requires
 number-at-requires c κs = search laws
 
 -- src/messages.rt:44:11
-sense-in-requires : tie.Need-sense-in-requires
-sense-in-requires c κs = search laws
+field-sense-requires : tie.Need-field-sense-requires
+field-sense-requires c κs = search laws
 
 -- src/messages.rt:45:37
 enum-told : tie.Need-enum-told
@@ -118,7 +118,7 @@ put-field-spec =
     second-at-requires
     name-at-requires
     number-at-requires
-    sense-in-requires
+    field-sense-requires
     enum-told
     slice-aggregate-put-line
     put-line-requires

@@ -5,6 +5,7 @@ use Rattle.xmlschema.specs.Schema.{itemAt, under, aField}
 use Rattle.xmlschema.specs.Store.{schemaOf}
 use Rattle.xmltoproto.proofs.Walking.{underOwner, child-within}
 use Rattle.xmltoproto.specs.Source.{fieldText}
+use Rattle.xmltoproto.specs.Parts.{indentOf}
 use Rattle.xmltoproto.proofs.Laws.{walk as laws}
 use Rattle.xmltoproto.proofs.messages.put_fields.Statement.{statement}
 use Rattle.xmltoproto.proofs.messages.put_fields.Tie as tie
@@ -15,10 +16,10 @@ use Rattle.index.proofs.child.Reads as child-reads
 use Rattle.xmltoproto.proofs.messages.put_field.Reads as put-field-reads
 
 abbrev Inv-loop : tie.InvT-loop
-Inv-loop out₀ at t m rec text ix indent owner n p₀ from₀ out p from = Walking (λ f. fieldText (schemaOf m rec text) indent (itemAt (schemaOf m rec text) f)) (under aField owner (schemaOf m rec text)) (underOwner aField owner) (schemaOf m rec text) from out₀ at out p
+Inv-loop out₀ at t m rec text ix deep owner n p₀ from₀ out p from = Walking (λ f. fieldText (schemaOf m rec text) (indentOf deep) (itemAt (schemaOf m rec text) f)) (under aField owner (schemaOf m rec text)) (underOwner aField owner) (schemaOf m rec text) from out₀ at out p
 
 abbrev μ-loop : tie.MeasureT-loop
-μ-loop out₀ at t m rec text ix indent owner n p₀ from₀ out p from = n - from
+μ-loop out₀ at t m rec text ix deep owner n p₀ from₀ out p from = n - from
 
 -- src/messages.rt:66:9
 count-requires : tie.Need-count-requires Inv-loop μ-loop

@@ -34,10 +34,6 @@ slice-aggregate-put-bytes-2 c = search laws
 put-bytes-requires-2 : tie.Need-put-bytes-requires-2
 put-bytes-requires-2 c κs = search laws
 
--- src/messages.rt:89:38
-slice-aggregate-put-fields : tie.Need-slice-aggregate-put-fields
-slice-aggregate-put-fields c = search laws
-
 -- src/messages.rt:89:5
 put-fields-requires : tie.Need-put-fields-requires
 put-fields-requires c κs = search laws
@@ -46,7 +42,7 @@ put-fields-requires c κs = search laws
 returns : tie.Need-returns
 returns c =
     let at-put-fields = c .before .before in
-    let at-put-bytes2 = at-put-fields .before .before .before .before .before in
+    let at-put-bytes2 = at-put-fields .before .before .before .before in
     let at-put-singular = at-put-bytes2 .before .before .before .before .before in
     let at-name-at = at-put-singular .before in
     let at-put-bytes = at-name-at .before .before .before .before in
@@ -66,7 +62,6 @@ put-group-head-spec =
     put-singular-requires
     slice-aggregate-put-bytes-2
     put-bytes-requires-2
-    slice-aggregate-put-fields
     put-fields-requires
     same-length
     returns)

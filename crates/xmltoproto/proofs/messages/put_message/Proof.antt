@@ -52,17 +52,13 @@ slice-aggregate-put-bytes-3 c = search laws
 put-bytes-requires-4 : tie.Need-put-bytes-requires-4
 put-bytes-requires-4 c κs = search laws
 
--- src/messages.rt:134:46
-slice-aggregate-put-fields : tie.Need-slice-aggregate-put-fields
-slice-aggregate-put-fields c = search laws
-
 -- src/messages.rt:134:9
 put-fields-requires : tie.Need-put-fields-requires
-put-fields-requires c κs = c .before .before .before .before .before .before .before .before .before .before .before .before .before .before .before .before .before .before .before .before .before .before .before .before .before .before .before .before .before .before .before .pre
+put-fields-requires c κs = c .before .before .before .before .before .before .before .before .before .before .before .before .before .before .before .before .before .before .before .before .before .before .before .before .before .before .before .before .before .before .pre
 
 -- src/messages.rt:135:9
 put-groups-requires : tie.Need-put-groups-requires
-put-groups-requires c κs = c .before .before .before .before .before .before .before .before .before .before .before .before .before .before .before .before .before .before .before .before .before .before .before .before .before .before .before .before .before .before .before .before .before .before .before .pre
+put-groups-requires c κs = c .before .before .before .before .before .before .before .before .before .before .before .before .before .before .before .before .before .before .before .before .before .before .before .before .before .before .before .before .before .before .before .before .before .before .pre
 
 -- src/messages.rt:136:23
 slice-aggregate-put-bytes-4 : tie.Need-slice-aggregate-put-bytes-4
@@ -78,7 +74,7 @@ returns c =
     let at-put-bytes5 = c .before .before in
     let at-put-groups = at-put-bytes5 .before .before .before .before .before in
     let at-put-fields = at-put-groups .before .before .before .before in
-    let at-put-bytes4 = at-put-fields .before .before .before .before .before in
+    let at-put-bytes4 = at-put-fields .before .before .before .before in
     let at-put-decimal = at-put-bytes4 .before .before .before .before .before in
     let at-number-at = at-put-decimal .before in
     let at-put-bytes3 = at-number-at .before .before .before .before in
@@ -105,7 +101,6 @@ put-message-spec =
     put-decimal-requires
     slice-aggregate-put-bytes-3
     put-bytes-requires-4
-    slice-aggregate-put-fields
     put-fields-requires
     put-groups-requires
     slice-aggregate-put-bytes-4
