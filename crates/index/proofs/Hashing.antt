@@ -11,6 +11,7 @@ use borrow.Author.Tests.{eq-eqb, ne-eqb, lt-ltb, le-ltb}
 use Rattle.texts.specs.Choice.{pick}
 use Rattle.texts.specs.Text.{piece}
 use Rattle.xmlschema.specs.Schema.{Schema}
+use Rattle.xmlschema.proofs.Records.{by-less}
 use Rattle.words.specs.Word.{wordOf, IsWord}
 use Rattle.index.specs.Index.{halfAt, shortWord, mix, wordsFrom, longWord, narrowed, hash, HashOf, maskOf, place, HeadOf}
 
@@ -60,6 +61,17 @@ module _ {s : List ℕ} {i h : ℕ} (k : Hashing s i h) where
       go : (n : ℕ) → length s < i + 8 * n → wordsFrom n h i s ≡ longWord s → r ≡ longWord s
       go zero e q = absurd (let z = k .within in omega arith)
       go (suc n) e q = rw (er, ew .is) (rw (le-ltb (i + 8) (length s) l, wordsFrom) at q)
+
+-- one word or two
+module _ (s : List ℕ) (a : 8 ≤ length s) where
+  pub words-one : length s ≡ 8 → {w : ℕ} → IsWord (piece s (length s - 8) 8) w → {r : ℕ} → r ≡ mix (length s) w → r ≡ longWord s
+  words-one e ew er = hashing-end (hashing-start {s = s} a) (omega arith) ew er
+
+  pub words-two : (length s ≡ 8 → ⊥) → length s ≤ 16 → {w : ℕ} → IsWord (piece s 0 8) w → {h : ℕ} → h ≡ mix (length s) w → {v : ℕ} → IsWord (piece s (length s - 8) 8) v → {r : ℕ} → r ≡ mix h v → r ≡ longWord s
+  words-two n b ew eh ev er =
+      by-less 8 (length s)
+      (λ l. hashing-end (hashing-on (hashing-start {s = s} a) l ew eh) b ev er)
+      (λ l. absurd (n (omega arith)))
 
 -- ---- both
 

@@ -102,7 +102,20 @@ fn mixed(h: u64, w: u64) -> u64
     (h % 1152921504606846976 * 9) ^ w
 }
 
-// Any other name: its words are mixed, the last of them up to its end.
+// A name of 8 to 16 bytes: its words are one or two, the last of them up to its end.
+fn two_words(name: &[u8]) -> u64
+    requires { ⌜ (8 ≤ length (now name)) × (length (now name) ≤ 16) ⌝ }
+    ensures { λ r. ⌜ r ≡ longWord (now (name .entry)) ⌝ }
+{
+    let n = name.len();
+    let h = n as u64;
+    if n == 8 {
+        return mixed(h, word_at(name, n - 8));
+    }
+    mixed(mixed(h, word_at(name, 0)), word_at(name, n - 8))
+}
+
+// A longer one.
 fn long_word(name: &[u8]) -> u64
     requires { ⌜ 8 ≤ length (now name) ⌝ }
     ensures { λ r. ⌜ r ≡ longWord (now (name .entry)) ⌝ }
@@ -129,6 +142,9 @@ fn hash_of(name: &[u8]) -> usize
 {
     if name.len() < 8 {
         return narrow(short_word(name));
+    }
+    if name.len() <= 16 {
+        return narrow(two_words(name));
     }
     narrow(long_word(name))
 }
