@@ -70,6 +70,35 @@ fn compared(a: &[u8], b: &[u8]) -> Order
     compared_from(a, b, i)
 }
 
+fn same_short(a: &[u8], b: &[u8]) -> bool
+    ensures { λ r. ⌜ r ≡ same (now (a .entry)) (now (b .entry)) ⌝ }
+{
+    match compared(a, b) {
+        Order::Less => false,
+        Order::Same => true,
+        Order::Greater => false,
+    }
+}
+
+// Two names of one length, 8 bytes at least: their words, the last of them up to their ends.
+fn same_long(a: &[u8], b: &[u8]) -> bool
+    requires { ⌜ (8 ≤ length (now a)) × (length (now a) ≡ length (now b)) ⌝ }
+    ensures { λ r. ⌜ r ≡ same (now (a .entry)) (now (b .entry)) ⌝ }
+{
+    let mut k = 0;
+    while k + 8 < a.len() {
+        if word_at(a, k) != word_at(b, k) {
+            return false;
+        }
+        k += 8;
+    }
+    let last = a.len() - 8;
+    if word_at(a, last) != word_at(b, last) {
+        return false;
+    }
+    true
+}
+
 // Whether two names are one.
 pub fn same_name(a: &[u8], b: &[u8]) -> bool
     ensures { λ r. ⌜ r ≡ same (now (a .entry)) (now (b .entry)) ⌝ }
@@ -77,11 +106,10 @@ pub fn same_name(a: &[u8], b: &[u8]) -> bool
     if a.len() != b.len() {
         return false;
     }
-    match compared(a, b) {
-        Order::Less => false,
-        Order::Same => true,
-        Order::Greater => false,
+    if a.len() < 8 {
+        return same_short(a, b);
     }
+    same_long(a, b)
 }
 
 // ---- names in order

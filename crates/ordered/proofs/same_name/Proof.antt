@@ -3,49 +3,29 @@ use Rattle.ordered.proofs.same_name.Statement.{statement}
 use Rattle.ordered.proofs.same_name.Tie as tie
 use Rattle.ordered.proofs.same_name.Reads as reads
 use Rattle.ordered.proofs.same_name.Lts as lts
-use Rattle.ordered.proofs.compared.Reads as compared-reads
+use Rattle.ordered.proofs.same_long.Reads as same-long-reads
+use Rattle.ordered.proofs.same_short.Reads as same-short-reads
 
--- src/lib.rt:93:9
+-- src/lib.rt:107:9
 returns : tie.Need-returns
 returns c = search laws
 
--- src/lib.rt:95:11
-compared-requires : tie.Need-compared-requires
-compared-requires c κs = search laws
+-- src/lib.rt:110:9
+same-short-requires : tie.Need-same-short-requires
+same-short-requires c κs = search laws
 
--- src/lib.rt:96:24
-enum-told : tie.Need-enum-told
-enum-told c = search laws
-
--- src/lib.rt:97:24
-enum-told-2 : tie.Need-enum-told-2
-enum-told-2 c = search laws
-
--- src/lib.rt:98:27
-enum-told-3 : tie.Need-enum-told-3
-enum-told-3 c = search laws
-
--- src/lib.rt:89:1
+-- src/lib.rt:110:9
 returns-2 : tie.Need-returns-2
 returns-2 c = search laws
 
--- src/lib.rt:89:1
+-- src/lib.rt:112:5
+same-long-requires : tie.Need-same-long-requires
+same-long-requires c κs = search laws
+
+-- src/lib.rt:103:1
 returns-3 : tie.Need-returns-3
 returns-3 c = search laws
 
--- src/lib.rt:89:1
-returns-4 : tie.Need-returns-4
-returns-4 c = search laws
-
 pub same-name-spec : {M : Type 1} → statement M
 same-name-spec =
-    tie.close
-    (tie.spec
-    returns
-    compared-requires
-    enum-told
-    enum-told-2
-    enum-told-3
-    returns-2
-    returns-3
-    returns-4)
+    tie.close (tie.spec returns same-short-requires returns-2 same-long-requires returns-3)
