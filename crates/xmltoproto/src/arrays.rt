@@ -198,26 +198,19 @@ fn first_message(m: Model, rec: &[u32], text: &[u8], ix: &[u16]) -> Position
 
 // ---- both
 
-// The same of any item. Few have a length, and the others are told by one word.
-fn is_item_array(m: Model, rec: &[u32], text: &[u8], i: u32) -> bool
-    ensures { λ r. ⌜ r ≡ isArray (formOf (itemAt (schemaOf m (now (rec .entry)) (now (text .entry))) i)) ⌝ }
-{
-    let e = item(m, rec, i);
-    if e.given == 1 {
-        return is_member_array(m, rec, text, i);
-    }
-    false
-}
-
-// Whether any item has the form of such an array. Few schemas have one, and without one nothing is refused.
+// Whether any item has the form of such an array. Few schemas have one, and without one nothing is refused. Few items
+// have a length at all, and the others are told by one word.
 fn has_arrays(m: Model, rec: &[u32], text: &[u8]) -> bool
     ensures { λ r. ⌜ (r ≡ false → Arrayless (schemaOf m (now (rec .entry)) (now (text .entry)))) ⌝ }
 {
     let n = count(m, rec, text);
     let mut i = 0;
     while i < n {
-        if is_item_array(m, rec, text, i) {
-            return true;
+        let e = item(m, rec, i);
+        if e.given == 1 {
+            if is_member_array(m, rec, text, i) {
+                return true;
+            }
         }
         i += 1;
     }
