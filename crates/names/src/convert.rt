@@ -1,7 +1,7 @@
 // The conversions as printing steps: each prints its text from a position on (crate `printing`).
 //
-// The table of classes is made once for each name and lent to each position's step: made anew at each look-up,
-// it took nine tenths of the time. Where a name surely fits, it is stored by a loop without a test for room.
+// The table of classes is made once and lent to each position's step: made anew at each look-up, it took nine tenths
+// of the time. Where a name surely fits, it is stored by a loop without a test for room.
 use classes::is_lower_in;
 use classes::is_upper_in;
 use classes::table;

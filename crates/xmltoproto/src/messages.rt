@@ -7,7 +7,6 @@ use crate::types::field_sense;
 use crate::types::shape_of;
 use crate::view::name_at;
 use crate::view::number_at;
-use crate::view::second_at;
 use index::child;
 use names::convert::put_singular;
 use names::convert::put_snake_in;
@@ -19,7 +18,10 @@ use xmlschema::items::MESSAGE;
 use xmlschema::items::Model;
 use xmlschema::items::Position;
 use xmlschema::items::count;
+use xmlschema::items::item;
+use xmlschema::items::name_of;
 use xmlschema::items::next_of;
+use xmlschema::items::second_of;
 ghost use Rattle.texts.specs.Lists.{each};
 ghost use Rattle.classes.specs.Table.{IsTable};
 ghost use Rattle.printing.specs.Printed.{Printed};
@@ -43,10 +45,11 @@ fn put_field(
     requires { ⌜ IsTable (now t) × Indexed (schemaOf m (now rec) (now text)) (now ix) ⌝ }
     ensures { λ r. ⌜ Printed (now (out .entry)) at (now (out .exit)) r (fieldText (schemaOf m (now (rec .entry)) (now (text .entry))) (indentOf deep) (itemAt (schemaOf m (now (rec .entry)) (now (text .entry))) i)) ⌝ }
 {
-    let type_name = second_at(m, rec, text, i);
-    let name = name_at(m, rec, text, i);
-    let number = number_at(m, rec, text, i);
-    match field_sense(m, rec, text, ix, i) {
+    let e = item(m, rec, i);
+    let type_name = second_of(e, text);
+    let name = name_of(e, text);
+    let number = e.number;
+    match field_sense(m, rec, text, ix, i, e.kind) {
         Sense::Declared => put_line(out, at, t, deep, Shape::Plain, type_name, b"", name, number),
         Sense::Typed(k) => put_typed(out, at, t, m, rec, text, deep, k, name, number),
         Sense::BuiltIn => {

@@ -9,7 +9,6 @@ use texts::equal;
 use xmlschema::items::FIELD;
 use xmlschema::items::Model;
 use xmlschema::items::count;
-use xmlschema::items::item;
 ghost use mathlib.Core.Path.{_≡_};
 ghost use mathlib.Core.List.{List, []};
 ghost use Prim.Native.Nat.{ℕ};
@@ -187,13 +186,12 @@ pub fn sense_in(m: Model, rec: &[u32], text: &[u8], ix: &[u16], i: u32) -> Sense
     }
 }
 
-// The same; a field's declaration is at hand in the index.
-pub fn field_sense(m: Model, rec: &[u32], text: &[u8], ix: &[u16], i: u32) -> Sense
-    requires { ⌜ Indexed (schemaOf m (now rec) (now text)) (now ix) ⌝ }
+// The same of an item of a kind; a field's declaration is at hand in the index.
+pub fn field_sense(m: Model, rec: &[u32], text: &[u8], ix: &[u16], i: u32, kind: u32) -> Sense
+    requires { ⌜ Indexed (schemaOf m (now rec) (now text)) (now ix) × (kind ≡ itemAt (schemaOf m (now rec) (now text)) i .kind) ⌝ }
     ensures { λ r. ⌜ meaningIn (schemaOf m (now (rec .entry)) (now (text .entry))) (itemAt (schemaOf m (now (rec .entry)) (now (text .entry))) i .second) r ≡ meaning (schemaOf m (now (rec .entry)) (now (text .entry))) (itemAt (schemaOf m (now (rec .entry)) (now (text .entry))) i .second) ⌝ }
 {
-    let e = item(m, rec, i);
-    if e.kind == FIELD {
+    if kind == FIELD {
         if count(m, rec, text) <= MOST {
             return match field_declared(m, rec, text, ix, i) {
                 Declaration::Named => Sense::Declared,

@@ -1,3 +1,6 @@
+use Rattle.xmltoproto.proofs.Viewing.{name-seen, second-seen, number-seen}
+use Rattle.xmltoproto.proofs.Covering.{kind-seen}
+use Rattle.xmltoproto.proofs.Sources.{field-typed}
 use Rattle.xmltoproto.proofs.Laws.{lines as laws}
 use Rattle.xmltoproto.proofs.messages.put_field.Statement.{statement}
 use Rattle.xmltoproto.proofs.messages.put_field.Tie as tie
@@ -7,25 +10,24 @@ use Rattle.xmltoproto.proofs.line.put_line.Reads as put-line-reads
 use Rattle.xmltoproto.proofs.typed.put_typed.Reads as put-typed-reads
 use Rattle.xmltoproto.proofs.types.field_sense.Reads as field-sense-reads
 use Rattle.xmltoproto.proofs.types.shape_of.Reads as shape-of-reads
-use Rattle.xmltoproto.proofs.view.name_at.Reads as name-at-reads
-use Rattle.xmltoproto.proofs.view.number_at.Reads as number-at-reads
-use Rattle.xmltoproto.proofs.view.second_at.Reads as second-at-reads
+use Rattle.xmlschema.proofs.items.name_of.Reads as name-of-reads
+use Rattle.xmlschema.proofs.items.item.Reads as item-reads
+use Rattle.xmlschema.proofs.items.second_of.Reads as second-of-reads
 
 -- src/messages.rt:41:9
-second-at-requires : tie.Need-second-at-requires
-second-at-requires c κs = search laws
+item-requires : tie.Need-item-requires
+item-requires c κs = search laws
+
+second-of-requires : tie.Need-second-of-requires
+second-of-requires c κs = search laws
 
 -- src/messages.rt:42:9
-name-at-requires : tie.Need-name-at-requires
-name-at-requires c κs = search laws
-
--- src/messages.rt:43:9
-number-at-requires : tie.Need-number-at-requires
-number-at-requires c κs = search laws
+name-of-requires : tie.Need-name-of-requires
+name-of-requires c κs = search laws
 
 -- src/messages.rt:44:11
 field-sense-requires : tie.Need-field-sense-requires
-field-sense-requires c κs = search laws
+field-sense-requires c κs = search (kind-seen, laws)
 
 -- src/messages.rt:45:37
 enum-told : tie.Need-enum-told
@@ -85,7 +87,7 @@ same-length c = search laws
 
 -- src/messages.rt:30:1
 returns : tie.Need-returns
-returns c = search laws
+returns c = search (name-seen, second-seen, number-seen, laws)
 
 -- src/messages.rt:30:1
 same-length-2 : tie.Need-same-length-2
@@ -93,7 +95,13 @@ same-length-2 c = search laws
 
 -- src/messages.rt:30:1
 returns-2 : tie.Need-returns-2
-returns-2 c = search laws
+returns-2 c =
+    let at-k = c .before .before .before .before .before in
+    let at-sense = at-k .before .before in
+    let at-name = at-sense .before in
+    let at-second = at-name .before in
+    let h = at-second .before .item .ensures in
+    field-typed _ _ _ (second-seen _ _ _ _ _ h (at-second .second-of .ensures)) (name-seen _ _ _ _ _ h (at-name .name-of .ensures)) (number-seen _ _ _ _ _ h) _ (at-sense .field-sense .ensures) (at-k .k .given .1) (c .before .before .put-typed .ensures)
 
 -- src/messages.rt:30:1
 same-length-3 : tie.Need-same-length-3
@@ -101,7 +109,7 @@ same-length-3 c = search laws
 
 -- src/messages.rt:30:1
 returns-3 : tie.Need-returns-3
-returns-3 c = search laws
+returns-3 c = search (name-seen, second-seen, number-seen, laws)
 
 -- src/messages.rt:30:1
 same-length-4 : tie.Need-same-length-4
@@ -109,15 +117,15 @@ same-length-4 c = search laws
 
 -- src/messages.rt:30:1
 returns-4 : tie.Need-returns-4
-returns-4 c = search laws
+returns-4 c = search (name-seen, second-seen, number-seen, laws)
 
 pub put-field-spec : {M : Type 1} → statement M
 put-field-spec =
     tie.close
     (tie.spec
-    second-at-requires
-    name-at-requires
-    number-at-requires
+    item-requires
+    second-of-requires
+    name-of-requires
     field-sense-requires
     enum-told
     slice-aggregate-put-line

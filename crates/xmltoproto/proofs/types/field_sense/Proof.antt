@@ -6,14 +6,9 @@ use Rattle.xmltoproto.proofs.types.field_sense.Reads as reads
 use Rattle.xmltoproto.proofs.types.field_sense.Lts as lts
 use Rattle.index.proofs.field_declared.Reads as field-declared-reads
 use Rattle.xmlschema.proofs.items.count.Reads as count-reads
-use Rattle.xmlschema.proofs.items.item.Reads as item-reads
 use Rattle.xmltoproto.proofs.types.is_built_in.Reads as is-built-in-reads
 use Rattle.xmltoproto.proofs.types.sense_in.Reads as sense-in-reads
 use Rattle.xmltoproto.proofs.view.second_at.Reads as second-at-reads
-
--- src/types.rt:195:9
-item-requires : tie.Need-item-requires
-item-requires c κs = search laws
 
 -- src/types.rt:197:12
 count-requires : tie.Need-count-requires
@@ -71,7 +66,6 @@ pub field-sense-spec : {M : Type 1} → statement M
 field-sense-spec =
     tie.close
     (tie.spec
-    item-requires
     count-requires
     field-declared-requires
     enum-told
