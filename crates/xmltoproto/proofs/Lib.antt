@@ -16,3 +16,4 @@ pub mod Arrayless
 pub mod Generating
 pub mod Converting
 pub mod Laws
+pub mod Digits

@@ -5,6 +5,7 @@ use names::convert::put_snake_in;
 use printing::put_byte;
 use printing::put_bytes;
 use printing::put_decimal;
+ghost use Prim.Native.Nat.{_<_};
 ghost use Rattle.classes.specs.Table.{IsTable};
 ghost use Rattle.printing.specs.Decimal.{decimal};
 ghost use Rattle.printing.specs.Printed.{Printed};
@@ -25,12 +26,28 @@ fn put_indent(out: &mut [u8], at: usize, deep: bool) -> usize
     }
 }
 
-// A number, most often of one digit, for which no call is made.
-fn put_number(out: &mut [u8], at: usize, n: u32) -> usize
+// A number below a hundred.
+fn put_tens(out: &mut [u8], at: usize, n: u32) -> usize
+    requires { ⌜ n < 100 ⌝ }
     ensures { λ r. ⌜ Printed (now (out .entry)) at (now (out .exit)) r (decimal n) ⌝ }
 {
     if n < 10 {
         return put_byte(out, at, 48 + n as u8);
+    }
+    let p = put_byte(out, at, 48 + (n / 10) as u8);
+    put_byte(out, p, 48 + (n % 10) as u8)
+}
+
+// A number, most often of few digits, for which there is no recursion.
+fn put_number(out: &mut [u8], at: usize, n: u32) -> usize
+    ensures { λ r. ⌜ Printed (now (out .entry)) at (now (out .exit)) r (decimal n) ⌝ }
+{
+    if n < 100 {
+        return put_tens(out, at, n);
+    }
+    if n < 1000 {
+        let p = put_tens(out, at, n / 10);
+        return put_byte(out, p, 48 + (n % 10) as u8);
     }
     put_decimal(out, at, n)
 }
