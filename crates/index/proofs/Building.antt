@@ -46,6 +46,9 @@ blank-all s = record { long = λ most. let q = mask-low (length (s .items)) in l
 pub kind-told : (m : Model) (rec : List ℕ) (i : ℕ) (e : Entry) → ((t : List ℕ) → itemOf t e ≡ itemAt (schemaOf m rec t) i) → (text : List ℕ) → e .kind ≡ itemAt (schemaOf m rec text) i .kind
 kind-told m rec i e f text = kind-is m rec i e f text
 
+pub owner-told : (m : Model) (rec : List ℕ) (i : ℕ) (e : Entry) → ((t : List ℕ) → itemOf t e ≡ itemAt (schemaOf m rec t) i) → (text : List ℕ) → e .owner ≡ itemAt (schemaOf m rec text) i .owner
+owner-told m rec i e f text = owner-is m rec i e f text
+
 pub naming-start : (s : Schema) (ix : List ℕ) → Blank s ix → length (s .items) ≤ 1024 → Naming s 0 ix
 naming-start s ix b most = record { long = b .long most; zero = λ k o _ _. b .zero (12 * o + 2 + k); chained = chained-start s ix (b .zero) }
 

@@ -1,5 +1,6 @@
 -- Laws of the searches by the index: each takes what the code knows there.
 use mathlib.Core.Path.{_≡_, refl, sym, ap, _∙_}
+use mathlib.Core.Bool.{true, false}
 use mathlib.Core.Option.{Option, none, some}
 use mathlib.Core.List.{List}
 use Prim.Native.Nat.{ℕ, _+_, _*_, _-_, _≤_, _<_}
@@ -42,15 +43,18 @@ inside s i k = by-less i (length (s .items)) (λ l. l) (λ l. absurd (let z : 0 
 
 -- ---- children
 
-pub indexed-long : (s : Schema) (ix : List ℕ) → Indexed s ix → {n : ℕ} → n ≡ length (s .items) → n ≤ 1024 → 12 * n ≤ length ix
-indexed-long s ix x e h = let l = x .long (omega arith) in omega arith
-
 pub under-any : {r : Position} (m : Model) (rec : List ℕ) (kind owner from : ℕ) → ((t : List ℕ) → r ≡ found (nextUnder kind owner from (schemaOf m rec t))) → (text : List ℕ) → r ≡ found (nextUnder kind owner from (schemaOf m rec text))
 under-any m rec kind owner from f text = f text
 
+pub is-indexed : (s : Schema) {n kind owner : ℕ} → n ≡ length (s .items) → n ≤ 1024 → kind ≤ 9 → owner < n → true ≡ true → (length (s .items) ≤ 1024) × (kind < 10) × (owner < length (s .items))
+is-indexed s e a b c _ = (omega arith, omega arith, omega arith)
+
+pub not-indexed : {G : Type 0} → false ≡ true → G
+not-indexed e = absurd (let z : _≡_ {A = ℕ} 0 1 = cc in omega arith)
+
 module _ (s : Schema) (ix : List ℕ) (x : Indexed s ix) (kind owner from : ℕ) where
-  pub child-first : {r : Position} {n : ℕ} → n ≡ length (s .items) → n ≤ 1024 → kind ≤ 9 → owner < n → from ≡ 0 → ((o : Option ℕ) → getD ix (12 * owner + 2 + kind) 0 ≡ code o → r ≡ found o) → r ≡ found (nextUnder kind owner from s)
-  child-first en most hk ho z f = f (nextUnder kind owner from s) (rw z (x .links (omega arith) .first kind owner (omega arith) (omega arith)))
+  pub child-first : {r : Position} → length (s .items) ≤ 1024 → kind < 10 → owner < length (s .items) → from ≡ 0 → ((o : Option ℕ) → getD ix (12 * owner + 2 + kind) 0 ≡ code o → r ≡ found o) → r ≡ found (nextUnder kind owner from s)
+  child-first most hk ho z f = f (nextUnder kind owner from s) (rw z (x .links most .first kind owner hk ho))
 
   child-on : length (s .items) ≤ 1024 → 0 < from → from - 1 < length (s .items) → itemAt s (from - 1) .kind ≡ kind → itemAt s (from - 1) .owner ≡ owner → kind < 10 → owner < length (s .items) → getD ix (12 * (from - 1)) 0 ≡ code (nextUnder kind owner from s)
   child-on most h l ek eo hk ho =
@@ -58,12 +62,9 @@ module _ (s : Schema) (ix : List ℕ) (x : Indexed s ix) (kind owner from : ℕ)
       let e = x .links most .next (from - 1) (omega arith) l (omega arith) (omega arith) in
       rw (ek, eo, z) at e
 
-pub child-next : (m : Model) (rec text ix : List ℕ) → Indexed (schemaOf m rec text) ix → (kind owner from : ℕ) {r : Position} → length (schemaOf m rec text .items) ≤ 1024 → kind < 10 → owner < length (schemaOf m rec text .items) → 0 < from
-    → {n : ℕ} → n ≡ length (schemaOf m rec text .items) → from - 1 < n → (e : Entry) → ((t : List ℕ) → itemOf t e ≡ itemAt (schemaOf m rec t) (from - 1)) → e .kind ≡ kind → e .owner ≡ owner
-    → ((o : Option ℕ) → getD ix (12 * (from - 1)) 0 ≡ code o → r ≡ found o) → r ≡ found (nextUnder kind owner from (schemaOf m rec text))
-child-next m rec text ix x kind owner from most hk ho h en l e f ek eo g =
-    g (nextUnder kind owner from (schemaOf m rec text))
-    (child-on (schemaOf m rec text) ix x kind owner from most h (omega arith) (sym (kind-is m rec (from - 1) e f text) ∙ ek) (sym (owner-is m rec (from - 1) e f text) ∙ eo) hk ho)
+  pub child-next : {r : Position} → length (s .items) ≤ 1024 → kind < 10 → owner < length (s .items) → 0 < from → {n : ℕ} → n ≡ length (s .items) → from - 1 < n → {k : ℕ} → k ≡ itemAt s (from - 1) .kind → k ≡ kind → {o : ℕ} → o ≡ itemAt s (from - 1) .owner → o ≡ owner
+      → ((p : Option ℕ) → getD ix (12 * (from - 1)) 0 ≡ code p → r ≡ found p) → r ≡ found (nextUnder kind owner from s)
+  child-next most hk ho h en l fk ek fo eo g = g (nextUnder kind owner from s) (child-on most h (omega arith) (sym fk ∙ ek) (sym fo ∙ eo) hk ho)
 
 -- ---- type names
 

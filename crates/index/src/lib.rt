@@ -23,6 +23,7 @@ use xmlschema::items::name_of;
 use xmlschema::items::next_under;
 use xmlschema::items::second_of;
 ghost use mathlib.Core.Path.{_≡_};
+ghost use mathlib.Core.Bool.{true};
 ghost use mathlib.Core.Option.{Option};
 ghost use Prim.Native.Nat.{ℕ, _+_, _≤_, _<_};
 ghost use lib.Bits.{bitAnd};
@@ -191,6 +192,13 @@ fn kind_of(m: Model, rec: &[u32], text: &[u8], i: u32) -> u32
 {
     let e = item(m, rec, i);
     e.kind
+}
+
+fn owner_of(m: Model, rec: &[u32], text: &[u8], i: u32) -> u32
+    ensures { λ r. ⌜ r ≡ itemAt (schemaOf m (now (rec .entry)) (now (text .entry))) i .owner ⌝ }
+{
+    let e = item(m, rec, i);
+    e.owner
 }
 
 fn name_item(m: Model, rec: &[u32], text: &[u8], i: u32, ix: &mut [u16])
@@ -393,6 +401,21 @@ fn position(n: u16) -> Position
     Position::Nothing
 }
 
+// Whether the index holds the first item of a kind under an owner.
+fn is_indexed(m: Model, rec: &[u32], text: &[u8], kind: u32, owner: u32) -> bool
+    ensures { λ r. ⌜ (r ≡ true → (length (schemaOf m (now (rec .entry)) (now (text .entry)) .items) ≤ 1024) × (kind < 10) × (owner < length (schemaOf m (now (rec .entry)) (now (text .entry)) .items))) ⌝ }
+{
+    let n = count(m, rec, text);
+    if n <= MOST {
+        if kind <= 9 {
+            if owner < n {
+                return true;
+            }
+        }
+    }
+    false
+}
+
 // The item before `from`, if it is of this kind and owner, leads to the next one.
 fn next_child(
     m: Model,
@@ -408,9 +431,8 @@ fn next_child(
 {
     let i = from - 1;
     if i < count(m, rec, text) {
-        let e = item(m, rec, i);
-        if e.kind == kind {
-            if e.owner == owner {
+        if kind_of(m, rec, text, i) == kind {
+            if owner_of(m, rec, text, i) == owner {
                 let at = EACH * (i as usize);
                 return position(ix[at]);
             }
@@ -432,21 +454,14 @@ pub fn child(
     requires { ⌜ Indexed (schemaOf m (now rec) (now text)) (now ix) ⌝ }
     ensures { λ r. ⌜ r ≡ found (nextUnder kind owner from (schemaOf m (now (rec .entry)) (now (text .entry)))) ⌝ }
 {
-    let n = count(m, rec, text);
-    if MOST < n {
-        return next_under(m, rec, kind, owner, from);
+    if is_indexed(m, rec, text, kind, owner) {
+        if from == 0 {
+            let head = EACH * (owner as usize) + FIRST + kind as usize;
+            return position(ix[head]);
+        }
+        return next_child(m, rec, text, ix, kind, owner, from);
     }
-    if 9 < kind {
-        return next_under(m, rec, kind, owner, from);
-    }
-    if n <= owner {
-        return next_under(m, rec, kind, owner, from);
-    }
-    if from == 0 {
-        let head = EACH * (owner as usize) + FIRST + kind as usize;
-        return position(ix[head]);
-    }
-    next_child(m, rec, text, ix, kind, owner, from)
+    next_under(m, rec, kind, owner, from)
 }
 
 // What a name is declared as: an enum or composite, the type at a position, or nothing.
