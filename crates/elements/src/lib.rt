@@ -10,7 +10,7 @@ ghost use mathlib.Core.Path.{_≡_};
 ghost use Prim.Native.Nat.{_+_, _≤_};
 ghost use lib.ListN.{length};
 ghost use Rattle.texts.specs.Text.{piece};
-ghost use Rattle.elements.specs.Elements.{elementOf, otherElementOf};
+ghost use Rattle.elements.specs.Elements.{elementOf, otherElementOf, IsLeaf};
 
 pub enum Element {
     MessageSchema,
@@ -65,7 +65,27 @@ pub fn element_of(name: &[u8]) -> Element
     other_element_of(name)
 }
 
-// The same of a name of 4 or 5 bytes in a document.
+// Whether the name of `len` bytes at `at` is "field" or "type", which nearly all self-closed tags are: closing one of
+// these changes nothing.
+pub fn is_leaf_at(doc: &[u8], at: usize, len: usize) -> bool
+    ensures { λ r. ⌜ IsLeaf (piece (now (doc .entry)) at len) r ⌝ }
+{
+    if doc.len() < 8 {
+        return false;
+    }
+    if doc.len() - 8 < at {
+        return false;
+    }
+    if len == 5 {
+        return stands_short(doc, at, 0x100_0000_0000, 0x64_6c65_6966);
+    }
+    if len == 4 {
+        return stands_short(doc, at, 0x1_0000_0000, 0x6570_7974);
+    }
+    false
+}
+
+// What a name of 4 or 5 bytes in a document says.
 fn short_element_at(doc: &[u8], at: usize, len: usize) -> Element
     requires { ⌜ at + 8 ≤ length (now doc) ⌝ }
     ensures { λ r. ⌜ r ≡ elementOf (piece (now (doc .entry)) at len) ⌝ }

@@ -7,9 +7,9 @@ use Prim.Native.Nat.{ℕ, zero, suc, _+_, _*_, _-_, _≤_, _<_}
 use native.Mathlib.Omega.{arith}
 use lib.Dec.{eqb, leb, ltb}
 use lib.ListN.{length, drop}
-use borrow.Author.Tests.{lt-ltb, le-ltb, lt-leb, leb-true, leb-false, le-leb, ne-eqb, not-true, not-false}
+use borrow.Author.Tests.{lt-ltb, le-ltb, lt-leb, leb-true, leb-false, le-leb, eq-eqb, ne-eqb, not-true, not-false}
 use Rattle.texts.specs.Choice.{pick}
-use Rattle.texts.specs.Text.{ascii, piece, startsWith}
+use Rattle.texts.specs.Text.{ascii, piece, same, startsWith}
 use Rattle.texts.specs.Scan.{scan, until, is, isAscii}
 use Rattle.texts.proofs.Choosing.{by-test, pick-yes, pick-no}
 use Rattle.refusals.specs.declared.Refusal.{Refusal}
@@ -25,20 +25,22 @@ use Rattle.saxlite.specs.Reader.{cursorAt, readStep, readAt, atEnd}
 use Rattle.saxlite.proofs.Stepping.{step-text as text-step}
 use Rattle.saxlite.proofs.Moving.{text-within, close-within, skipped-within, end-past, open-within, open-named, open-past}
 use Rattle.xmlschema.specs.Schema.{Schema}
-use Rattle.xmlschema.specs.Builder.{Builder, Outcome, on, refused}
+use Rattle.elements.specs.Elements.{elementOf, IsLeaf}
+use Rattle.xmlschema.specs.Builder.{Builder, Outcome, on, refused, top, closeBy}
 use Rattle.xmlschema.specs.Whole.{step, Whole, accepted, refusedBy, ending, run, empty, reading, theLimits, answerOf}
 use Rattle.xmlschema.specs.Store.{itemsOf, schemaOf}
-use Rattle.xmlschema.specs.Layout.{modelIn, builderOf, stackOf, current, Kept, Ready, Tagged, After, outcome, usedBy}
-use Rattle.xmlschema.specs.Driving.{takes, Inside, first, Passes, shown, ReadInto, cursorOf}
+use Rattle.xmlschema.specs.Layout.{modelIn, builderOf, stackOf, higher, current, Kept, Ready, Tagged, After, outcome, usedBy}
+use Rattle.xmlschema.specs.Driving.{takes, Inside, first, Passes, Shuts, shown, ReadInto, cursorOf}
 use Rattle.xmlschema.specs.declared.build.Schema.{Schema as Read-schema}
 use Rattle.xmlschema.specs.declared.build.Schema.the-variants as read
 use Rattle.xmlschema.specs.declared.build.Mark.{Mark}
+use Rattle.xmlschema.specs.declared.build.Reached.{Reached}
 use Rattle.xmlschema.specs.declared.state.Limits.{Limits}
 use Rattle.xmlschema.specs.declared.state.State.{State}
 use Rattle.xmlschema.specs.declared.state.Verdict.{Verdict}
 use Rattle.xmlschema.specs.declared.state.Verdict.the-variants as verdict
-use Rattle.xmlschema.proofs.Stacking.{length-stack}
-use Rattle.xmlschema.proofs.Closing.{text-off}
+use Rattle.xmlschema.proofs.Stacking.{length-stack, pop-kept}
+use Rattle.xmlschema.proofs.Closing.{text-off, shut-field, shut-type, close-right}
 
 -- ---- the cursor moves on
 
@@ -297,15 +299,54 @@ module _ (l : Limits) (doc : List ℕ) (m : Mark) (s : State) (rec text : List �
             least = omega (arith, reading-less l doc (cursorOf m) s rec text inv (sym (t .1)) refl e a refl);
           }
 
-module _ (l : Limits) (doc : List ℕ) (c : Cursor) (s : State) (rec text : List ℕ) (inv : Reading l doc c s rec text) {b : Bool} (eb : b ≡ atEnd doc c) (more : not b ≡ true) {n : Mark} {s′ : State} {w : Verdict} {rec′ text′ : List ℕ} (to : cursorOf n ≡ readAt doc c .cursor) (p : After (step l doc (readAt doc c .place) (readAt doc c .event) (builderOf s doc rec text)) s (takes (readAt doc c .event)) doc (record { state = s′; verdict = w }) rec′ text′) (v : w ≡ verdict.Fine) {r : Mark} (q : Passes doc (s′ .current .flag) n r) where
-  after-text : Passed l doc (cursorOf n) (cursorOf r) s′ rec′ text′
-  after-text = passed l doc n s′ rec′ text′ (reading-on l doc c s rec text inv eb more to p v) q
+-- ---- a close that only pops the name is passed with its open
 
-  pub passing-on : Reading l doc (cursorOf r) s′ rec′ text′
+pub turned-deep : {o : Outcome} {s : State} {k : ℕ} {doc : List ℕ} {s′ : State} {w : Verdict} {rec text : List ℕ} → After o s k doc (record { state = s′; verdict = w }) rec text → w ≡ verdict.Fine → s′ .place .depth ≤ 64
+turned-deep p v = p .kept v .deep
+
+pub shut-same : (doc rec : List ℕ) (s : State) (m : Mark) → Shuts doc rec s m (record { state = s; mark = m })
+shut-same doc rec s m = record { is = inl refl }
+
+pub shut-leaf : (doc rec : List ℕ) (s : State) (m : Mark) → m .owed ≡ 1 → {a : Bool} → IsLeaf (piece doc (m .name) (m .len)) a → a ≡ true → {b : Bool} → b ≡ same (piece doc (m .name) (m .len)) (top (stackOf (s .place .depth) rec doc)) → b ≡ true → {p : State} → p ≡ higher s → {k : Mark} → k ≡ record { at = m .at; owed = 0; place = 0; name = 0; len = 0 } → Shuts doc rec s m (record { state = p; mark = k })
+shut-leaf doc rec s m o f t e u p k = record { is = inr (o, sym e ∙ u, record { is = λ x. f .is t }, rw (p, k)) }
+
+module _ (l : Limits) (doc : List ℕ) (m : Mark) (s : State) (rec text : List ℕ) (inv : Reading l doc (cursorOf m) s rec text) where
+  by-close : m .owed ≡ 1 → same (piece doc (m .name) (m .len)) (top (stackOf (s .place .depth) rec doc)) ≡ true → IsLeaf (piece doc (m .name) (m .len)) true → Passed l doc (cursorOf m) (cursorAt (m .at)) (higher s) rec text
+  unfolding atEnd readAt
+  by-close o t f =
+      let w : eqb (m .owed) 1 ≡ true = eq-eqb (m .owed) 1 o in
+      let g : atEnd doc (cursorOf m) ≡ false = rw w refl in
+      let r : readAt doc (cursorOf m) ≡ record { event = Close (m .name) (m .len); place = m .place; cursor = cursorAt (m .at) } = rw w refl in
+      let k = pop-kept s (higher s) doc rec text refl (inv .kept) in
+      let e = elementOf (piece doc (m .name) (m .len)) in
+      let h : After (on (closeBy e (builderOf (higher s) doc rec text))) (higher s) 0 doc (record { state = higher s; verdict = verdict.Fine }) rec text =
+      ⊎-elim (λ x. shut-field e (higher s) doc rec text k x refl) (λ x. shut-type e (higher s) doc rec text k x refl) (f .is refl) in
+      let a : After (step l doc (readAt doc (cursorOf m) .place) (readAt doc (cursorOf m) .event) (builderOf s doc rec text)) s (takes (readAt doc (cursorOf m) .event)) doc (record { state = higher s; verdict = verdict.Fine }) rec text =
+      subst (λ (x : Read). After (step l doc (x .place) (x .event) (builderOf s doc rec text)) s (takes (x .event)) doc (record { state = higher s; verdict = verdict.Fine }) rec text) (sym r) (close-right (m .place) (m .name) (m .len) s doc rec text refl t refl refl h) in
+      let d : cursorAt (m .at) ≡ readAt doc (cursorOf m) .cursor = sym (ap (λ (x : Read). x .cursor) r) in
+      record {
+        on = reading-on l doc (cursorOf m) s rec text inv (sym g) refl d a refl;
+        least = omega (arith, reading-less l doc (cursorOf m) s rec text inv (sym g) refl d a refl);
+      }
+
+  shut : {r : Reached} → Shuts doc rec s m r → Passed l doc (cursorOf m) (cursorOf (r .mark)) (r .state) rec text
+  shut {r} q =
+      ⊎-elim (λ e. subst (λ (x : Reached). Passed l doc (cursorOf m) (cursorOf (x .mark)) (x .state) rec text) (sym e) (record { on = inv; least = omega arith }))
+      (λ t. subst (λ (x : Reached). Passed l doc (cursorOf m) (cursorOf (x .mark)) (x .state) rec text) (sym (t .3)) (by-close (t .0) (t .1) (t .2)))
+      (q .is)
+
+module _ (l : Limits) (doc : List ℕ) (c : Cursor) (s : State) (rec text : List ℕ) (inv : Reading l doc c s rec text) {b : Bool} (eb : b ≡ atEnd doc c) (more : not b ≡ true) {n : Mark} {s′ : State} {w : Verdict} {rec′ text′ : List ℕ} (to : cursorOf n ≡ readAt doc c .cursor) (p : After (step l doc (readAt doc c .place) (readAt doc c .event) (builderOf s doc rec text)) s (takes (readAt doc c .event)) doc (record { state = s′; verdict = w }) rec′ text′) (v : w ≡ verdict.Fine) {k : Reached} (z : Shuts doc rec′ s′ n k) {r : Mark} (q : Passes doc (k .state .current .flag) (k .mark) r) where
+  shut-then : Passed l doc (cursorOf n) (cursorOf (k .mark)) (k .state) rec′ text′
+  shut-then = shut l doc n s′ rec′ text′ (reading-on l doc c s rec text inv eb more to p v) z
+
+  after-text : Passed l doc (cursorOf (k .mark)) (cursorOf r) (k .state) rec′ text′
+  after-text = passed l doc (k .mark) (k .state) rec′ text′ (shut-then .on) q
+
+  pub passing-on : Reading l doc (cursorOf r) (k .state) rec′ text′
   passing-on = after-text .on
 
   pub passing-less : left doc (cursorOf r) < left doc c
-  passing-less = omega (arith, after-text .least, reading-less l doc c s rec text inv eb more to p v)
+  passing-less = omega (arith, after-text .least, shut-then .least, reading-less l doc c s rec text inv eb more to p v)
 
 -- ---- the whole answer
 

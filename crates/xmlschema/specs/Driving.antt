@@ -12,9 +12,13 @@ use Rattle.saxlite.specs.declared.reader.Cursor.{Cursor}
 use Rattle.saxlite.specs.Reader.{readAt, atEnd}
 use Rattle.xmlschema.specs.Store.{schemaOf}
 use Rattle.xmlschema.specs.Whole.{Whole, accepted, refusedBy, answerOf}
-use Rattle.xmlschema.specs.Layout.{Tagged}
+use Rattle.texts.specs.Text.{piece, same}
+use Rattle.elements.specs.Elements.{IsLeaf}
+use Rattle.xmlschema.specs.Builder.{top}
+use Rattle.xmlschema.specs.Layout.{Tagged, stackOf, higher}
 use Rattle.xmlschema.specs.declared.state.State.{State}
 use Rattle.xmlschema.specs.declared.build.Mark.{Mark}
+use Rattle.xmlschema.specs.declared.build.Reached.{Reached}
 use Rattle.xmlschema.specs.declared.build.Schema.{Schema}
 use Rattle.xmlschema.specs.declared.build.Schema.the-variants as read
 
@@ -52,6 +56,15 @@ cursorOf m = record { at = m .at; owed = eqb (m .owed) 1; place = m .place; name
 -- from a mark to one past the text there, where none is collected: an event that changes nothing
 pub record Passes (doc : List ℕ) (collecting : Bool) (m r : Mark) : Type 0 where
   pub is : (r ≡ m) ⊎ ((collecting ≡ false) × (atEnd doc (cursorOf m) ≡ false) × (readAt doc (cursorOf m) ≡ record { event = Text (m .at) (r .at - m .at); place = m .at; cursor = cursorOf r }))
+
+-- from a mark and a state to those past the close that is owed there, where it only pops the name
+pub record Shuts (doc rec : List ℕ) (s : State) (m : Mark) (r : Reached) : Type 0 where
+  pub is :
+      (r ≡ record { state = s; mark = m })
+      ⊎ ((m .owed ≡ 1)
+      × (same (piece doc (m .name) (m .len)) (top (stackOf (s .place .depth) rec doc)) ≡ true)
+      × IsLeaf (piece doc (m .name) (m .len)) true
+      × (r ≡ record { state = higher s; mark = record { at = m .at; owed = 0; place = 0; name = 0; len = 0 } }))
 
 -- what an answer says, with the records and the text as they are then
 abbrev pub shown : Schema → List ℕ → List ℕ → Whole

@@ -4,12 +4,15 @@ use crate::close::on_text;
 use crate::items::Head;
 use crate::items::Model;
 use crate::open::on_open;
+use crate::stack::is_top;
+use crate::stack::pop;
 use crate::state::Current;
 use crate::state::Limits;
 use crate::state::Place;
 use crate::state::State;
 use crate::state::Stepped;
 use crate::state::Verdict;
+use elements::is_leaf_at;
 use refusals::Refusal;
 use saxlite::reader::Cursor;
 use saxlite::reader::Event;
@@ -28,7 +31,7 @@ ghost use Rattle.saxlite.specs.Reader.{readAt, atEnd};
 ghost use Rattle.saxlite.specs.Noting.{NotedIn};
 ghost use Rattle.xmlschema.specs.Whole.{step as stepOf, reading};
 ghost use Rattle.xmlschema.specs.Layout.{builderOf, Ready, After};
-ghost use Rattle.xmlschema.specs.Driving.{takes, Inside, first, cursorOf, Passes, shown, ReadInto};
+ghost use Rattle.xmlschema.specs.Driving.{takes, Inside, first, cursorOf, Passes, Shuts, shown, ReadInto};
 
 // 01's limits.
 const MAX_ITEMS: u32 = 1024;
@@ -227,6 +230,44 @@ fn at_end_of(doc: &[u8], mark: Mark) -> bool
     at_end(doc, cursor)
 }
 
+// A state, and the mark where it was reached.
+pub struct Reached {
+    pub state: State,
+    pub mark: Mark,
+}
+
+// Past the close that a self-closed field or type owes: it only pops the name.
+fn past_close(doc: &[u8], s: State, m: Mark, rec: &[u32]) -> Reached
+    requires { ⌜ s .place .depth ≤ 64 ⌝ }
+    ensures { λ r. ⌜ Shuts (now (doc .entry)) (now (rec .entry)) s m r ⌝ }
+{
+    if m.owed == 1 {
+        if is_leaf_at(doc, m.name, m.len) {
+            if is_top(s.place.depth, m.name, m.len, doc, rec) {
+                let state = pop(s);
+                return Reached {
+                    state,
+                    mark: free_mark(m.at),
+                };
+            }
+        }
+    }
+    Reached { state: s, mark: m }
+}
+
+// The mark at `at`, where no close is owed.
+fn free_mark(at: usize) -> Mark
+    ensures { λ r. ⌜ r ≡ record { at = at; owed = 0; place = 0; name = 0; len = 0 } ⌝ }
+{
+    Mark {
+        at,
+        owed: 0,
+        place: 0,
+        name: 0,
+        len: 0,
+    }
+}
+
 // Past the text at a mark, where none is collected: an event less.
 fn past_text(doc: &[u8], collecting: bool, m: Mark) -> Mark
     ensures { λ r. ⌜ Passes (now (doc .entry)) collecting m r ⌝ }
@@ -265,9 +306,10 @@ fn read_tested(l: Limits, doc: &[u8], rec: &mut [u32], text: &mut [u8]) -> Schem
         let verdict = t.verdict;
         match verdict {
             Verdict::Fine => {
-                let changed = t.state;
+                let shut = past_close(doc, t.state, t.mark, rec);
+                let changed = shut.state;
                 state = changed;
-                let on = past_text(doc, state.current.flag, t.mark);
+                let on = past_text(doc, state.current.flag, shut.mark);
                 mark = on;
             }
             Verdict::Refused(why) => {

@@ -41,16 +41,35 @@ turn-at-requires c κs = search driving
 enum-told : tie.Need-enum-told Inv-loop μ-loop
 enum-told c = search driving
 
+past-close-requires : tie.Need-past-close-requires Inv-loop μ-loop
+past-close-requires c κs = search driving
+
 past-text-requires : tie.Need-past-text-requires Inv-loop μ-loop
 past-text-requires c κs = search driving
 
 -- src/build.rt:143:5
 loop-less : tie.Need-loop-less Inv-loop μ-loop
-loop-less c = search driving
+loop-less c =
+    let q = c .past-text .ensures in
+    let z = c .before .before .past-close .ensures in
+    let told = c .before .before .before .before .enum-told in
+    let t = c .before .before .before .before .before .before .before .before .before .before .turn-at .ensures in
+    let more = c .before .before .before .before .before .before .before .before .before .before .before .before .before .if1 in
+    let e = c .before .before .before .before .before .before .before .before .before .before .before .before .before .before .at-end-of .ensures in
+    let held = c .before .before .before .before .before .before .before .before .before .before .before .before .before .before .before .loop in
+    search driving
 
 -- src/build.rt:143:5
 loop-again : tie.Need-loop-again Inv-loop μ-loop
-loop-again c = (search driving, search driving, search driving)
+loop-again c =
+    let q = c .past-text .ensures in
+    let z = c .before .before .past-close .ensures in
+    let told = c .before .before .before .before .enum-told in
+    let t = c .before .before .before .before .before .before .before .before .before .before .turn-at .ensures in
+    let more = c .before .before .before .before .before .before .before .before .before .before .before .before .before .if1 in
+    let e = c .before .before .before .before .before .before .before .before .before .before .before .before .before .before .at-end-of .ensures in
+    let held = c .before .before .before .before .before .before .before .before .before .before .before .before .before .before .before .loop in
+    (search driving, search driving, search driving)
 
 -- src/build.rt:153:30
 enum-known-verdict : tie.Need-enum-known-verdict Inv-loop μ-loop
@@ -105,6 +124,7 @@ read-tested-spec =
     at-end-of-requires
     turn-at-requires
     enum-told
+    past-close-requires
     past-text-requires
     loop-less
     loop-again
