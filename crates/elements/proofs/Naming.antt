@@ -12,7 +12,8 @@ use Rattle.texts.specs.Text.{ascii, piece, same}
 use Rattle.words.specs.Word.{wordOf}
 use Rattle.words.specs.Standing.{ShortText, LongText, StandsShort, StandsLong}
 use Rattle.words.proofs.Digits.{front-is}
-use Rattle.elements.specs.Elements.{elementOf, otherElementOf, IsLeaf}
+use Rattle.elements.specs.Elements.{elementOf, otherElementOf}
+use Rattle.elements.specs.Leaf.{IsLeaf}
 use Rattle.elements.specs.declared.Element.{Element}
 use Rattle.elements.specs.declared.Element.the-variants.{MessageSchema, «Type», Ref, Composite, Enum, ValidValue, Message, Group, Field, Other}
 

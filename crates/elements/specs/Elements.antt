@@ -1,8 +1,5 @@
 -- The elements that the builder knows, by their names.
-use mathlib.Core.Path.{_≡_}
-use mathlib.Core.Bool.{Bool, true}
 use mathlib.Core.List.{List}
-use mathlib.Core.Logic.{_⊎_}
 use Prim.Native.Nat.{ℕ}
 use Rattle.texts.specs.Choice.{pick}
 use Rattle.texts.specs.Text.{ascii, same}
@@ -26,7 +23,3 @@ elementOf name =
     (pick (same name (ascii "composite")) Composite
     (pick (same name (ascii "enum")) Enum
     (otherElementOf name)))))
-
--- r is true only where the name is that of a field or a type
-pub record IsLeaf (name : List ℕ) (r : Bool) : Type 0 where
-  pub is : r ≡ true → (elementOf name ≡ Field) ⊎ (elementOf name ≡ «Type»)

@@ -10,7 +10,8 @@ ghost use mathlib.Core.Path.{_≡_};
 ghost use Prim.Native.Nat.{_+_, _≤_};
 ghost use lib.ListN.{length};
 ghost use Rattle.texts.specs.Text.{piece};
-ghost use Rattle.elements.specs.Elements.{elementOf, otherElementOf, IsLeaf};
+ghost use Rattle.elements.specs.Elements.{elementOf, otherElementOf};
+ghost use Rattle.elements.specs.Leaf.{IsLeaf};
 
 pub enum Element {
     MessageSchema,

@@ -6,7 +6,7 @@ use Prim.Native.Nat.{ℕ, zero, suc, _+_, _-_, _≤_, _<_, _^_}
 use native.Mathlib.Nat.{add-zero}
 use native.Mathlib.Omega.{arith}
 use lib.Dec.{T, eqb, ltb}
-use lib.ListN.{length, take, drop, length-append}
+use lib.ListN.{length, take, drop, length-append, take-append-drop}
 use lib.Seq.{drop-drop, take-append-seam, drop-append-seam}
 use mir.Val.{Fits}
 use mir.Syntax.{w64}
@@ -16,7 +16,8 @@ use Rattle.texts.specs.Lists.{all}
 use Rattle.texts.specs.Text.{ascii, piece, same, startsWith}
 use Rattle.texts.specs.Scan.{countWhile, scan, until, is}
 use Rattle.texts.proofs.Choosing.{by-test, and-left, and-right}
-use Rattle.texts.proofs.Comparing.{starts-yes, starts-no}
+use Rattle.texts.proofs.Comparing.{starts-no}
+use Rattle.words.proofs.Digits.{front-is}
 use Rattle.texts.proofs.Scanning.{count-yes, count-no}
 use Rattle.classes.specs.Class.{isSpace, isTagNameEnd, isAttributeNameEnd}
 use Rattle.saxlite.specs.declared.known.Known.{Known}
@@ -41,14 +42,7 @@ up-each (suc n) p t k h l =
 -- ---- what stands at the front of a text
 
 pub starts-split : (a s : List ℕ) → startsWith a s ≡ true → s ≡ a ++ drop (length a) s
-unfolding startsWith
-starts-split [] s t = refl
-starts-split (n ∷ ns) [] t = absurd (let z : _≡_ {A = ℕ} 0 1 = cc in omega arith)
-starts-split (n ∷ ns) (x ∷ xs) t =
-    by-test (eqb x n)
-    (λ e. let q = sym (starts-yes n x ns xs e) ∙ t in
-    ap (λ k. k ∷ xs) (eqb-true x n e) ∙ ap (λ l. n ∷ l) (starts-split ns xs q))
-    (λ f. let q = sym (starts-no n x ns xs f) ∙ t in absurd (let z : _≡_ {A = ℕ} 0 1 = cc in omega arith))
+starts-split a s t = sym (take-append-drop (length a) s) ∙ ap (λ x. x ++ drop (length a) s) (front-is a s t)
 
 -- ---- a name in which nothing ends: no space, '>', '/' or '=', no colon, and no namespace
 

@@ -25,7 +25,8 @@ use Rattle.saxlite.specs.Reader.{cursorAt, readStep, readAt, atEnd}
 use Rattle.saxlite.proofs.Stepping.{step-text as text-step}
 use Rattle.saxlite.proofs.Moving.{text-within, close-within, skipped-within, end-past, open-within, open-named, open-past}
 use Rattle.xmlschema.specs.Schema.{Schema}
-use Rattle.elements.specs.Elements.{elementOf, IsLeaf}
+use Rattle.elements.specs.Elements.{elementOf}
+use Rattle.elements.specs.Leaf.{IsLeaf}
 use Rattle.xmlschema.specs.Builder.{Builder, Outcome, on, refused, top, closeBy}
 use Rattle.xmlschema.specs.Whole.{step, Whole, accepted, refusedBy, ending, run, empty, reading, theLimits, answerOf}
 use Rattle.xmlschema.specs.Store.{itemsOf, schemaOf}
@@ -274,11 +275,11 @@ module _ (l : Limits) (doc : List ℕ) (c : Cursor) (s : State) (rec text : List
 pub pass-none : {doc : List ℕ} {collecting : Bool} {m : Mark} → Passes doc collecting m m
 pass-none = record { is = inl refl }
 
-pub pass-text : (doc : List ℕ) {collecting : Bool} (m : Mark) → collecting ≡ false → (m .owed ≡ 1 → ⊥) → m .at < length doc → {b : Bool} → b ≡ startsWith (ascii "<") (drop (m .at) doc) → b ≡ false → {at : ℕ} → at ≡ scan (until (is 60)) doc (m .at) → Passes doc collecting m (record { at = at; owed = 0; place = 0; name = 0; len = 0 })
+pub pass-text : (doc : List ℕ) {collecting : Bool} (m : Mark) → collecting ≡ false → (m .owed ≡ 1 → ⊥) → m .at < length doc → {b : Bool} → b ≡ startsWith (ascii "<") (drop (m .at) doc) → b ≡ false → {at : ℕ} → at ≡ scan (until (is 60)) doc (m .at) → {r : Mark} → r ≡ record { at = at; owed = 0; place = 0; name = 0; len = 0 } → Passes doc collecting m r
 unfolding atEnd readAt
-pass-text doc m c o h e f p =
+pass-text doc m c o h e f p q =
     let w : eqb (m .owed) 1 ≡ false = ne-eqb (m .owed) 1 o in
-    record { is = inr (c, rw (w, lt-leb (length doc) (m .at) h), rw (w, ← text-step doc (m .at) h e f p)) }
+    rw q (record { is = inr (c, rw (w, lt-leb (length doc) (m .at) h), rw (w, ← text-step doc (m .at) h e f p)) })
 
 -- from c to d nothing was read that matters
 record Passed (l : Limits) (doc : List ℕ) (c d : Cursor) (s : State) (rec text : List ℕ) : Type 0 where

@@ -13,7 +13,7 @@ use Rattle.saxlite.specs.Reader.{readAt, atEnd}
 use Rattle.xmlschema.specs.Store.{schemaOf}
 use Rattle.xmlschema.specs.Whole.{Whole, accepted, refusedBy, answerOf}
 use Rattle.texts.specs.Text.{piece, same}
-use Rattle.elements.specs.Elements.{IsLeaf}
+use Rattle.elements.specs.Leaf.{IsLeaf}
 use Rattle.xmlschema.specs.Builder.{top}
 use Rattle.xmlschema.specs.Layout.{Tagged, stackOf, higher}
 use Rattle.xmlschema.specs.declared.state.State.{State}

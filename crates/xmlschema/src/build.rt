@@ -284,14 +284,7 @@ fn past_text(doc: &[u8], collecting: bool, m: Mark) -> Mark
     if starts_with(doc, m.at, b"<") {
         return m;
     }
-    let at = byte_from(doc, m.at, b'<');
-    Mark {
-        at,
-        owed: 0,
-        place: 0,
-        name: 0,
-        len: 0,
-    }
+    free_mark(byte_from(doc, m.at, b'<'))
 }
 
 // Reads a document whose length and bytes, and the buffers, are tested.
