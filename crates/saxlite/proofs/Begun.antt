@@ -4,9 +4,10 @@ use mathlib.Core.Bool.{Bool, true, false}
 use mathlib.Core.List.{List, [], _∷_, _++_, append-assoc}
 use Prim.Native.Nat.{ℕ, suc, _+_, _-_, _≤_, _<_, _^_}
 use native.Mathlib.Omega.{arith}
+use native.Mathlib.Nat.{add-zero}
 use lib.Dec.{T, lit<, leb→le}
 use lib.ListN.{length, take, drop, length-append}
-use lib.Seq.{take-append-seam}
+use lib.Seq.{take-append-seam, drop-append-seam, drop-drop}
 use mir.Val.{Fits}
 use mir.Syntax.{w64}
 use Rattle.texts.specs.Lists.{all}
@@ -24,73 +25,98 @@ use Rattle.saxlite.specs.declared.beginning.Opening.{Opening}
 use Rattle.saxlite.specs.declared.beginning.Beginning.{Beginning}
 use Rattle.saxlite.specs.declared.tag.Ending.the-variants.{Ends, Broken}
 use Rattle.saxlite.specs.declared.tag.Whole.{Whole}
-use Rattle.saxlite.specs.declared.step.Step.the-variants.{Open, Refused}
+use Rattle.saxlite.specs.declared.step.Step.the-variants.{Open, Close, Refused}
 use Rattle.saxlite.specs.Names.{prefixLength, localName}
 use Rattle.saxlite.specs.Attributes.{tagAt}
-use Rattle.saxlite.specs.Step.{openAt}
+use Rattle.saxlite.specs.Step.{openAt, closeAt}
 use Rattle.saxlite.specs.Noting.{keysOf, NotedBy, NotedAs}
 use Rattle.saxlite.specs.Known.{keysBy}
-use Rattle.saxlite.specs.Beginning.{rawName, openingText, Says, KnownBeginning, KnownShort, KnownLong, BeginsAt}
+use Rattle.saxlite.specs.Beginning.{rawName, taggedText, Says, KnownBeginning, KnownShort, KnownLong, BeginsAt}
 use Rattle.saxlite.proofs.Searching.{stands-within}
-use Rattle.saxlite.proofs.Naming.{lost-within, lost-fits, local-range}
-use Rattle.saxlite.proofs.Stepping.{open-unnamed, open-ends, open-broken}
+use Rattle.saxlite.proofs.Naming.{prefix-within, lost-within, lost-fits, local-range}
+use Rattle.saxlite.proofs.Stepping.{close-ends, open-unnamed, open-ends, open-broken}
 use Rattle.saxlite.proofs.Noting.{as-open}
 use Rattle.saxlite.proofs.Knowing.{up-each, starts-split}
 use Rattle.saxlite.proofs.Coding.{by-keys}
 
 -- ---- the known ones, by words
 
-pub begin-none : (doc : List ℕ) (at : ℕ) {r : Opening} → r ≡ record { code = 0; keys = 0; len = 0; lost = 0 } → KnownBeginning doc at r
-begin-none doc at e = rw e (record { stands = λ h. absurd (omega arith); says = λ h. absurd (omega arith) })
+pub begin-none : (behind : ℕ) (doc : List ℕ) (at : ℕ) {r : Opening} → r ≡ record { code = 0; keys = 0; len = 0; lost = 0 } → KnownBeginning behind doc at r
+begin-none behind doc at e = rw e (record { stands = λ h. absurd (omega arith); says = λ h. absurd (omega arith) })
 
-module _ (doc : List ℕ) (at : ℕ) {code len : ℕ} {b : Bool} where
-  pub begin-short : {keys modulus front : ℕ} → StandsShort doc at modulus front b → KnownShort code keys len modulus front → b ≡ true → KnownBeginning doc at (record { code = code; keys = keys; len = len; lost = 0 })
-  begin-short s t e = record { stands = λ h. sym (s .is (openingText code) (t .text)) ∙ e; says = λ h. t .says }
+module _ (doc : List ℕ) (at : ℕ) {behind code len : ℕ} {b : Bool} where
+  pub begin-short : {keys modulus front : ℕ} → StandsShort doc at modulus front b → KnownShort behind code keys len modulus front → b ≡ true → KnownBeginning behind doc at (record { code = code; keys = keys; len = len; lost = 0 })
+  begin-short s t e = record { stands = λ h. sym (s .is (taggedText behind code) (t .text)) ∙ e; says = λ h. t .says }
 
-  pub begin-long : {lost front modulus back : ℕ} → StandsLong doc at front modulus back b → KnownLong code len lost front modulus back → b ≡ true → KnownBeginning doc at (record { code = code; keys = 0; len = len; lost = lost })
-  begin-long s t e = record { stands = λ h. sym (s .is (openingText code) (t .text)) ∙ e; says = λ h. t .says }
+  pub begin-long : {lost front modulus back : ℕ} → StandsLong doc at front modulus back b → KnownLong behind code len lost front modulus back → b ≡ true → KnownBeginning behind doc at (record { code = code; keys = 0; len = len; lost = lost })
+  begin-long s t e = record { stands = λ h. sym (s .is (taggedText behind code) (t .text)) ∙ e; says = λ h. t .says }
 
-pub begin-short-power : {code keys len modulus front : ℕ} → KnownShort code keys len modulus front → 0 < modulus
+pub begin-short-power : {behind code keys len modulus front : ℕ} → KnownShort behind code keys len modulus front → 0 < modulus
 begin-short-power t = power-some (t .text)
 
-pub begin-long-power : {code len lost front modulus back : ℕ} → KnownLong code len lost front modulus back → 0 < modulus
+pub begin-long-power : {behind code len lost front modulus back : ℕ} → KnownLong behind code len lost front modulus back → 0 < modulus
 begin-long-power t = power-some (t .text .rest)
 
-pub begin-field : KnownShort 1 0 5 281474976710656 35615687403878
+pub begin-field : KnownShort 32 1 0 5 281474976710656 35615687403878
 unfolding wordOf keysOf prefixLength same
 begin-field = record { says = record { below = lit< tt; long = refl; prefix = refl; matter = refl }; text = record { few = leb→le 6 8 tt; power = refl; number = refl; bytes = tt } }
 
-pub begin-type : KnownShort 2 2 4 1099511627776 139140823412
+pub begin-type : KnownShort 32 2 2 4 1099511627776 139140823412
 unfolding wordOf keysOf prefixLength same
 begin-type = record { says = record { below = lit< tt; long = refl; prefix = refl; matter = refl }; text = record { few = leb→le 5 8 tt; power = refl; number = refl; bytes = tt } }
 
-pub begin-enum : KnownShort 3 3 4 1099511627776 139275365989
+pub begin-enum : KnownShort 32 3 3 4 1099511627776 139275365989
 unfolding wordOf keysOf prefixLength same
 begin-enum = record { says = record { below = lit< tt; long = refl; prefix = refl; matter = refl }; text = record { few = leb→le 5 8 tt; power = refl; number = refl; bytes = tt } }
 
-pub begin-group : KnownShort 4 0 5 281474976710656 35667378664039
+pub begin-group : KnownShort 32 4 0 5 281474976710656 35667378664039
 unfolding wordOf keysOf prefixLength same
 begin-group = record { says = record { below = lit< tt; long = refl; prefix = refl; matter = refl }; text = record { few = leb→le 6 8 tt; power = refl; number = refl; bytes = tt } }
 
-pub begin-ref : KnownShort 5 0 3 4294967296 543581554
+pub begin-ref : KnownShort 32 5 0 3 4294967296 543581554
 unfolding wordOf keysOf prefixLength same
 begin-ref = record { says = record { below = lit< tt; long = refl; prefix = refl; matter = refl }; text = record { few = leb→le 4 8 tt; power = refl; number = refl; bytes = tt } }
 
-pub begin-value : KnownLong 6 10 0 7809618218102579574 16777216 2123125
+pub begin-value : KnownLong 32 6 10 0 7809618218102579574 16777216 2123125
 unfolding wordOf keysOf prefixLength same
 begin-value = record { says = record { below = lit< tt; long = refl; prefix = refl; matter = refl }; text = record { eight = refl; number = refl; bytes = tt; rest = record { few = leb→le 3 8 tt; power = refl; number = refl; bytes = tt } } }
 
-pub begin-composite : KnownLong 7 9 0 8388362703419043683 65536 8293
+pub begin-composite : KnownLong 32 7 9 0 8388362703419043683 65536 8293
 unfolding wordOf keysOf prefixLength same
 begin-composite = record { says = record { below = lit< tt; long = refl; prefix = refl; matter = refl }; text = record { eight = refl; number = refl; bytes = tt; rest = record { few = leb→le 2 8 tt; power = refl; number = refl; bytes = tt } } }
 
-pub begin-prefixed : KnownLong 8 11 4 8319104456489001587 4294967296 543516513
+pub begin-prefixed : KnownLong 32 8 11 4 8319104456489001587 4294967296 543516513
 unfolding wordOf keysOf prefixLength same
 begin-prefixed = record { says = record { below = lit< tt; long = refl; prefix = refl; matter = refl }; text = record { eight = refl; number = refl; bytes = tt; rest = record { few = leb→le 4 8 tt; power = refl; number = refl; bytes = tt } } }
 
-pub begin-message : KnownLong 9 7 0 2334385650107901293 1 0
+pub begin-message : KnownLong 32 9 7 0 2334385650107901293 1 0
 unfolding wordOf keysOf prefixLength same
 begin-message = record { says = record { below = lit< tt; long = refl; prefix = refl; matter = refl }; text = record { eight = refl; number = refl; bytes = tt; rest = record { few = leb→le 0 8 tt; power = refl; number = refl; bytes = tt } } }
+
+-- what such a name says is the same where '>' stands behind it
+pub close-enum : KnownShort 62 3 3 4 1099511627776 268124384869
+unfolding wordOf
+close-enum = record { says = begin-enum .says; text = record { few = leb→le 5 8 tt; power = refl; number = refl; bytes = tt } }
+
+pub close-group : KnownShort 62 4 0 5 281474976710656 68652727497319
+unfolding wordOf
+close-group = record { says = begin-group .says; text = record { few = leb→le 6 8 tt; power = refl; number = refl; bytes = tt } }
+
+pub close-value : KnownLong 62 6 10 0 7809618218102579574 16777216 4089205
+unfolding wordOf
+close-value = record { says = begin-value .says; text = record { eight = refl; number = refl; bytes = tt; rest = record { few = leb→le 3 8 tt; power = refl; number = refl; bytes = tt } } }
+
+pub close-composite : KnownLong 62 7 9 0 8388362703419043683 65536 15973
+unfolding wordOf
+close-composite = record { says = begin-composite .says; text = record { eight = refl; number = refl; bytes = tt; rest = record { few = leb→le 2 8 tt; power = refl; number = refl; bytes = tt } } }
+
+pub close-prefixed : KnownLong 62 8 11 4 8319104456489001587 4294967296 1046832993
+unfolding wordOf
+close-prefixed = record { says = begin-prefixed .says; text = record { eight = refl; number = refl; bytes = tt; rest = record { few = leb→le 4 8 tt; power = refl; number = refl; bytes = tt } } }
+
+pub close-message : KnownLong 62 9 7 0 4496113471245739373 1 0
+unfolding wordOf
+close-message = record { says = begin-message .says; text = record { eight = refl; number = refl; bytes = tt; rest = record { few = leb→le 0 8 tt; power = refl; number = refl; bytes = tt } } }
 
 -- ---- such a raw name is what the general way finds
 
@@ -104,31 +130,78 @@ raw-plain : (code : ℕ) → 0 < code → code < 10 → T (all (until isTagNameE
 unfolding isTagNameEnd isSpace all
 raw-plain code h l = up-each 9 (λ k. all (until isTagNameEnd) (rawName k)) tt code h (omega arith)
 
-module _ (doc : List ℕ) (name : ℕ) {k : Opening} (b : KnownBeginning doc name k) (h : 0 < k .code) where
+module _ (behind : ℕ) (e : until isTagNameEnd behind ≡ false) (doc : List ℕ) (name : ℕ) {k : Opening} (b : KnownBeginning behind doc name k) (h : 0 < k .code) where
   abbrev n : List ℕ
   n = rawName (k .code)
 
-  split : drop name doc ≡ n ++ 32 ∷ drop (length (openingText (k .code))) (drop name doc)
-  split = starts-split (openingText (k .code)) (drop name doc) (b .stands h) ∙ append-assoc n (ascii " ") _
+  abbrev rest : List ℕ
+  rest = drop (length (taggedText behind (k .code))) (drop name doc)
 
-  pub begin-fits : length doc < 2 ^ 64 → Fits w64 (name + k .len)
-  begin-fits l =
-      let m = length-append n (ascii " ") in
-      omega (arith, stands-within (openingText (k .code)) doc name (b .stands h) (omega (arith, m)), m, b .says h .long)
+  split : drop name doc ≡ n ++ behind ∷ rest
+  split = starts-split (taggedText behind (k .code)) (drop name doc) (b .stands h) ∙ append-assoc n (behind ∷ []) _
+
+  within : name + k .len + 1 ≤ length doc
+  within =
+      let m = length-append n (behind ∷ []) in
+      omega (arith, stands-within (taggedText behind (k .code)) doc name (b .stands h) (omega (arith, m)), m, b .says h .long)
 
   named : piece doc name (k .len) ≡ n
   named = rw (b .says h .long) (ap (take (length n)) split ∙ take-append-seam n _)
 
   ends : name + k .len ≡ scan (until isTagNameEnd) doc name
+  ends = rw (b .says h .long) (ap (λ c. name + c) (sym (ap (countWhile (until isTagNameEnd)) split ∙ count-to (until isTagNameEnd) n behind _ (raw-plain (k .code) h (b .says h .below)) e)))
+
+  follows : drop (name + k .len) doc ≡ behind ∷ rest
+  follows = rw (b .says h .long) (sym (drop-drop (length n) name doc) ∙ ap (drop (length n)) split ∙ drop-append-seam n (behind ∷ rest))
+
+  lost-is : k .lost ≡ prefixLength (piece doc name (k .len))
+  lost-is = rw named (b .says h .prefix)
+
+  short : k .lost ≤ k .len
+  short = omega (arith, prefix-within n, b .says h .prefix, b .says h .long)
+
+module _ (doc : List ℕ) (name : ℕ) {k : Opening} (b : KnownBeginning 32 doc name k) (h : 0 < k .code) where
+  pub begin-fits : length doc < 2 ^ 64 → Fits w64 (name + k .len)
   unfolding isTagNameEnd isSpace
-  ends = rw (b .says h .long) (ap (λ c. name + c) (sym (ap (countWhile (until isTagNameEnd)) split ∙ count-to (until isTagNameEnd) n 32 _ (raw-plain (k .code) h (b .says h .below)) refl)))
+  begin-fits l = omega (arith, within 32 refl doc name b h)
 
   pub known-begins : BeginsAt doc name (record { end = name + k .len; lost = k .lost; keys = k .keys })
+  unfolding isTagNameEnd isSpace
   known-begins =
       let z : name + k .len - name ≡ k .len = omega arith in
-      let l : k .lost ≡ prefixLength (piece doc name (k .len)) = rw named (b .says h .prefix) in
-      let q : piece doc (name + k .lost) (k .len - k .lost) ≡ localName n = rw l (local-range doc name (k .len)) ∙ ap localName named in
-      record { ends = ends; lost = rw z l; keys = rw (z, q) (b .says h .matter) }
+      let l = lost-is 32 refl doc name b h in
+      let m = named 32 refl doc name b h in
+      let q : piece doc (name + k .lost) (k .len - k .lost) ≡ localName (rawName (k .code)) = rw l (local-range doc name (k .len)) ∙ ap localName m in
+      record { ends = ends 32 refl doc name b h; lost = rw z l; keys = rw (z, q) (b .says h .matter) }
+
+-- the close tag at `at`
+module _ (doc : List ℕ) (at : ℕ) {k : Opening} (b : KnownBeginning 62 doc (at + 2) k) (h : 0 < k .code) where
+  pub closing-within : at + 2 + k .len + 1 ≤ length doc
+  unfolding isTagNameEnd isSpace
+  closing-within = within 62 refl doc (at + 2) b h
+
+  pub closing-fits : length doc < 2 ^ 64 → Fits w64 (at + 2 + k .len)
+  closing-fits l = omega (arith, closing-within)
+
+  pub closing-next-fits : length doc < 2 ^ 64 → Fits w64 (at + 2 + k .len + 1)
+  closing-next-fits l = omega (arith, closing-within)
+
+  pub closing-lost : k .lost ≤ k .len
+  unfolding isTagNameEnd isSpace
+  closing-lost = short 62 refl doc (at + 2) b h
+
+  pub closing-local-fits : length doc < 2 ^ 64 → Fits w64 (at + 2 + k .lost)
+  closing-local-fits l = omega (arith, closing-within, closing-lost)
+
+  pub known-closes : Close (at + 2 + k .lost) (k .len - k .lost) (at + 2 + k .len + 1) ≡ closeAt doc at
+  unfolding isTagNameEnd isSpace startsWith
+  known-closes =
+      let z : at + 2 + k .len - (at + 2) ≡ k .len = omega arith in
+      let f = follows 62 refl doc (at + 2) b h in
+      let d : at + 2 + k .len ≡ scan isSpace doc (at + 2 + k .len) = sym (ap (λ c. at + 2 + k .len + c) (ap (countWhile isSpace) f ∙ count-no isSpace 62 (rest 62 refl doc (at + 2) b h) refl) ∙ add-zero _) in
+      let s : true ≡ startsWith (ascii ">") (drop (at + 2 + k .len) doc) = rw f refl in
+      let c = close-ends doc at (ends 62 refl doc (at + 2) b h) d s refl refl (lost-is 62 refl doc (at + 2) b h ∙ rw z refl) in
+      ap (λ m. Close (at + 2 + k .lost) (m - k .lost) (at + 2 + k .len + 1)) (sym z) ∙ c
 
 pub plain-begins :
     (doc : List ℕ) (name : ℕ) {end : ℕ} → end ≡ scan (until isTagNameEnd) doc name → {w : List ℕ} → w ≡ piece doc name (end - name) → {lost : ℕ} → lost ≡ prefixLength w →

@@ -17,9 +17,9 @@ use Rattle.saxlite.specs.Known.{nth, keysBy}
 abbrev pub rawName : ℕ → List ℕ
 rawName = nth ([] ∷ ascii "field" ∷ ascii "type" ∷ ascii "enum" ∷ ascii "group" ∷ ascii "ref" ∷ ascii "validValue" ∷ ascii "composite" ∷ ascii "sbe:message" ∷ ascii "message" ∷ [])
 
--- as it is nearly always written
-abbrev pub openingText : ℕ → List ℕ
-openingText code = rawName code ++ ascii " "
+-- as it is nearly always written: a space behind it where a tag opens, '>' where one closes
+abbrev pub taggedText : ℕ → ℕ → List ℕ
+taggedText behind code = rawName code ++ behind ∷ []
 
 -- what such a raw name says: its length, that of its prefix, and the names that matter
 pub record Says (code keys len lost : ℕ) : Type 0 where
@@ -28,19 +28,19 @@ pub record Says (code keys len lost : ℕ) : Type 0 where
   pub prefix : lost ≡ prefixLength (rawName code)
   pub matter : keysBy keys ≡ keysOf (localName (rawName code))
 
--- r is none, or what stands at `at`
-pub record KnownBeginning (doc : List ℕ) (at : ℕ) (r : Opening) : Type 0 where
-  pub stands : 0 < r .code → startsWith (openingText (r .code)) (drop at doc) ≡ true
+-- r is none, or what stands at `at` with that byte behind it
+pub record KnownBeginning (behind : ℕ) (doc : List ℕ) (at : ℕ) (r : Opening) : Type 0 where
+  pub stands : 0 < r .code → startsWith (taggedText behind (r .code)) (drop at doc) ≡ true
   pub says : 0 < r .code → Says (r .code) (r .keys) (r .len) (r .lost)
 
 -- the numbers by which such a text is told by words
-pub record KnownShort (code keys len modulus front : ℕ) : Type 0 where
+pub record KnownShort (behind code keys len modulus front : ℕ) : Type 0 where
   pub says : Says code keys len 0
-  pub text : ShortText (openingText code) modulus front
+  pub text : ShortText (taggedText behind code) modulus front
 
-pub record KnownLong (code len lost front modulus back : ℕ) : Type 0 where
+pub record KnownLong (behind code len lost front modulus back : ℕ) : Type 0 where
   pub says : Says code 0 len lost
-  pub text : LongText (openingText code) front modulus back
+  pub text : LongText (taggedText behind code) front modulus back
 
 -- of the tag whose raw name is due at `name`
 pub record BeginsAt (doc : List ℕ) (name : ℕ) (r : Beginning) : Type 0 where

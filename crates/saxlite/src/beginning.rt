@@ -1,5 +1,6 @@
-// Where a tag begins: its raw name, and what that says. Nearly every tag of a schema is of one of nine names, written
-// with a space behind it: that is told by one comparison, with no walk for the name's end, a colon or the names that matter.
+// Where a tag begins: its raw name, and what that says. Nearly every tag of a schema is of one of nine names, written with a
+// space behind it, or with '>' where it closes: that is told by one comparison, with no walk for the name's end, a colon or the
+// names that matter.
 use crate::scan::prefix_len;
 use crate::scan::tag_name_end;
 use crate::tag::keys_of;
@@ -38,18 +39,20 @@ fn none() -> Opening
     }
 }
 
-// The raw name of a number, where it stands at `at` with a space behind it: a text of less than eight bytes.
+// The raw name of a number, where it stands at `at` with `behind` behind it: a text of less than eight bytes. That byte is
+// in the numbers already, and named for the contract.
 fn opening_short(
     doc: &[u8],
     at: usize,
+    behind: u8,
     code: usize,
     keys: usize,
     len: usize,
     modulus: u64,
     front: u64,
 ) -> Opening
-    requires { ⌜ (at + 8 ≤ length (now doc)) × KnownShort code keys len modulus front ⌝ }
-    ensures { λ r. ⌜ KnownBeginning (now (doc .entry)) at r ⌝ }
+    requires { ⌜ (at + 8 ≤ length (now doc)) × KnownShort behind code keys len modulus front ⌝ }
+    ensures { λ r. ⌜ KnownBeginning behind (now (doc .entry)) at r ⌝ }
 {
     if stands_short(doc, at, modulus, front) {
         return Opening {
@@ -66,6 +69,7 @@ fn opening_short(
 fn opening_long(
     doc: &[u8],
     at: usize,
+    behind: u8,
     code: usize,
     len: usize,
     lost: usize,
@@ -73,8 +77,8 @@ fn opening_long(
     modulus: u64,
     back: u64,
 ) -> Opening
-    requires { ⌜ (at + 16 ≤ length (now doc)) × KnownLong code len lost front modulus back ⌝ }
-    ensures { λ r. ⌜ KnownBeginning (now (doc .entry)) at r ⌝ }
+    requires { ⌜ (at + 16 ≤ length (now doc)) × KnownLong behind code len lost front modulus back ⌝ }
+    ensures { λ r. ⌜ KnownBeginning behind (now (doc .entry)) at r ⌝ }
 {
     if stands_long(doc, at, front, modulus, back) {
         return Opening {
@@ -90,19 +94,20 @@ fn opening_long(
 // The known beginning at `at`, by its first letter.
 fn opening_by(doc: &[u8], at: usize) -> Opening
     requires { ⌜ at + 16 ≤ length (now doc) ⌝ }
-    ensures { λ r. ⌜ KnownBeginning (now (doc .entry)) at r ⌝ }
+    ensures { λ r. ⌜ KnownBeginning 32 (now (doc .entry)) at r ⌝ }
 {
     match doc[at] {
         // "field ", "type ", "enum ", "group ", "ref "
-        b'f' => opening_short(doc, at, 1, 0, 5, 0x1_0000_0000_0000, 0x2064_6c65_6966),
-        b't' => opening_short(doc, at, 2, 2, 4, 0x100_0000_0000, 0x20_6570_7974),
-        b'e' => opening_short(doc, at, 3, 3, 4, 0x100_0000_0000, 0x20_6d75_6e65),
-        b'g' => opening_short(doc, at, 4, 0, 5, 0x1_0000_0000_0000, 0x2070_756f_7267),
-        b'r' => opening_short(doc, at, 5, 0, 3, 0x1_0000_0000, 0x2066_6572),
+        b'f' => opening_short(doc, at, b' ', 1, 0, 5, 0x1_0000_0000_0000, 0x2064_6c65_6966),
+        b't' => opening_short(doc, at, b' ', 2, 2, 4, 0x100_0000_0000, 0x20_6570_7974),
+        b'e' => opening_short(doc, at, b' ', 3, 3, 4, 0x100_0000_0000, 0x20_6d75_6e65),
+        b'g' => opening_short(doc, at, b' ', 4, 0, 5, 0x1_0000_0000_0000, 0x2070_756f_7267),
+        b'r' => opening_short(doc, at, b' ', 5, 0, 3, 0x1_0000_0000, 0x2066_6572),
         // "validValue ", "composite ", "sbe:message ", "message "
         b'v' => opening_long(
             doc,
             at,
+            b' ',
             6,
             10,
             0,
@@ -110,10 +115,21 @@ fn opening_by(doc: &[u8], at: usize) -> Opening
             0x100_0000,
             0x20_6575,
         ),
-        b'c' => opening_long(doc, at, 7, 9, 0, 0x7469_736f_706d_6f63, 0x1_0000, 0x2065),
+        b'c' => opening_long(
+            doc,
+            at,
+            b' ',
+            7,
+            9,
+            0,
+            0x7469_736f_706d_6f63,
+            0x1_0000,
+            0x2065,
+        ),
         b's' => opening_long(
             doc,
             at,
+            b' ',
             8,
             11,
             4,
@@ -121,14 +137,14 @@ fn opening_by(doc: &[u8], at: usize) -> Opening
             0x1_0000_0000,
             0x2065_6761,
         ),
-        b'm' => opening_long(doc, at, 9, 7, 0, 0x2065_6761_7373_656d, 1, 0),
+        b'm' => opening_long(doc, at, b' ', 9, 7, 0, 0x2065_6761_7373_656d, 1, 0),
         _ => none(),
     }
 }
 
 // The known beginning at `at`; none is looked for in the last 15 bytes.
 fn opening_at(doc: &[u8], at: usize) -> Opening
-    ensures { λ r. ⌜ KnownBeginning (now (doc .entry)) at r ⌝ }
+    ensures { λ r. ⌜ KnownBeginning 32 (now (doc .entry)) at r ⌝ }
 {
     if doc.len() < 16 {
         return none();
@@ -161,4 +177,52 @@ pub fn begin_at(doc: &[u8], name: usize) -> Beginning
     let len = n - lost;
     let keys = keys_of(texts::part(doc, local, len));
     Beginning { end, lost, keys }
+}
+
+// The known raw name at `at` with '>' behind it, by its first letter.
+pub fn closing_by(doc: &[u8], at: usize) -> Opening
+    requires { ⌜ at + 16 ≤ length (now doc) ⌝ }
+    ensures { λ r. ⌜ KnownBeginning 62 (now (doc .entry)) at r ⌝ }
+{
+    match doc[at] {
+        // "enum>", "group>"
+        b'e' => opening_short(doc, at, b'>', 3, 3, 4, 0x100_0000_0000, 0x3e_6d75_6e65),
+        b'g' => opening_short(doc, at, b'>', 4, 0, 5, 0x1_0000_0000_0000, 0x3e70_756f_7267),
+        // "validValue>", "composite>", "sbe:message>", "message>"
+        b'v' => opening_long(
+            doc,
+            at,
+            b'>',
+            6,
+            10,
+            0,
+            0x6c61_5664_696c_6176,
+            0x100_0000,
+            0x3e_6575,
+        ),
+        b'c' => opening_long(
+            doc,
+            at,
+            b'>',
+            7,
+            9,
+            0,
+            0x7469_736f_706d_6f63,
+            0x1_0000,
+            0x3e65,
+        ),
+        b's' => opening_long(
+            doc,
+            at,
+            b'>',
+            8,
+            11,
+            4,
+            0x7373_656d_3a65_6273,
+            0x1_0000_0000,
+            0x3e65_6761,
+        ),
+        b'm' => opening_long(doc, at, b'>', 9, 7, 0, 0x3e65_6761_7373_656d, 1, 0),
+        _ => none(),
+    }
 }

@@ -1,5 +1,6 @@
 // One step of the reader.
 use crate::beginning::begin_at;
+use crate::beginning::closing_by;
 use crate::scan::Occurrence;
 use crate::scan::byte_from;
 use crate::scan::find;
@@ -77,8 +78,8 @@ fn skip_to(doc: &[u8], from: usize, end: &[u8], refusal: Refusal) -> Step
     }
 }
 
-// The close tag at `at`.
-fn close_at(doc: &[u8], at: usize) -> Step
+// The close tag at `at`, of any name.
+fn close_any(doc: &[u8], at: usize) -> Step
     requires { ⌜ at + 2 ≤ length (now doc) ⌝ }
     ensures { λ r. ⌜ r ≡ closeAt (now (doc .entry)) at ⌝ }
 {
@@ -102,6 +103,34 @@ fn close_at(doc: &[u8], at: usize) -> Step
         offset: due,
         place: at,
     })
+}
+
+// The close tag at `at`: at once, where its name is known. `close_any` has three callers, so that the compiler keeps it out of
+// the reader's loop.
+fn close_at(doc: &[u8], at: usize) -> Step
+    requires { ⌜ at + 2 ≤ length (now doc) ⌝ }
+    ensures { λ r. ⌜ r ≡ closeAt (now (doc .entry)) at ⌝ }
+{
+    let name = at + 2;
+    if doc.len() < 16 {
+        return close_any(doc, at);
+    }
+    if doc.len() - 16 < name {
+        return close_any(doc, at);
+    }
+    let known = closing_by(doc, name);
+    if 0 < known.code {
+        let end = name + known.len;
+        let next = end + 1;
+        let local = name + known.lost;
+        let name_len = known.len - known.lost;
+        return Step::Close {
+            name: local,
+            name_len,
+            next,
+        };
+    }
+    close_any(doc, at)
 }
 
 // The open tag at `at`.

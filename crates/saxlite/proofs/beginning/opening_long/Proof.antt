@@ -6,19 +6,19 @@ use Rattle.saxlite.proofs.beginning.opening_long.Lts as lts
 use Rattle.saxlite.proofs.beginning.none.Reads as none-reads
 use Rattle.words.proofs.stands_long.Reads as stands-long-reads
 
--- src/beginning.rt:79:8
+-- src/beginning.rt:83:8
 stands-long-requires : tie.Need-stands-long-requires
 stands-long-requires c κs = search beginning
 
--- src/beginning.rt:80:9
+-- src/beginning.rt:84:9
 returns : tie.Need-returns
 returns c = search beginning
 
--- src/beginning.rt:87:5
+-- src/beginning.rt:91:5
 none-requires : tie.Need-none-requires
 none-requires c κs = search beginning
 
--- src/beginning.rt:66:1
+-- src/beginning.rt:69:1
 returns-2 : tie.Need-returns-2
 returns-2 c = search beginning
 

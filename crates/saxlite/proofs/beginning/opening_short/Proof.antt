@@ -6,19 +6,19 @@ use Rattle.saxlite.proofs.beginning.opening_short.Lts as lts
 use Rattle.saxlite.proofs.beginning.none.Reads as none-reads
 use Rattle.words.proofs.stands_short.Reads as stands-short-reads
 
--- src/beginning.rt:54:8
+-- src/beginning.rt:57:8
 stands-short-requires : tie.Need-stands-short-requires
 stands-short-requires c κs = search beginning
 
--- src/beginning.rt:55:9
+-- src/beginning.rt:58:9
 returns : tie.Need-returns
 returns c = search beginning
 
--- src/beginning.rt:62:5
+-- src/beginning.rt:65:5
 none-requires : tie.Need-none-requires
 none-requires c κs = search beginning
 
--- src/beginning.rt:42:1
+-- src/beginning.rt:44:1
 returns-2 : tie.Need-returns-2
 returns-2 c = search beginning
 

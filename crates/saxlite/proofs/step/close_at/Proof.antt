@@ -1,86 +1,82 @@
-use Rattle.saxlite.proofs.Laws.{laws}
+use Rattle.saxlite.proofs.Laws.{beginning}
 use Rattle.saxlite.proofs.step.close_at.Statement.{statement}
 use Rattle.saxlite.proofs.step.close_at.Tie as tie
 use Rattle.saxlite.proofs.step.close_at.Reads as reads
 use Rattle.saxlite.proofs.step.close_at.Lts as lts
-use Rattle.classes.proofs.table.Reads as table-reads
-use Rattle.saxlite.proofs.scan.prefix_len.Reads as prefix-len-reads
-use Rattle.saxlite.proofs.scan.skip_space.Reads as skip-space-reads
-use Rattle.saxlite.proofs.scan.tag_name_end.Reads as tag-name-end-reads
-use Rattle.texts.proofs.part.Reads as part-reads
-use Rattle.texts.proofs.starts_with.Reads as starts-with-reads
+use Rattle.saxlite.proofs.beginning.closing_by.Reads as closing-by-reads
+use Rattle.saxlite.proofs.step.close_any.Reads as close-any-reads
 
--- src/step.rt:85:13
-table-requires : tie.Need-table-requires
-table-requires c κs = search laws
-
--- src/step.rt:86:16
+-- src/step.rt:114:16
 add-name : tie.Need-add-name
-add-name c = search laws
+add-name c = search beginning
 
--- src/step.rt:87:9
-tag-name-end-requires : tie.Need-tag-name-end-requires
-tag-name-end-requires c κs = search laws
+-- src/step.rt:116:9
+close-any-requires : tie.Need-close-any-requires
+close-any-requires c κs = search beginning
 
--- src/step.rt:88:9
-skip-space-requires : tie.Need-skip-space-requires
-skip-space-requires c κs = search laws
-
--- src/step.rt:89:37
-slice-aggregate-starts-with : tie.Need-slice-aggregate-starts-with
-slice-aggregate-starts-with c = search laws
-
--- src/step.rt:89:8
-starts-with-requires : tie.Need-starts-with-requires
-starts-with-requires c κs = search laws
-
--- src/step.rt:90:20
-add-next : tie.Need-add-next
-add-next c = search laws
-
--- src/step.rt:91:17
-sub-n : tie.Need-sub-n
-sub-n c = search laws
-
--- src/step.rt:92:31
-part-requires : tie.Need-part-requires
-part-requires c κs = search laws
-
--- src/step.rt:92:13
-prefix-len-requires : tie.Need-prefix-len-requires
-prefix-len-requires c κs = search laws
-
--- src/step.rt:93:21
-add-local : tie.Need-add-local
-add-local c = search laws
-
--- src/step.rt:94:24
-sub-name-len : tie.Need-sub-name-len
-sub-name-len c = search laws
-
--- src/step.rt:95:9
+-- src/step.rt:116:9
 returns : tie.Need-returns
-returns c = search laws
+returns c = search beginning
 
--- src/step.rt:81:1
+-- src/step.rt:118:8
+sub-if2 : tie.Need-sub-if2
+sub-if2 c = search beginning
+
+-- src/step.rt:119:9
+close-any-requires-2 : tie.Need-close-any-requires-2
+close-any-requires-2 c κs = search beginning
+
+-- src/step.rt:119:9
 returns-2 : tie.Need-returns-2
-returns-2 c = search laws
+returns-2 c = search beginning
+
+-- src/step.rt:121:9
+closing-by-requires : tie.Need-closing-by-requires
+closing-by-requires c κs = search beginning
+
+-- src/step.rt:123:19
+add-end : tie.Need-add-end
+add-end c = search beginning
+
+-- src/step.rt:124:20
+add-next : tie.Need-add-next
+add-next c = search beginning
+
+-- src/step.rt:125:21
+add-local : tie.Need-add-local
+add-local c = search beginning
+
+-- src/step.rt:126:24
+sub-name-len : tie.Need-sub-name-len
+sub-name-len c = search beginning
+
+-- src/step.rt:127:9
+returns-3 : tie.Need-returns-3
+returns-3 c = search beginning
+
+-- src/step.rt:133:5
+close-any-requires-3 : tie.Need-close-any-requires-3
+close-any-requires-3 c κs = search beginning
+
+-- src/step.rt:110:1
+returns-4 : tie.Need-returns-4
+returns-4 c = search beginning
 
 pub close-at-spec : {M : Type 1} → statement M
 close-at-spec =
     tie.close
     (tie.spec
-    table-requires
     add-name
-    tag-name-end-requires
-    skip-space-requires
-    slice-aggregate-starts-with
-    starts-with-requires
+    close-any-requires
+    returns
+    sub-if2
+    close-any-requires-2
+    returns-2
+    closing-by-requires
+    add-end
     add-next
-    sub-n
-    part-requires
-    prefix-len-requires
     add-local
     sub-name-len
-    returns
-    returns-2)
+    returns-3
+    close-any-requires-3
+    returns-4)
