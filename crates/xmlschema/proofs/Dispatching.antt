@@ -21,7 +21,7 @@ use Rattle.xmlschema.specs.Schema.{Item, Schema, noItem, itemAt}
 use Rattle.xmlschema.specs.Builder.{Builder, Outcome, on, refused, Attributes, numberIn, textIn, orEmpty, withSchema, openSchema, openType, openRef, openComposite, openEnum, openValue, openMessage, openGroup, openField, openBy, opened, top, withStack}
 use Rattle.xmlschema.specs.Whole.{attributesIn}
 use Rattle.xmlschema.specs.Store.{entryAt, itemOf, itemsOf, schemaOf}
-use Rattle.xmlschema.specs.Layout.{modelIn, builderOf, stackOf, deeper, pushed, Alike, Kept, Ready, Tagged, After, usedBy}
+use Rattle.xmlschema.specs.Layout.{modelIn, builderOf, stackOf, inComposite, deeper, pushed, Alike, Kept, Ready, Tagged, After, usedBy}
 use Rattle.xmlschema.specs.Taking.{TakenAt, ReadAt}
 use Rattle.elements.specs.Elements.{elementOf}
 use Rattle.elements.specs.declared.Element.{Element}
@@ -37,7 +37,7 @@ use Rattle.xmlschema.specs.declared.state.Verdict.the-variants.{Fine, Re
 use Rattle.xmlschema.specs.declared.take.Taken.{Taken}
 use Rattle.xmlschema.proofs.Records.{getD-items, length-items}
 use Rattle.xmlschema.proofs.Alikes.{alike-self, alike-wider, alike-trans, builder-alike, kept-alike}
-use Rattle.xmlschema.proofs.Stacking.{length-stack, push-ready, push-builder}
+use Rattle.xmlschema.proofs.Stacking.{length-stack, push-ready, push-builder, push-below}
 use Rattle.xmlschema.proofs.Adding.{after-refused, after-same, after-as}
 use Rattle.xmlschema.proofs.Opening.{one-least, number-is, number-builder, number-ready}
 
@@ -177,16 +177,20 @@ opened-by : (l : Limits) (place : ℕ) (name : List ℕ) (a : Attributes) (b : B
 unfolding opened
 opened-by l place name a b h = rw h
 
+pub pushed-deep : (s : State) {p : State} → p ≡ deeper s → 0 < p .place .depth
+pushed-deep s ep = rw ep (omega arith)
+
 module _ (l : Limits) (place : ℕ) (s : State) (name len n : ℕ) (doc rec text : List ℕ) {p : State} {rec₁ : List ℕ} (r : Ready s n rec text) (d : s .place .depth < l .depth) (m : l .depth ≤ 64) (ep : p ≡ deeper s) (er : rec₁ ≡ pushed rec (s .place .depth) name len) where
   pub pushed-ready : Ready p n rec₁ text
   pushed-ready = push-ready s name len n doc rec text rec₁ p r (omega arith) ep er
 
-  pub open-done : {u : List ℕ} {inside : Bool} {e : Element} (a : Attributes) → u ≡ top (stackOf (s .place .depth) rec doc) → inside ≡ same u (ascii "composite") → e ≡ elementOf (piece doc name len) → {c : Stepped} {rec₂ text₂ : List ℕ}
-      → After (openBy e l place inside a (builderOf p doc rec₁ text)) p n doc c rec₂ text₂ → After (opened l place (piece doc name len) a (builderOf s doc rec text)) s n doc c rec₂ text₂
-  open-done {u} {inside} {e} a eu ei ee f =
+  pub open-done : {e : Element} (a : Attributes) → e ≡ elementOf (piece doc name len) → {c : Stepped} {rec₂ text₂ : List ℕ}
+      → After (openBy e l place (inComposite (p .place .depth) rec₁ doc) a (builderOf p doc rec₁ text)) p n doc c rec₂ text₂ → After (opened l place (piece doc name len) a (builderOf s doc rec text)) s n doc c rec₂ text₂
+  open-done {e} a ee f =
       let b = builderOf s doc rec text in
       let k : leb (l .depth) (length (stackOf (s .place .depth) rec doc)) ≡ false = rw (length-stack (s .place .depth) rec doc) (lt-leb (l .depth) (s .place .depth) d) in
-      let i : inside ≡ same (top (stackOf (s .place .depth) rec doc)) (ascii "composite") = ei ∙ ap (λ x. same x (ascii "composite")) eu in
+      let inside = inComposite (p .place .depth) rec₁ doc in
+      let i : inside ≡ same (top (stackOf (s .place .depth) rec doc)) (ascii "composite") = ap (λ x. same (top x) (ascii "composite")) (push-below s name len n doc rec text rec₁ p r (omega arith) ep er) in
       let q : openBy e l place inside a (builderOf p doc rec₁ text) ≡ opened l place (piece doc name len) a b =
       ap (λ x. openBy e l place inside a x) (push-builder s name len n doc rec text rec₁ p r (omega arith) ep er)
       ∙ ap (λ x. openBy x l place inside a (withStack (piece doc name len ∷ stackOf (s .place .depth) rec doc) b)) ee

@@ -229,11 +229,11 @@ module _ (l : Limits) (place : ℕ) (s : State) (doc rec text : List ℕ) (attri
   ref-dropped z = ref-not l place _ (builderOf s doc rec text) (current-zero z)
 
   module _ (r : Ready s (next - attributes) rec text) (g : Tagged doc attributes next) {f : Found} {t : List ℕ} {x : Number} (p : ReadAt f doc (s .place .low) text x t) (n : ℕ) (v : x ≡ number.Value n) where
-    pub member-dropped : f ≡ attributeAt doc attributes (ascii "length") → (inside : Bool) → inside ≡ true → s .current .composite ≡ 0
+    pub member-dropped : f ≡ attributeAt doc attributes (ascii "length") → (inside : Bool) {b : Bool} → b ≡ inside → b ≡ true → s .current .composite ≡ 0
         → on (builderOf s doc rec t) ≡ openType l place inside (attributesIn doc attributes) (builderOf s doc rec text)
-    member-dropped e inside i z =
+    member-dropped e inside h i z =
         ap on (number-builder s doc rec text attributes next r g (ascii "length") e p)
-        ∙ member-not l place _ (builderOf s doc rec text) inside (number-is doc attributes (ascii "length") e p n v) i (current-zero z)
+        ∙ member-not l place _ (builderOf s doc rec text) inside (number-is doc attributes (ascii "length") e p n v) (sym h ∙ i) (current-zero z)
 
     module _ (e : f ≡ attributeAt doc attributes (ascii "id")) (z : s .current .message ≡ 0) where
       pub group-dropped : on (builderOf s doc rec t) ≡ openGroup l place (attributesIn doc attributes) (builderOf s doc rec text)
@@ -312,18 +312,18 @@ value-lost l place s n doc rec text attributes z k =
 -- after a number: t is the text with the number's bytes in its free part
 module _ (l : Limits) (place : ℕ) (s : State) (doc rec text : List ℕ) (attributes next : ℕ) (r : Ready s (next - attributes) rec text) (g : Tagged doc attributes next) {t : List ℕ} {x : Number} (n : ℕ) (v : x ≡ number.Value n) where
   module _ (tag : Noted) (el : tag .first ≡ attributeAt doc attributes (ascii "length")) (en : tag .second ≡ attributeAt doc attributes (ascii "name")) (ep : tag .third ≡ attributeAt doc attributes (ascii "primitiveType")) (ec : tag .fourth ≡ attributeAt doc attributes (ascii "characterEncoding"))
-      (p : ReadAt (tag .first) doc (s .place .low) text x t) (inside : Bool) {a : Stepped} {rec′ t′ : List ℕ}
+      (p : ReadAt (tag .first) doc (s .place .low) text x t) (inside : Bool) {b : Bool} (h : b ≡ inside) {a : Stepped} {rec′ t′ : List ℕ}
     where
-      pub member-on : inside ≡ true → (s .current .composite ≡ 0 → ⊥) → Added l place (typeItemOf aMember (s .current .composite - 1) n tag doc) s (typeLength tag) doc rec t a rec′ t′
+      pub member-on : b ≡ true → (s .current .composite ≡ 0 → ⊥) → Added l place (typeItemOf aMember (s .current .composite - 1) n tag doc) s (typeLength tag) doc rec t a rec′ t′
           → After (openType l place inside (attributesIn doc attributes) (builderOf s doc rec text)) s (next - attributes) doc a rec′ t′
       member-on i z q =
-          after-as (member-by l place _ (builderOf s doc rec text) inside (number-is doc attributes (ascii "length") el p n v) i (current-some (s .current .composite) z))
+          after-as (member-by l place _ (builderOf s doc rec text) inside (number-is doc attributes (ascii "length") el p n v) (sym h ∙ i) (current-some (s .current .composite) z))
           (rw (← number-builder s doc rec text attributes next r g (ascii "length") el p) (type-added l place s doc rec t attributes next g aMember _ n tag el en ep ec q .after))
 
-      pub type-on : inside ≡ false → Added l place (typeItemOf aType 0 n tag doc) s (typeLength tag) doc rec t a rec′ t′
+      pub type-on : b ≡ false → Added l place (typeItemOf aType 0 n tag doc) s (typeLength tag) doc rec t a rec′ t′
           → After (openType l place inside (attributesIn doc attributes) (builderOf s doc rec text)) s (next - attributes) doc a rec′ t′
       type-on i q =
-          after-as (type-by l place _ (builderOf s doc rec text) inside (number-is doc attributes (ascii "length") el p n v) i)
+          after-as (type-by l place _ (builderOf s doc rec text) inside (number-is doc attributes (ascii "length") el p n v) (sym h ∙ i))
           (rw (← number-builder s doc rec text attributes next r g (ascii "length") el p) (type-added l place s doc rec t attributes next g aType 0 n tag el en ep ec q .after))
 
   module _ {f : Found} (e : f ≡ attributeAt doc attributes (ascii "id")) (p : ReadAt f doc (s .place .low) text x t) where

@@ -7,12 +7,12 @@ use native.Mathlib.Numerals.{add-one}
 use native.Mathlib.Omega.{arith}
 use lib.ListN.{length, getD, set, length-set}
 use lib.Seq.{sets, getD-set-same, getD-set-other}
-use Rattle.texts.specs.Text.{piece, same}
+use Rattle.texts.specs.Text.{ascii, piece, same}
 use Rattle.texts.proofs.Comparing.{equal-same}
 use Rattle.texts.proofs.Stores.{getD-sets-above}
-use Rattle.xmlschema.specs.Builder.{top, rest, withStack}
+use Rattle.xmlschema.specs.Builder.{Builder, top, rest, withStack}
 use Rattle.xmlschema.specs.Store.{entryAt, wordsOf, itemsOf, schemaOf}
-use Rattle.xmlschema.specs.Layout.{stackAt, stackOf, deeper, pushed, higher, modelIn, builderOf, Alike, Kept, Ready}
+use Rattle.xmlschema.specs.Layout.{stackAt, stackOf, inComposite, deeper, pushed, higher, modelIn, builderOf, Alike, Kept, Ready}
 use Rattle.xmlschema.specs.declared.items.Entry.{Entry}
 use Rattle.xmlschema.specs.declared.state.State.{State}
 use Rattle.xmlschema.proofs.Records.{entry-set, items-frame}
@@ -45,6 +45,11 @@ stack-push d from n rec doc h =
     let f : stackOf d (set r (stackAt d + 1) n) doc ≡ stackOf d rec doc =
     stack-frame d rec _ doc (λ k b. getD-set-other r (stackAt d + 1) (15360 + k) n 0 (λ e. omega arith) ∙ getD-set-other rec (stackAt d) (15360 + k) from 0 (λ e. omega arith)) in
     rw (add-one, a, b, f)
+
+rest-stack : (d : ℕ) (rec doc : List ℕ) → stackOf (d - 1) rec doc ≡ rest (stackOf d rec doc)
+unfolding stackOf
+rest-stack zero rec doc = refl
+rest-stack (suc d) rec doc = ap (λ k. stackOf k rec doc) (let z : suc d - 1 ≡ d = omega arith in z)
 
 -- ---- a name pushed
 
@@ -82,6 +87,10 @@ module _ (s : State) (from len n : ℕ) (doc rec text rec₁ : List ℕ) (p : St
       let k : stackOf (s .place .depth + 1) rec₁ doc ≡ piece doc from len ∷ stackOf (s .place .depth) rec doc = rw er (stack-push (s .place .depth) from len rec doc (omega (arith, r .kept .records))) in
       rw (ep, k, schema text)
 
+  -- the names below it are as they were
+  pub push-below : stackOf (p .place .depth - 1) rec₁ doc ≡ stackOf (s .place .depth) rec doc
+  push-below = rest-stack (p .place .depth) rec₁ doc ∙ ap (λ (b : Builder). rest (b .stack)) push-builder
+
 -- ---- the innermost name, and a name popped
 
 pub top-none : (w doc rec : List ℕ) (d : ℕ) → d ≡ 0 → w ≡ piece doc 0 0 → w ≡ top (stackOf d rec doc)
@@ -102,15 +111,13 @@ top-here doc rec d name len h e i f j = sym (equal-same (top-some (piece doc nam
 pub top-same : (doc rec : List ℕ) (d name len : ℕ) {v w : List ℕ} → v ≡ piece doc name len → w ≡ top (stackOf d rec doc) → {b : Bool} → b ≡ same v w → b ≡ same (piece doc name len) (top (stackOf d rec doc))
 top-same doc rec d name len e f g = rw (← e, ← f) g
 
+pub parent-same : (doc rec : List ℕ) (d : ℕ) {w : List ℕ} → w ≡ top (stackOf (d - 1) rec doc) → {b : Bool} → b ≡ same w (ascii "composite") → b ≡ inComposite d rec doc
+parent-same doc rec d e f = f ∙ ap (λ x. same x (ascii "composite")) e
+
 pub pop-none : (s : State) → s .place .depth ≡ 0 → s ≡ higher s
 pop-none s h =
     let z : s .place .depth - 1 ≡ s .place .depth = omega arith in
     rw z
-
-rest-stack : (d : ℕ) (rec doc : List ℕ) → stackOf (d - 1) rec doc ≡ rest (stackOf d rec doc)
-unfolding stackOf
-rest-stack zero rec doc = refl
-rest-stack (suc d) rec doc = ap (λ k. stackOf k rec doc) (let z : suc d - 1 ≡ d = omega arith in z)
 
 module _ (s p : State) (doc rec text : List ℕ) (e : p ≡ higher s) where
   pub pop-kept : Kept s rec text → Kept p rec text

@@ -6,13 +6,13 @@ use mathlib.Core.Option.{Option, none, some}
 use Prim.Native.Nat.{ℕ, zero, suc, _+_, _*_, _-_, _≤_}
 use lib.ListN.{length, getD, take, drop, set}
 use lib.Seq.{sets}
-use Rattle.texts.specs.Text.{piece}
+use Rattle.texts.specs.Text.{ascii, piece, same}
 use Rattle.texts.specs.declared.Range.{Range}
 use Rattle.refusals.specs.declared.Refusal.{Refusal}
 use Rattle.saxlite.specs.declared.step.Step.the-variants as step
 use Rattle.saxlite.specs.Step.{stepAt}
 use Rattle.xmlschema.specs.Schema.{Item, Schema}
-use Rattle.xmlschema.specs.Builder.{Builder, Outcome, on, refused, added}
+use Rattle.xmlschema.specs.Builder.{Builder, Outcome, on, refused, added, top}
 use Rattle.xmlschema.specs.declared.state.Limits.{Limits}
 use Rattle.xmlschema.specs.Store.{entryAt, wordsOf, itemOf, schemaOf}
 use Rattle.xmlschema.specs.declared.items.Entry.{Entry}
@@ -34,6 +34,10 @@ nameAt rec doc k = piece doc (getD rec (stackAt k) 0) (getD rec (stackAt k + 1) 
 unfoldable pub stackOf : ℕ → List ℕ → List ℕ → List (List ℕ)
 stackOf zero rec doc = []
 stackOf (suc k) rec doc = nameAt rec doc k ∷ stackOf k rec doc
+
+-- the name around the innermost one is composite
+abbrev pub inComposite : ℕ → List ℕ → List ℕ → Bool
+inComposite d rec doc = same (top (stackOf (d - 1) rec doc)) (ascii "composite")
 
 -- ---- the builder
 

@@ -44,7 +44,7 @@ ghost use Rattle.xmlschema.specs.Schema.{itemAt};
 ghost use Rattle.xmlschema.specs.Store.{itemOf, schemaOf};
 ghost use Rattle.xmlschema.specs.Builder.{openSchema, openType, openRef, openComposite, openEnum, openValue, openMessage, openGroup, openField, openBy, opened, plainItem, orEmpty};
 ghost use Rattle.xmlschema.specs.Whole.{attributesIn};
-ghost use Rattle.xmlschema.specs.Layout.{builderOf, modelIn, recurrent, Kept, Ready, Tagged, Steady, After, Added};
+ghost use Rattle.xmlschema.specs.Layout.{inComposite, builderOf, modelIn, recurrent, Kept, Ready, Tagged, Steady, After, Added};
 ghost use Rattle.xmlschema.specs.Taking.{typeItemOf, typeLength, keysFor};
 
 fn refuse(s: State, r: Refusal) -> Stepped
@@ -200,12 +200,18 @@ fn add_type(
     add(s, l, place, e, doc, rec, text)
 }
 
-// `inside`: whether the parent's name is composite.
+// Whether the parent's name is composite. The tag's own name is pushed by then, so the parent's is one below the top.
+fn in_composite(depth: usize, doc: &[u8], rec: &[u32]) -> bool
+    requires { ⌜ (0 < depth) × (depth ≤ 64) ⌝ }
+    ensures { λ r. ⌜ r ≡ inComposite depth (now (rec .entry)) (now (doc .entry)) ⌝ }
+{
+    equal(top_name(depth - 1, doc, rec), b"composite")
+}
+
 fn open_type(
     s: State,
     l: Limits,
     place: usize,
-    inside: bool,
     attributes: usize,
     next: usize,
     noted: Notes,
@@ -213,15 +219,15 @@ fn open_type(
     rec: &mut [u32],
     text: &mut [u8],
 ) -> Stepped
-    requires { ⌜ Ready s (next - attributes) (now rec) (now text) × Tagged (now doc) attributes next × (l .items ≤ 1024) × NotedBy typeKeys (now doc) attributes noted ⌝ }
-    ensures { λ r. ⌜ After (openType l place inside (attributesIn (now (doc .entry)) attributes) (builderOf s (now (doc .entry)) (now (rec .entry)) (now (text .entry)))) s (next - attributes) (now (doc .entry)) r (now (rec .exit)) (now (text .exit)) ⌝ }
+    requires { ⌜ Ready s (next - attributes) (now rec) (now text) × Tagged (now doc) attributes next × (l .items ≤ 1024) × NotedBy typeKeys (now doc) attributes noted × (0 < s .place .depth) ⌝ }
+    ensures { λ r. ⌜ After (openType l place (inComposite (s .place .depth) (now (rec .entry)) (now (doc .entry))) (attributesIn (now (doc .entry)) attributes) (builderOf s (now (doc .entry)) (now (rec .entry)) (now (text .entry)))) s (next - attributes) (now (doc .entry)) r (now (rec .exit)) (now (text .exit)) ⌝ }
 {
     let tag = type_attributes(doc, attributes, noted);
     let length = tag.first;
     let Number::Value(size) = read_number(doc, length, text, s.place.low) else {
         return refuse(s, Refusal::BadNumber { place });
     };
-    if inside {
+    if in_composite(s.place.depth, doc, rec) {
         let composite = s.current.composite;
         if composite == 0 {
             return unchanged(s);
@@ -593,7 +599,6 @@ fn open_by(
     e: Element,
     l: Limits,
     place: usize,
-    inside: bool,
     attributes: usize,
     next: usize,
     noted: Notes,
@@ -601,12 +606,12 @@ fn open_by(
     rec: &mut [u32],
     text: &mut [u8],
 ) -> Stepped
-    requires { ⌜ Ready s (next - attributes) (now rec) (now text) × Tagged (now doc) attributes next × (l .items ≤ 1024) × NotedBy (keysFor e) (now doc) attributes noted ⌝ }
-    ensures { λ r. ⌜ After (openBy e l place inside (attributesIn (now (doc .entry)) attributes) (builderOf s (now (doc .entry)) (now (rec .entry)) (now (text .entry)))) s (next - attributes) (now (doc .entry)) r (now (rec .exit)) (now (text .exit)) ⌝ }
+    requires { ⌜ Ready s (next - attributes) (now rec) (now text) × Tagged (now doc) attributes next × (l .items ≤ 1024) × NotedBy (keysFor e) (now doc) attributes noted × (0 < s .place .depth) ⌝ }
+    ensures { λ r. ⌜ After (openBy e l place (inComposite (s .place .depth) (now (rec .entry)) (now (doc .entry))) (attributesIn (now (doc .entry)) attributes) (builderOf s (now (doc .entry)) (now (rec .entry)) (now (text .entry)))) s (next - attributes) (now (doc .entry)) r (now (rec .exit)) (now (text .exit)) ⌝ }
 {
     match e {
         Element::MessageSchema => open_schema(s, place, attributes, next, noted, doc, rec, text),
-        Element::Type => open_type(s, l, place, inside, attributes, next, noted, doc, rec, text),
+        Element::Type => open_type(s, l, place, attributes, next, noted, doc, rec, text),
         Element::Ref => open_ref(s, l, place, attributes, next, noted, doc, rec, text),
         Element::Composite => open_composite(s, l, place, attributes, next, noted, doc, rec, text),
         Element::Enum => open_enum(s, l, place, attributes, next, noted, doc, rec, text),
@@ -638,20 +643,7 @@ pub fn on_open(
     if l.depth <= depth {
         return refuse(s, Refusal::TooDeep { place });
     }
-    let inside = equal(top_name(depth, doc, rec), b"composite");
     let e = element_at(doc, name, len);
     let p = push(s, name, len, rec);
-    open_by(
-        p,
-        e,
-        l,
-        place,
-        inside,
-        attributes,
-        next,
-        noted,
-        doc,
-        rec,
-        text,
-    )
+    open_by(p, e, l, place, attributes, next, noted, doc, rec, text)
 }

@@ -5,12 +5,10 @@ use Rattle.xmlschema.proofs.open.on_open.Statement.{statement}
 use Rattle.xmlschema.proofs.open.on_open.Tie as tie
 use Rattle.xmlschema.proofs.open.on_open.Reads as reads
 use Rattle.xmlschema.proofs.open.on_open.Lts as lts
-use Rattle.texts.proofs.equal.Reads as equal-reads
 use Rattle.elements.proofs.element_at.Reads as element-at-reads
 use Rattle.xmlschema.proofs.open.open_by.Reads as open-by-reads
 use Rattle.xmlschema.proofs.open.refuse.Reads as refuse-reads
 use Rattle.xmlschema.proofs.stack.push.Reads as push-reads
-use Rattle.xmlschema.proofs.stack.top_name.Reads as top-name-reads
 
 -- src/open.rt:476:9
 refuse-requires : tie.Need-refuse-requires
@@ -19,18 +17,6 @@ refuse-requires c κs = search dispatching
 -- src/open.rt:476:9
 returns : tie.Need-returns
 returns c = search dispatching
-
--- src/open.rt:478:24
-top-name-requires : tie.Need-top-name-requires
-top-name-requires c κs = search dispatching
-
--- src/open.rt:478:51
-slice-aggregate-equal : tie.Need-slice-aggregate-equal
-slice-aggregate-equal c = search dispatching
-
--- src/open.rt:478:9
-equal-requires : tie.Need-equal-requires
-equal-requires c κs = search dispatching
 
 -- src/open.rt:479:9
 element-at-requires : tie.Need-element-at-requires
@@ -43,14 +29,12 @@ push-requires c κs = search dispatching
 -- src/open.rt:481:5
 open-by-requires : tie.Need-open-by-requires
 open-by-requires c κs =
-    let pre = c .before .before .before .before .before .before .before .before .before .before .before .before .before .before .before .before .pre in
-    let args = c .before .before .before .before .before .before .before .before .before .before .before .before .before .before .before .before .args in
-    let l-if1 = c .before .before .before .before .before .before .before .before .before .before .before .if1 .left in
-    let e-top-name = c .before .before .before .before .before .before .before .before .before .top-name .ensures in
-    let e-equal = c .before .before .before .before .before .before .before .equal .ensures in
+    let pre = c .before .before .before .before .before .before .before .before .before .before .before .before .pre in
+    let args = c .before .before .before .before .before .before .before .before .before .before .before .before .args in
+    let l-if1 = c .before .before .before .before .before .before .before .if1 .left in
     let e-element-at = c .before .before .before .before .before .before .element-at .ensures in
     let e-push = c .before .before .before .before .push .ensures in
-    (search dispatching, pre .1, pre .2, noted-element (now (args .doc)) (args .name) (args .len) _ _ _ e-element-at (pre .5))
+    (search dispatching, pre .1, pre .2, noted-element (now (args .doc)) (args .name) (args .len) _ _ _ e-element-at (pre .5), search dispatching)
 
 -- src/open.rt:459:1
 same-length : tie.Need-same-length
@@ -63,10 +47,8 @@ same-length-2 c = search dispatching
 -- src/open.rt:459:1
 returns-2 : tie.Need-returns-2
 returns-2 c =
-    let pre = c .before .before .before .before .before .before .before .before .before .before .before .before .before .before .before .before .before .before .before .before .before .pre in
-    let l-if1 = c .before .before .before .before .before .before .before .before .before .before .before .before .before .before .before .before .if1 .left in
-    let e-top-name = c .before .before .before .before .before .before .before .before .before .before .before .before .before .before .top-name .ensures in
-    let e-equal = c .before .before .before .before .before .before .before .before .before .before .before .before .equal .ensures in
+    let pre = c .before .before .before .before .before .before .before .before .before .before .before .before .before .before .before .before .before .pre in
+    let l-if1 = c .before .before .before .before .before .before .before .before .before .before .before .before .if1 .left in
     let e-element-at = c .before .before .before .before .before .before .before .before .before .before .before .element-at .ensures in
     let e-push = c .before .before .before .before .before .before .before .before .before .push .ensures in
     let e-open-by = c .before .before .before .before .open-by .ensures in
@@ -78,9 +60,6 @@ on-open-spec =
     (tie.spec
     refuse-requires
     returns
-    top-name-requires
-    slice-aggregate-equal
-    equal-requires
     element-at-requires
     push-requires
     open-by-requires
