@@ -224,13 +224,11 @@ fn known_by(doc: &[u8], at: usize) -> Known
 
 // The known attribute that stands at `at`; none is looked for in the last 15 bytes.
 pub fn known_at(doc: &[u8], at: usize) -> Known
+    requires { ⌜ at ≤ length (now doc) ⌝ }
     ensures { λ r. ⌜ KnownAt (now (doc .entry)) at r ⌝ }
 {
-    if doc.len() < 16 {
-        return none();
+    if at + 16 <= doc.len() {
+        return known_by(doc, at);
     }
-    if doc.len() - 16 < at {
-        return none();
-    }
-    known_by(doc, at)
+    none()
 }

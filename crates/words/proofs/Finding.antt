@@ -136,3 +136,7 @@ module _ {x : ℕ} {s : List ℕ} {i m : ℕ} (e : Marked x s i m) (room : i + 8
 -- what is left is scanned byte by byte
 pub scan-rest : {p : ℕ → Bool} {s : List ℕ} {at i : ℕ} → Scanning p s at i → {r : ℕ} → r ≡ scan p s i → r ≡ scan p s at
 scan-rest inv e = e ∙ inv .rest
+
+-- a word that begins at the last place for one, or before it, is within
+pub word-within : {i last n : ℕ} → i ≤ last → last + 8 ≡ n → i + 8 ≤ n
+word-within h e = omega arith

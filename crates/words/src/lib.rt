@@ -162,11 +162,12 @@ fn byte_each(s: &[u8], at: usize, x: u8) -> usize
 pub fn byte_from(s: &[u8], at: usize, x: u8) -> usize
     ensures { λ r. ⌜ r ≡ scan (until (is x)) (now (s .entry)) at ⌝ }
 {
-    if s.len() <= at {
-        return at;
+    if s.len() < 8 {
+        return byte_each(s, at, x);
     }
+    let last = s.len() - 8;
     let mut i = at;
-    while i + 8 <= s.len() {
+    while i <= last {
         let m = marks(s, i, x);
         if m != 0 {
             return i + (u64::trailing_zeros(m) / 8) as usize;
