@@ -118,6 +118,18 @@ pub close-message : KnownLong 62 9 7 0 4496113471245739373 1 0
 unfolding wordOf
 close-message = record { says = begin-message .says; text = record { eight = refl; number = refl; bytes = tt; rest = record { few = leb→le 0 8 tt; power = refl; number = refl; bytes = tt } } }
 
+pub close-types : KnownShort 62 10 0 5 281474976710656 68665344031092
+unfolding wordOf keysOf prefixLength same
+close-types = record { says = record { below = lit< tt; long = refl; prefix = refl; matter = refl }; text = record { few = leb→le 6 8 tt; power = refl; number = refl; bytes = tt } }
+
+-- the longest one, compared as it stands
+says-schema : Says 11 1 17 4
+unfolding keysOf prefixLength same
+says-schema = record { below = lit< tt; long = refl; prefix = refl; matter = refl }
+
+pub begin-schema : (behind : ℕ) (doc : List ℕ) (at : ℕ) {b : Bool} {w : List ℕ} → b ≡ startsWith w (drop at doc) → w ≡ taggedText behind 11 → b ≡ true → KnownBeginning behind doc at (record { code = 11; keys = 1; len = 17; lost = 4 })
+begin-schema behind doc at e t v = record { stands = λ h. sym (ap (λ (w : List ℕ). startsWith w (drop at doc)) t) ∙ sym e ∙ v; says = λ h. says-schema }
+
 -- ---- such a raw name is what the general way finds
 
 -- bytes that pass, up to one that fails
@@ -126,9 +138,9 @@ unfolding all
 count-to p [] b r t f = count-no p b r f
 count-to p (x ∷ n) b r t f = count-yes p x (n ++ b ∷ r) (is-true (p x) (and-left (p x) (all p n) t)) ∙ ap suc (count-to p n b r (and-right (p x) (all p n) t) f)
 
-raw-plain : (code : ℕ) → 0 < code → code < 10 → T (all (until isTagNameEnd) (rawName code))
+raw-plain : (code : ℕ) → 0 < code → code < 12 → T (all (until isTagNameEnd) (rawName code))
 unfolding isTagNameEnd isSpace all
-raw-plain code h l = up-each 9 (λ k. all (until isTagNameEnd) (rawName k)) tt code h (omega arith)
+raw-plain code h l = up-each 11 (λ k. all (until isTagNameEnd) (rawName k)) tt code h (omega arith)
 
 module _ (behind : ℕ) (e : until isTagNameEnd behind ≡ false) (doc : List ℕ) (name : ℕ) {k : Opening} (b : KnownBeginning behind doc name k) (h : 0 < k .code) where
   abbrev n : List ℕ

@@ -15,7 +15,7 @@ use Rattle.saxlite.specs.Noting.{keysOf}
 use Rattle.saxlite.specs.Known.{nth, keysBy}
 
 abbrev pub rawName : ℕ → List ℕ
-rawName = nth ([] ∷ ascii "field" ∷ ascii "type" ∷ ascii "enum" ∷ ascii "group" ∷ ascii "ref" ∷ ascii "validValue" ∷ ascii "composite" ∷ ascii "sbe:message" ∷ ascii "message" ∷ [])
+rawName = nth ([] ∷ ascii "field" ∷ ascii "type" ∷ ascii "enum" ∷ ascii "group" ∷ ascii "ref" ∷ ascii "validValue" ∷ ascii "composite" ∷ ascii "sbe:message" ∷ ascii "message" ∷ ascii "types" ∷ ascii "sbe:messageSchema" ∷ [])
 
 -- as it is nearly always written: a space behind it where a tag opens, '>' where one closes
 abbrev pub taggedText : ℕ → ℕ → List ℕ
@@ -23,7 +23,7 @@ taggedText behind code = rawName code ++ behind ∷ []
 
 -- what such a raw name says: its length, that of its prefix, and the names that matter
 pub record Says (code keys len lost : ℕ) : Type 0 where
-  pub below : code < 10
+  pub below : code < 12
   pub long : len ≡ length (rawName code)
   pub prefix : lost ≡ prefixLength (rawName code)
   pub matter : keysBy keys ≡ keysOf (localName (rawName code))

@@ -1,4 +1,4 @@
-// Where a tag begins: its raw name, and what that says. Nearly every tag of a schema is of one of nine names, written with a
+// Where a tag begins: its raw name, and what that says. Nearly every tag of a schema is of one of eleven names, written with a
 // space behind it, or with '>' where it closes: that is told by one comparison, with no walk for the name's end, a colon or the
 // names that matter.
 use crate::scan::prefix_len;
@@ -10,7 +10,7 @@ use words::stands_short;
 ghost use mathlib.Core.Path.{_≡_};
 ghost use Prim.Native.Nat.{_+_, _≤_};
 ghost use lib.ListN.{length};
-ghost use Rattle.saxlite.specs.Beginning.{KnownBeginning, KnownShort, KnownLong, BeginsAt};
+ghost use Rattle.saxlite.specs.Beginning.{taggedText, KnownBeginning, KnownShort, KnownLong, BeginsAt};
 
 // A beginning that is known: the number of its raw name (specs/Beginning.antt), 0 where none stands there, the number of
 // the names that matter there, and the lengths of the raw name and of its prefix.
@@ -91,6 +91,37 @@ fn opening_long(
     none()
 }
 
+// The two raw names with a prefix, where one stands at `at` with `behind` behind it: `back` is the number of the first one's
+// last bytes, and `schema` the second one, which is longer than two words.
+fn prefixed_at(doc: &[u8], at: usize, behind: u8, back: u64, schema: &[u8]) -> Opening
+    requires { ⌜ (at + 16 ≤ length (now doc)) × KnownLong behind 8 11 4 8319104456489001587 4294967296 back × (now schema ≡ taggedText behind 11) ⌝ }
+    ensures { λ r. ⌜ KnownBeginning behind (now (doc .entry)) at r ⌝ }
+{
+    let message = opening_long(
+        doc,
+        at,
+        behind,
+        8,
+        11,
+        4,
+        0x7373_656d_3a65_6273,
+        0x1_0000_0000,
+        back,
+    );
+    if 0 < message.code {
+        return message;
+    }
+    if texts::starts_with(doc, at, schema) {
+        return Opening {
+            code: 11,
+            keys: 1,
+            len: 17,
+            lost: 4,
+        };
+    }
+    none()
+}
+
 // The known beginning at `at`, by its first letter.
 fn opening_by(doc: &[u8], at: usize) -> Opening
     requires { ⌜ at + 16 ≤ length (now doc) ⌝ }
@@ -103,7 +134,7 @@ fn opening_by(doc: &[u8], at: usize) -> Opening
         b'e' => opening_short(doc, at, b' ', 3, 3, 4, 0x100_0000_0000, 0x20_6d75_6e65),
         b'g' => opening_short(doc, at, b' ', 4, 0, 5, 0x1_0000_0000_0000, 0x2070_756f_7267),
         b'r' => opening_short(doc, at, b' ', 5, 0, 3, 0x1_0000_0000, 0x2066_6572),
-        // "validValue ", "composite ", "sbe:message ", "message "
+        // "validValue ", "composite ", "message "; "sbe:message ", "sbe:messageSchema "
         b'v' => opening_long(
             doc,
             at,
@@ -126,17 +157,7 @@ fn opening_by(doc: &[u8], at: usize) -> Opening
             0x1_0000,
             0x2065,
         ),
-        b's' => opening_long(
-            doc,
-            at,
-            b' ',
-            8,
-            11,
-            4,
-            0x7373_656d_3a65_6273,
-            0x1_0000_0000,
-            0x2065_6761,
-        ),
+        b's' => prefixed_at(doc, at, b' ', 0x2065_6761, b"sbe:messageSchema "),
         b'm' => opening_long(doc, at, b' ', 9, 7, 0, 0x2065_6761_7373_656d, 1, 0),
         _ => none(),
     }
@@ -185,10 +206,20 @@ pub fn closing_by(doc: &[u8], at: usize) -> Opening
     ensures { λ r. ⌜ KnownBeginning 62 (now (doc .entry)) at r ⌝ }
 {
     match doc[at] {
-        // "enum>", "group>"
+        // "types>", "enum>", "group>"
+        b't' => opening_short(
+            doc,
+            at,
+            b'>',
+            10,
+            0,
+            5,
+            0x1_0000_0000_0000,
+            0x3e73_6570_7974,
+        ),
         b'e' => opening_short(doc, at, b'>', 3, 3, 4, 0x100_0000_0000, 0x3e_6d75_6e65),
         b'g' => opening_short(doc, at, b'>', 4, 0, 5, 0x1_0000_0000_0000, 0x3e70_756f_7267),
-        // "validValue>", "composite>", "sbe:message>", "message>"
+        // "validValue>", "composite>", "message>"; "sbe:message>", "sbe:messageSchema>"
         b'v' => opening_long(
             doc,
             at,
@@ -211,17 +242,7 @@ pub fn closing_by(doc: &[u8], at: usize) -> Opening
             0x1_0000,
             0x3e65,
         ),
-        b's' => opening_long(
-            doc,
-            at,
-            b'>',
-            8,
-            11,
-            4,
-            0x7373_656d_3a65_6273,
-            0x1_0000_0000,
-            0x3e65_6761,
-        ),
+        b's' => prefixed_at(doc, at, b'>', 0x3e65_6761, b"sbe:messageSchema>"),
         b'm' => opening_long(doc, at, b'>', 9, 7, 0, 0x3e65_6761_7373_656d, 1, 0),
         _ => none(),
     }
