@@ -172,6 +172,13 @@ module _ (behind : ℕ) (e : until isTagNameEnd behind ≡ false) (doc : List �
   short : k .lost ≤ k .len
   short = omega (arith, prefix-within n, b .says h .prefix, b .says h .long)
 
+  begins : BeginsAt doc name (record { end = name + k .len; lost = k .lost; keys = k .keys })
+  begins =
+      let z : name + k .len - name ≡ k .len = omega arith in
+      let q : piece doc (name + k .lost) (k .len - k .lost) ≡ localName n = rw lost-is (local-range doc name (k .len)) ∙ ap localName named in
+      record { ends = ends; lost = rw z lost-is; keys = rw (z, q) (b .says h .matter) }
+
+-- a space behind it, or '>' where the tag has no attributes
 module _ (doc : List ℕ) (name : ℕ) {k : Opening} (b : KnownBeginning 32 doc name k) (h : 0 < k .code) where
   pub begin-fits : length doc < 2 ^ 64 → Fits w64 (name + k .len)
   unfolding isTagNameEnd isSpace
@@ -179,12 +186,16 @@ module _ (doc : List ℕ) (name : ℕ) {k : Opening} (b : KnownBeginning 32 doc 
 
   pub known-begins : BeginsAt doc name (record { end = name + k .len; lost = k .lost; keys = k .keys })
   unfolding isTagNameEnd isSpace
-  known-begins =
-      let z : name + k .len - name ≡ k .len = omega arith in
-      let l = lost-is 32 refl doc name b h in
-      let m = named 32 refl doc name b h in
-      let q : piece doc (name + k .lost) (k .len - k .lost) ≡ localName (rawName (k .code)) = rw l (local-range doc name (k .len)) ∙ ap localName m in
-      record { ends = ends 32 refl doc name b h; lost = rw z l; keys = rw (z, q) (b .says h .matter) }
+  known-begins = begins 32 refl doc name b h
+
+module _ (doc : List ℕ) (name : ℕ) {k : Opening} (b : KnownBeginning 62 doc name k) (h : 0 < k .code) where
+  pub bare-fits : length doc < 2 ^ 64 → Fits w64 (name + k .len)
+  unfolding isTagNameEnd isSpace
+  bare-fits l = omega (arith, within 62 refl doc name b h)
+
+  pub bare-begins : BeginsAt doc name (record { end = name + k .len; lost = k .lost; keys = k .keys })
+  unfolding isTagNameEnd isSpace
+  bare-begins = begins 62 refl doc name b h
 
 -- the close tag at `at`
 module _ (doc : List ℕ) (at : ℕ) {k : Opening} (b : KnownBeginning 62 doc (at + 2) k) (h : 0 < k .code) where

@@ -190,6 +190,27 @@ pub fn begin_at(doc: &[u8], name: usize) -> Beginning
             keys: known.keys,
         };
     }
+    // The one tag that nearly every schema has without attributes.
+    if name + 8 <= doc.len() {
+        let types = opening_short(
+            doc,
+            name,
+            b'>',
+            10,
+            0,
+            5,
+            0x1_0000_0000_0000,
+            0x3e73_6570_7974,
+        );
+        if 0 < types.code {
+            let end = name + types.len;
+            return Beginning {
+                end,
+                lost: types.lost,
+                keys: types.keys,
+            };
+        }
+    }
     let t = table();
     let end = tag_name_end(doc, name, &t);
     let n = end - name;
