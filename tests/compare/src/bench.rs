@@ -1,5 +1,7 @@
-//! The reference and the proved converter in one process on the same inputs: medians and their ratio.
-//! The work buffers and the output are as the last call left them.
+//! The reference and the proved converter in one process on the same inputs: medians and their ratio, once with each side
+//! called by itself, some calls in a row, and once in turns, call by call. In turns each call finds the processor's branch
+//! predictor as the other side left it, which costs the faster side more. The work buffers and the output are as the
+//! last call left them.
 
 use std::hint::black_box;
 use std::time::{Duration, Instant};
@@ -8,12 +10,34 @@ use reference::xmltoproto::xml_to_proto;
 
 use crate::library::Converter;
 use crate::prng::Prng;
-use crate::published::{dense, schema};
+use crate::published::{dense, schema, smallest};
 use crate::schema::limits::real;
 
-/// Each side is called for so long, in turns.
-const BUDGET: Duration = Duration::from_millis(700);
+/// Both sides are called for so long in each of the two ways.
+const BUDGET: Duration = Duration::from_millis(500);
 const LEAST: usize = 7;
+/// So many calls in a row are a side's by itself.
+const ROW: usize = 24;
+
+/// Microseconds of both sides.
+#[derive(Clone, Copy)]
+struct Times {
+    rust: f64,
+    proved: f64,
+}
+
+impl Times {
+    fn ratio(self) -> f64 {
+        self.proved / self.rust
+    }
+}
+
+/// In both ways.
+#[derive(Clone, Copy)]
+struct Measured {
+    itself: Times,
+    turns: Times,
+}
 
 /// The middle of a list of times.
 fn median(mut times: Vec<f64>) -> f64 {
@@ -31,26 +55,39 @@ fn agree(document: &str, converter: &mut Converter) {
     }
 }
 
-/// Microseconds of both sides, which have to agree.
-fn measure(document: &str) -> (f64, f64) {
+/// Both sides, which have to agree.
+fn measure(document: &str) -> Measured {
     let mut converter = Converter::new();
     agree(document, &mut converter);
     timed(document, &mut converter)
 }
 
-/// Microseconds of both sides.
-fn timed(document: &str, converter: &mut Converter) -> (f64, f64) {
+/// Microseconds of one call.
+fn time(call: impl FnOnce()) -> f64 {
+    let at = Instant::now();
+    call();
+    at.elapsed().as_secs_f64() * 1e6
+}
+
+/// The medians of calls in rows of so many, of one side and then of the other.
+fn in_rows(document: &str, converter: &mut Converter, row: usize) -> Times {
     let (mut rust, mut proved) = (Vec::new(), Vec::new());
     let start = Instant::now();
     while rust.len() < LEAST || start.elapsed() < BUDGET {
-        let at = Instant::now();
-        let _ = black_box(xml_to_proto(black_box(document)));
-        rust.push(at.elapsed().as_secs_f64() * 1e6);
-        let at = Instant::now();
-        black_box(converter.call(black_box(document.as_bytes())));
-        proved.push(at.elapsed().as_secs_f64() * 1e6);
+        for _ in 0..row {
+            rust.push(time(|| drop(black_box(xml_to_proto(black_box(document))))));
+        }
+        for _ in 0..row {
+            proved.push(time(|| {
+                black_box(converter.call(black_box(document.as_bytes())));
+            }));
+        }
     }
-    (median(rust), median(proved))
+    Times { rust: median(rust), proved: median(proved) }
+}
+
+fn timed(document: &str, converter: &mut Converter) -> Measured {
+    Measured { itself: in_rows(document, converter, ROW), turns: in_rows(document, converter, 1) }
 }
 
 /// As many times as there is room for in a document of the longest length.
@@ -125,6 +162,16 @@ pub fn hard() -> Vec<(&'static str, String)> {
         ("one long tag of attributes", most("<field ", |k| format!("a{k}='' "), "/>", 9_999)),
         ("one long tag of one attribute", most("<field ", |_| "a=''".into(), "/>", 9_999)),
         ("empty closes", "</>".repeat(10_922)),
+        ("closed at once", "<a/>".repeat(8_192)),
+        ("opened and closed", "<a></a>".repeat(4_681)),
+        ("opened with an attribute and closed", "<a b=''></a>".repeat(2_730)),
+        ("types without any", "<types></types>".repeat(2_184)),
+        ("empty comments", "<!---->".repeat(4_681)),
+        ("empty instructions", "<??>".repeat(8_192)),
+        ("empty declarations", "<!>".repeat(10_922)),
+        ("one long comment", format!("<!--{}-->", "-".repeat(32_000))),
+        ("one long instruction", format!("<?{}?>", "?".repeat(32_000))),
+        ("refused at its first tag", "</a>".repeat(8_192)),
         ("messages", most("", |_| "<message/>".into(), "", 1_024)),
         ("fields of unknown type", most("<message>", |_| "<field type='zzzz'/>".into(), "</message>", 1_023)),
         ("fields after types", {
@@ -233,27 +280,44 @@ fn refusing(document: &str) -> Converter {
     converter
 }
 
-fn line(name: &str, document: &str, (rust, proved): (f64, f64)) {
-    let length = document.len();
-    println!("{name}: {length} bytes, Rust {rust:.1} us, proved {proved:.1} us, ratio {:.2}", proved / rust);
+fn line(name: &str, document: &str, Measured { itself, turns }: Measured) {
+    println!(
+        "{name}: {} bytes, by itself Rust {:.1} us, proved {:.2} us, ratio {:.3}; in turns {:.1}, {:.2}, {:.3}",
+        document.len(),
+        itself.rust,
+        itself.proved,
+        itself.ratio(),
+        turns.rust,
+        turns.proved,
+        turns.ratio(),
+    );
+}
+
+/// The schemas as exchanges publish them, of about 0.6, 1, 10 and 30 KB, and what the other documents are made from.
+fn published() -> (Vec<String>, Prng) {
+    let mut rng = Prng::new(0x6265_6e63);
+    let mut documents = vec![smallest(&mut Prng::new(0x736d_616c))];
+    documents.extend([600, 10_000, 30_000].map(|length| schema(&mut rng, length)));
+    (documents, rng)
 }
 
 pub fn run() -> bool {
     drop(std::panic::take_hook());
-    let mut rng = Prng::new(0x6265_6e63);
-    for length in [600, 10_000, 30_000] {
-        let document = schema(&mut rng, length);
-        line("as published", &document, measure(&document));
+    let (documents, mut rng) = published();
+    for document in &documents {
+        line("as published", document, measure(document));
     }
     let document = dense(&mut rng, 250, 420);
     line("250 types, 420 fields that name them", &document, measure(&document));
     for length in [4_000, 8_000, 16_000, 32_000] {
         let document = schema(&mut rng, length);
-        let (_, proved) = measure(&document);
+        let Measured { itself, turns } = measure(&document);
+        let each = |us: f64| us * 1e3 / document.len() as f64;
         println!(
-            "as published, {} bytes: {:.2} ns a byte",
+            "as published, {} bytes: {:.2} ns a byte by itself, {:.2} in turns",
             document.len(),
-            proved * 1e3 / document.len() as f64
+            each(itself.proved),
+            each(turns.proved),
         );
     }
     let document = long_source();
@@ -265,7 +329,8 @@ pub fn run() -> bool {
     }
     let mut hard: Vec<_> =
         hard().into_iter().map(|(name, document)| (name, measure(&document), document)).collect();
-    hard.sort_by(|a, b| (b.1 .1 / b.1 .0).total_cmp(&(a.1 .1 / a.1 .0)));
+    let worse = |m: &Measured| m.itself.ratio().max(m.turns.ratio());
+    hard.sort_by(|a, b| worse(&b.1).total_cmp(&worse(&a.1)));
     for (name, times, document) in &hard {
         line(name, document, *times);
     }
@@ -280,9 +345,9 @@ mod tests {
     #[test]
     fn the_sides_agree() {
         let mut converter = Converter::new();
-        let mut rng = Prng::new(0x6265_6e63);
-        for length in [600, 10_000, 30_000] {
-            agree(&schema(&mut rng, length), &mut converter);
+        let (documents, mut rng) = published();
+        for document in &documents {
+            agree(document, &mut converter);
         }
         agree(&dense(&mut rng, 250, 420), &mut converter);
         for (_, document) in hard() {

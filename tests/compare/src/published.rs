@@ -89,13 +89,27 @@ fn a_message(rng: &mut Prng, names: &[String], k: usize) -> String {
     text + "</sbe:message>\n"
 }
 
-/// A schema of about `length` bytes.
-pub fn schema(rng: &mut Prng, length: usize) -> String {
-    let mut text = String::from(
-        "<?xml version=\"1.0\" encoding=\"UTF-8\" standalone=\"yes\"?>\n<sbe:messageSchema \
-         xmlns:sbe=\"http://fixprotocol.io/2016/sbe\" package=\"exchange.feed\" id=\"12\" version=\"3\" \
-         semanticVersion=\"5.2\" description=\"Market data\" byteOrder=\"littleEndian\">\n<types>\n",
+/// What each begins with.
+const HEAD: &str = "<?xml version=\"1.0\" encoding=\"UTF-8\" standalone=\"yes\"?>\n<sbe:messageSchema \
+    xmlns:sbe=\"http://fixprotocol.io/2016/sbe\" package=\"exchange.feed\" id=\"12\" version=\"3\" \
+    semanticVersion=\"5.2\" description=\"Market data\" byteOrder=\"littleEndian\">\n<types>\n";
+
+/// The smallest one, of about 600 bytes: a type, and a message with one field.
+pub fn smallest(rng: &mut Prng) -> String {
+    let mut names = Vec::new();
+    let type_ = a_type(rng, &mut names);
+    let field = a_field(rng, &names, "  ", 1);
+    let message = format!(
+        "<sbe:message name=\"{}0\" id=\"1\" description=\"{} message\" blockLength=\"32\" semanticType=\"X\">\n",
+        name(rng, 2),
+        name(rng, 2),
     );
+    format!("{HEAD}{type_}</types>\n{message}{field}</sbe:message>\n</sbe:messageSchema>\n")
+}
+
+/// A schema of about `length` bytes, and of 1,000 at least.
+pub fn schema(rng: &mut Prng, length: usize) -> String {
+    let mut text = String::from(HEAD);
     let mut names: Vec<String> = ["uint32", "int64", "char"].map(String::from).into();
     let parts: [(fn(&mut Prng, &mut Vec<String>) -> String, usize); 3] =
         [(a_type, 15), (an_enum, 27), (a_composite, 35)];
