@@ -1,14 +1,13 @@
 -- Laws of standing at a place and of searching: what the loop of `find` keeps, and where what was found lies.
-use mathlib.Core.Path.{_≡_, refl, sym, ap, _∙_}
-use mathlib.Core.Bool.{Bool, true, false, not}
+use mathlib.Core.Path.{_≡_, refl, sym, _∙_}
+use mathlib.Core.Bool.{Bool, true, false}
 use mathlib.Core.List.{List, [], _∷_}
-use Prim.Native.Nat.{ℕ, suc, _+_, _≤_, _<_, _^_, zero-le, suc-le-suc}
+use Prim.Native.Nat.{ℕ, _+_, _≤_, _<_, _^_, zero-le, suc-le-suc}
 use native.Mathlib.Omega.{arith}
-use native.Mathlib.Nat.{add-zero}
 use native.Mathlib.Numerals.{add-one}
-use lib.Dec.{eqb, leb, ltb, T, leb→le, lit<}
+use lib.Dec.{leb, ltb, T, leb→le, lit<}
 use lib.ListN.{length, drop, getD, drop-of-length-le, length-drop}
-use lib.Seq.{drop-cons, drop-drop}
+use lib.Seq.{drop-cons}
 use mir.Val.{Fits}
 use mir.Syntax.{w64}
 use borrow.Author.Tests.{eq-eqb, leb-true, leb-false}
@@ -16,7 +15,7 @@ use Rattle.texts.specs.Text.{startsWith}
 use Rattle.texts.specs.Scan.{countWhile, scan, until, is}
 use Rattle.texts.proofs.Choosing.{by-test}
 use Rattle.texts.proofs.Comparing.{starts-length}
-use Rattle.texts.proofs.Scanning.{Scanning, count-yes, count-no, scan-from, scan-start, byte-on}
+use Rattle.texts.proofs.Scanning.{Scanning, scan-start, byte-on}
 use Rattle.saxlite.specs.declared.scan.Occurrence.{Occurrence}
 use Rattle.saxlite.specs.declared.scan.Occurrence.the-variants.{At, Nowhere}
 use Rattle.saxlite.specs.Find.{findIn, findFrom}
@@ -89,30 +88,6 @@ module _ {n doc : List ℕ} {from i : ℕ} {b : Bool} (inv : Searching n doc fro
   search-none h t =
       let t′ = rw (drop-of-length-le doc h) at (sym e ∙ t) in
       rw (← (inv .rest), drop-of-length-le doc h, find-none)
-
--- the search goes on where the same is found
-pub search-led : {n doc : List ℕ} {from i r : ℕ} → Searching n doc from i → findFrom n doc r ≡ findFrom n doc i → Searching n doc from r
-search-led inv e = record { rest = e ∙ inv .rest }
-
--- ---- up to a needle's first byte nothing is found
-
-lead-in : (b : ℕ) (n s : List ℕ) (k : ℕ) → findIn (b ∷ n) (drop (countWhile (until (is b)) s) s) (k + countWhile (until (is b)) s) ≡ findIn (b ∷ n) s k
-unfolding startsWith
-lead-in b n [] k = ap (findIn (b ∷ n) []) (add-zero k)
-lead-in b n (x ∷ xs) k =
-    by-test (eqb x b)
-    (λ t. rw (count-no (until (is b)) x xs (ap not t), add-zero) refl)
-    (λ f.
-    let c = countWhile (until (is b)) xs in
-    let z : k + suc c ≡ k + 1 + c = omega arith in
-    rw (count-yes (until (is b)) x xs (ap not f), z) (lead-in b n xs (k + 1)) ∙ sym (find-next (b ∷ n) x xs k (rw (f, startsWith) refl)))
-
-pub lead-same : (n doc : List ℕ) (from : ℕ) → (length n ≡ 0 → ⊥) → {r : ℕ} → r ≡ scan (until (is (getD n 0 0))) doc from → findFrom n doc r ≡ findFrom n doc from
-lead-same [] doc from h e = absurd (h refl)
-lead-same (b ∷ n) doc from h e = rw (e, ← drop-drop) (lead-in b n (drop from doc) from)
-
-pub lead-later : (p : ℕ → Bool) (doc : List ℕ) (from : ℕ) {r : ℕ} → r ≡ scan p doc from → from ≤ r
-lead-later p doc from e = omega (arith, scan-from p doc from)
 
 -- ---- what was found lies from the start on, and within
 

@@ -3,7 +3,6 @@ use classes::is_attribute_name_end_in;
 use classes::is_space_in;
 use classes::is_tag_name_end_in;
 ghost use mathlib.Core.Path.{_≡_};
-ghost use Prim.Native.Nat.{_≤_};
 ghost use Rattle.texts.specs.Scan.{scan, until, is};
 ghost use Rattle.classes.specs.Table.{IsTable};
 ghost use Rattle.classes.specs.Class.{isSpace, isTagNameEnd, isAttributeNameEnd};
@@ -69,26 +68,16 @@ pub enum Occurrence {
     Nowhere,
 }
 
-// The first place from `from` on where `needle` may stand: where its first byte does.
-fn lead(doc: &[u8], from: usize, needle: &[u8]) -> usize
-    ensures { λ r. ⌜ (findFrom (now (needle .entry)) (now (doc .entry)) r ≡ findFrom (now (needle .entry)) (now (doc .entry)) from) × (from ≤ r) ⌝ }
-{
-    if needle.len() == 0 {
-        return from;
-    }
-    byte_from(doc, from, needle[0])
-}
-
 // The first place from `from` on where `needle` stands.
 pub fn find(doc: &[u8], from: usize, needle: &[u8]) -> Occurrence
     ensures { λ r. ⌜ r ≡ findFrom (now (needle .entry)) (now (doc .entry)) from ⌝ }
 {
-    let mut i = lead(doc, from, needle);
+    let mut i = from;
     while i < doc.len() {
         if texts::starts_with(doc, i, needle) {
             return Occurrence::At(i);
         }
-        i = lead(doc, i + 1, needle);
+        i += 1;
     }
     if texts::starts_with(doc, i, needle) {
         Occurrence::At(i)
