@@ -22,13 +22,12 @@ use Rattle.texts.proofs.Scanning.{count-yes, count-no}
 use Rattle.classes.specs.Class.{isSpace, isTagNameEnd, isAttributeNameEnd}
 use Rattle.saxlite.specs.declared.known.Known.{Known}
 use Rattle.saxlite.specs.declared.tag.TagPart.{TagPart}
-use Rattle.saxlite.specs.declared.tag.TagPart.the-variants.{TagEnd}
 use Rattle.saxlite.specs.Names.{isXmlns}
 use Rattle.saxlite.specs.Attributes.{quotedAt, tagPartAt}
 use Rattle.saxlite.specs.Known.{knownName, KnownAt, upTo, Named, QuickAt}
 use Rattle.saxlite.proofs.Picking.{pick-by}
 use Rattle.saxlite.proofs.Searching.{stands-within}
-use Rattle.saxlite.proofs.Parting.{value-double, attribute-valued, part-end, part-self-end, part-attribute}
+use Rattle.saxlite.proofs.Parting.{value-double, attribute-valued, part-attribute}
 
 -- ---- a test of 1 to n
 
@@ -155,21 +154,7 @@ module _ (doc : List ℕ) (at place : ℕ) {i : ℕ} (e : i ≡ scan isSpace doc
 pub other-quick : (doc : List ℕ) (at place : ℕ) {r : TagPart} → r ≡ tagPartAt doc at place → QuickAt doc at place (record { code = 0; part = r })
 other-quick doc at place e = record { is = e; named = λ z. absurd (omega arith) }
 
--- ---- what stands right at the place, with no spaces before it or one
-
--- the tag ends there
-module _ (doc : List ℕ) (at place : ℕ) {b : Bool} where
-  pub ends-here : b ≡ startsWith (ascii ">") (drop at doc) → b ≡ true → TagEnd (at + 1) false ≡ tagPartAt doc at place
-  unfolding isSpace
-  ends-here e t =
-      let s = starts-split (ascii ">") (drop at doc) (sym e ∙ t) in
-      part-end doc at place (rw s (sym (add-zero at))) (omega (arith, stands-within (ascii ">") doc at (sym e ∙ t) (omega arith))) e t
-
-  pub ends-itself : b ≡ startsWith (ascii "/>") (drop at doc) → b ≡ true → TagEnd (at + 2) true ≡ tagPartAt doc at place
-  unfolding isSpace startsWith
-  ends-itself e t =
-      let s = starts-split (ascii "/>") (drop at doc) (sym e ∙ t) in
-      part-self-end doc at place (rw s (sym (add-zero at))) (omega (arith, stands-within (ascii "/>") doc at (sym e ∙ t) (omega arith))) refl (rw s refl) e t
+-- ---- what stands behind one space
 
 -- no space begins a name
 name-first : (n s : List ℕ) → T (plainName n) → countWhile isSpace (n ++ s) ≡ 0

@@ -4,12 +4,12 @@
 use crate::scan::prefix_len;
 use crate::scan::tag_name_end;
 use crate::tag::keys_of;
-use classes::table;
 use words::stands_long;
 use words::stands_short;
 ghost use mathlib.Core.Path.{_≡_};
 ghost use Prim.Native.Nat.{_+_, _≤_};
 ghost use lib.ListN.{length};
+ghost use Rattle.classes.specs.Table.{IsTable};
 ghost use Rattle.saxlite.specs.Beginning.{taggedText, KnownBeginning, KnownShort, KnownLong, BeginsAt};
 
 // A beginning that is known: the number of its raw name (specs/Beginning.antt), 0 where none stands there, the number of
@@ -177,8 +177,8 @@ fn opening_at(doc: &[u8], at: usize) -> Opening
 }
 
 // The beginning of the tag whose raw name is due at `name`.
-pub fn begin_at(doc: &[u8], name: usize) -> Beginning
-    requires { ⌜ name ≤ length (now doc) ⌝ }
+pub fn begin_at(doc: &[u8], name: usize, t: &[u8; 256]) -> Beginning
+    requires { ⌜ (name ≤ length (now doc)) × IsTable (now t) ⌝ }
     ensures { λ r. ⌜ BeginsAt (now (doc .entry)) name r ⌝ }
 {
     let known = opening_at(doc, name);
@@ -211,8 +211,7 @@ pub fn begin_at(doc: &[u8], name: usize) -> Beginning
             };
         }
     }
-    let t = table();
-    let end = tag_name_end(doc, name, &t);
+    let end = tag_name_end(doc, name, t);
     let n = end - name;
     let lost = prefix_len(texts::part(doc, name, n));
     let local = name + lost;

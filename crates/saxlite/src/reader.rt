@@ -7,6 +7,7 @@ use crate::tag::Notes;
 use crate::tag::nothing;
 use refusals::Refusal;
 ghost use mathlib.Core.Path.{_≡_};
+ghost use Rattle.classes.specs.Table.{IsTable};
 ghost use Rattle.saxlite.specs.Reader.{readAt, readStep, atEnd, cursorAt};
 ghost use Rattle.saxlite.specs.Noting.{NotedAt, NotedIn};
 
@@ -127,7 +128,8 @@ fn read_step(at: usize, step: Step) -> Read
 }
 
 // What stands at a cursor, and what is noted of the tag that is opened there.
-pub fn read_noting(doc: &[u8], c: Cursor) -> ReadNoted
+pub fn read_noting(doc: &[u8], c: Cursor, t: &[u8; 256]) -> ReadNoted
+    requires { ⌜ IsTable (now t) ⌝ }
     ensures { λ r. ⌜ NotedAt (now (doc .entry)) c r ⌝ }
 {
     if c.owed {
@@ -142,7 +144,7 @@ pub fn read_noting(doc: &[u8], c: Cursor) -> ReadNoted
         };
     }
     let at = c.at;
-    let s = step_noting(doc, at);
+    let s = step_noting(doc, at, t);
     let step = s.step;
     let read = read_step(at, step);
     let event = read.event;
@@ -206,10 +208,11 @@ pub struct Placed {
 }
 
 // The next event; the reader has moved on.
-pub fn next<'s, 'a>(r: &'s mut Reader<'a>) -> Placed
+pub fn next<'s, 'a, 't>(r: &'s mut Reader<'a>, t: &'t [u8; 256]) -> Placed
+    requires { ⌜ IsTable (now t) ⌝ }
     ensures { λ e. ⌜ (now (r .exit) .doc ≡ now (r .entry) .doc) × (record { event = e .event; place = e .place; cursor = now (r .exit) .cursor } ≡ readAt (now (now (r .entry) .doc)) (now (r .entry) .cursor)) × NotedIn (now (now (r .entry) .doc)) (e .event) (e .noted) ⌝ }
 {
-    let read = read_noting(r.doc, r.cursor);
+    let read = read_noting(r.doc, r.cursor, t);
     r.cursor = read.cursor;
     Placed {
         event: read.event,

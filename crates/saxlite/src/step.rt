@@ -16,6 +16,7 @@ use refusals::Refusal;
 ghost use mathlib.Core.Path.{_≡_};
 ghost use Prim.Native.Nat.{_+_, _≤_, _<_};
 ghost use lib.ListN.{length};
+ghost use Rattle.classes.specs.Table.{IsTable};
 ghost use Rattle.saxlite.specs.Find.{findFrom};
 ghost use Rattle.saxlite.specs.Step.{stepAt, markupAt, closeAt, openAt, pastEnd};
 ghost use Rattle.saxlite.specs.Noting.{NotedAs};
@@ -79,14 +80,13 @@ fn skip_to(doc: &[u8], from: usize, end: &[u8], refusal: Refusal) -> Step
 }
 
 // The close tag at `at`, of any name.
-fn close_any(doc: &[u8], at: usize) -> Step
-    requires { ⌜ at + 2 ≤ length (now doc) ⌝ }
+fn close_any(doc: &[u8], at: usize, t: &[u8; 256]) -> Step
+    requires { ⌜ (at + 2 ≤ length (now doc)) × IsTable (now t) ⌝ }
     ensures { λ r. ⌜ r ≡ closeAt (now (doc .entry)) at ⌝ }
 {
-    let t = table();
     let name = at + 2;
-    let end = tag_name_end(doc, name, &t);
-    let due = skip_space(doc, end, &t);
+    let end = tag_name_end(doc, name, t);
+    let due = skip_space(doc, end, t);
     if texts::starts_with(doc, due, b">") {
         let next = due + 1;
         let n = end - name;
@@ -107,16 +107,16 @@ fn close_any(doc: &[u8], at: usize) -> Step
 
 // The close tag at `at`: at once, where its name is known. `close_any` has three callers, so that the compiler keeps it out of
 // the reader's loop.
-fn close_at(doc: &[u8], at: usize) -> Step
-    requires { ⌜ at + 2 ≤ length (now doc) ⌝ }
+fn close_at(doc: &[u8], at: usize, t: &[u8; 256]) -> Step
+    requires { ⌜ (at + 2 ≤ length (now doc)) × IsTable (now t) ⌝ }
     ensures { λ r. ⌜ r ≡ closeAt (now (doc .entry)) at ⌝ }
 {
     let name = at + 2;
     if doc.len() < 16 {
-        return close_any(doc, at);
+        return close_any(doc, at, t);
     }
     if doc.len() - 16 < name {
-        return close_any(doc, at);
+        return close_any(doc, at, t);
     }
     let known = closing_by(doc, name);
     if 0 < known.code {
@@ -130,16 +130,16 @@ fn close_at(doc: &[u8], at: usize) -> Step
             next,
         };
     }
-    close_any(doc, at)
+    close_any(doc, at, t)
 }
 
 // The open tag at `at`.
-fn open_at(doc: &[u8], at: usize) -> NotedStep
-    requires { ⌜ at + 1 ≤ length (now doc) ⌝ }
+fn open_at(doc: &[u8], at: usize, t: &[u8; 256]) -> NotedStep
+    requires { ⌜ (at + 1 ≤ length (now doc)) × IsTable (now t) ⌝ }
     ensures { λ r. ⌜ NotedAs (openAt (now (doc .entry)) at) (now (doc .entry)) r ⌝ }
 {
     let name = at + 1;
-    let begun = begin_at(doc, name);
+    let begun = begin_at(doc, name, t);
     let end = begun.end;
     if end == name {
         return bare(Step::Refused(Refusal::NoTagName {
@@ -151,7 +151,7 @@ fn open_at(doc: &[u8], at: usize) -> NotedStep
     let n = end - name;
     let local = name + lost;
     let name_len = n - lost;
-    let tag = tag_noting(doc, end, at, begun.keys);
+    let tag = tag_noting(doc, end, at, begun.keys, t);
     let ending = tag.ending;
     match ending {
         Ending::Ends { next, self_closed } => {
@@ -170,8 +170,8 @@ fn open_at(doc: &[u8], at: usize) -> NotedStep
 }
 
 // What the '<' at `at` begins.
-fn markup_at(doc: &[u8], at: usize) -> NotedStep
-    requires { ⌜ at < length (now doc) ⌝ }
+fn markup_at(doc: &[u8], at: usize, t: &[u8; 256]) -> NotedStep
+    requires { ⌜ (at < length (now doc)) × IsTable (now t) ⌝ }
     ensures { λ r. ⌜ NotedAs (markupAt (now (doc .entry)) at) (now (doc .entry)) r ⌝ }
 {
     if texts::starts_with(doc, at, b"<!--") {
@@ -187,20 +187,21 @@ fn markup_at(doc: &[u8], at: usize) -> NotedStep
         return bare(skip_to(doc, from, b">", Refusal::OpenDeclaration { at }));
     }
     if texts::starts_with(doc, at, b"</") {
-        return bare(close_at(doc, at));
+        return bare(close_at(doc, at, t));
     }
-    open_at(doc, at)
+    open_at(doc, at, t)
 }
 
 // The step of the reader at `at`, and what is noted of the tag that it opens.
-pub fn step_noting(doc: &[u8], at: usize) -> NotedStep
+pub fn step_noting(doc: &[u8], at: usize, t: &[u8; 256]) -> NotedStep
+    requires { ⌜ IsTable (now t) ⌝ }
     ensures { λ r. ⌜ NotedAs (stepAt (now (doc .entry)) at) (now (doc .entry)) r ⌝ }
 {
     if doc.len() <= at {
         return bare(Step::End);
     }
     if texts::starts_with(doc, at, b"<") {
-        return markup_at(doc, at);
+        return markup_at(doc, at, t);
     }
     let end = byte_from(doc, at, b'<');
     let len = end - at;
@@ -215,6 +216,7 @@ pub fn step_noting(doc: &[u8], at: usize) -> NotedStep
 pub fn step_at(doc: &[u8], at: usize) -> Step
     ensures { λ r. ⌜ r ≡ stepAt (now (doc .entry)) at ⌝ }
 {
-    let noted = step_noting(doc, at);
+    let t = table();
+    let noted = step_noting(doc, at, &t);
     noted.step
 }

@@ -173,29 +173,9 @@ pub struct Quick {
     pub part: TagPart,
 }
 
-// The part of a tag at `at`: at once, where the tag ends there.
-fn end_part(doc: &[u8], at: usize, place: usize) -> TagPart
-    ensures { λ r. ⌜ r ≡ tagPartAt (now (doc .entry)) at place ⌝ }
-{
-    if texts::starts_with(doc, at, b"/>") {
-        let next = at + 2;
-        return TagPart::TagEnd {
-            next,
-            self_closed: true,
-        };
-    }
-    if texts::starts_with(doc, at, b">") {
-        let next = at + 1;
-        return TagPart::TagEnd {
-            next,
-            self_closed: false,
-        };
-    }
-    tag_part(doc, at, place)
-}
-
 // The part of a tag at `at`: at once, where it is a known attribute behind one space.
-fn quick_part(doc: &[u8], at: usize, place: usize) -> Quick
+fn quick_part(doc: &[u8], at: usize, place: usize, t: &[u8; 256]) -> Quick
+    requires { ⌜ IsTable (now t) ⌝ }
     ensures { λ r. ⌜ QuickAt (now (doc .entry)) at place r ⌝ }
 {
     if texts::starts_with(doc, at, b" ") {
@@ -209,7 +189,7 @@ fn quick_part(doc: &[u8], at: usize, place: usize) -> Quick
             return Quick { code, part };
         }
     }
-    let part = end_part(doc, at, place);
+    let part = tag_part_in(doc, at, place, t);
     Quick { code: 0, part }
 }
 
@@ -415,14 +395,15 @@ pub fn noted_of(notes: Notes) -> Noted
 }
 
 // The tag whose attributes begin at `at`: how it ends, and the raw values of the last attributes of four names.
-pub fn tag_noting(doc: &[u8], at: usize, place: usize, keys: usize) -> Whole
+pub fn tag_noting(doc: &[u8], at: usize, place: usize, keys: usize, t: &[u8; 256]) -> Whole
+    requires { ⌜ IsTable (now t) ⌝ }
     ensures { λ r. ⌜ (r .ending ≡ tagAt (now (doc .entry)) at place .ending) × NotedBy (keysBy keys) (now (doc .entry)) at (r .noted) ⌝ }
 {
     let codes = codes_of(keys);
     let mut i = at;
     let mut noted = nothing();
     loop {
-        let quick = quick_part(doc, i, place);
+        let quick = quick_part(doc, i, place, t);
         let code = quick.code;
         let part = quick.part;
         match part {

@@ -27,6 +27,7 @@ use texts::starts_with;
 ghost use mathlib.Core.Path.{_≡_};
 ghost use Prim.Native.Nat.{_≤_};
 ghost use lib.ListN.{length};
+ghost use Rattle.classes.specs.Table.{IsTable};
 ghost use Rattle.saxlite.specs.Reader.{readAt, atEnd};
 ghost use Rattle.saxlite.specs.Noting.{NotedIn};
 ghost use Rattle.xmlschema.specs.Whole.{step as stepOf, reading};
@@ -129,12 +130,20 @@ pub struct Turned {
 }
 
 // One turn: a reader at the cursor yields an event, and the builder takes it.
-fn turn(l: Limits, doc: &[u8], cursor: Cursor, s: State, rec: &mut [u32], text: &mut [u8]) -> Turned
-    requires { ⌜ Ready s (takes (readAt (now doc) cursor .event)) (now rec) (now text) × Inside (now doc) (readAt (now doc) cursor .event) × (l .items ≤ 1024) × (l .depth ≤ 64) × (length (now doc) ≤ 32768) ⌝ }
+fn turn(
+    l: Limits,
+    doc: &[u8],
+    cursor: Cursor,
+    s: State,
+    rec: &mut [u32],
+    text: &mut [u8],
+    t: &[u8; 256],
+) -> Turned
+    requires { ⌜ Ready s (takes (readAt (now doc) cursor .event)) (now rec) (now text) × Inside (now doc) (readAt (now doc) cursor .event) × (l .items ≤ 1024) × (l .depth ≤ 64) × (length (now doc) ≤ 32768) × IsTable (now t) ⌝ }
     ensures { λ r. ⌜ (r .cursor ≡ readAt (now (doc .entry)) cursor .cursor) × After (stepOf l (now (doc .entry)) (readAt (now (doc .entry)) cursor .place) (readAt (now (doc .entry)) cursor .event) (builderOf s (now (doc .entry)) (now (rec .entry)) (now (text .entry)))) s (takes (readAt (now (doc .entry)) cursor .event)) (now (doc .entry)) (record { state = r .state; verdict = r .verdict }) (now (rec .exit)) (now (text .exit)) ⌝ }
 {
     let mut reader = Reader { doc, cursor };
-    let told = next(&mut reader);
+    let told = next(&mut reader, t);
     let mut state = s;
     let verdict = step(
         &mut state,
@@ -207,15 +216,23 @@ pub struct Marked {
     pub verdict: Verdict,
 }
 
-fn turn_at(l: Limits, doc: &[u8], mark: Mark, s: State, rec: &mut [u32], text: &mut [u8]) -> Marked
-    requires { ⌜ Ready s (takes (readAt (now doc) (cursorOf mark) .event)) (now rec) (now text) × Inside (now doc) (readAt (now doc) (cursorOf mark) .event) × (l .items ≤ 1024) × (l .depth ≤ 64) × (length (now doc) ≤ 32768) ⌝ }
+fn turn_at(
+    l: Limits,
+    doc: &[u8],
+    mark: Mark,
+    s: State,
+    rec: &mut [u32],
+    text: &mut [u8],
+    t: &[u8; 256],
+) -> Marked
+    requires { ⌜ Ready s (takes (readAt (now doc) (cursorOf mark) .event)) (now rec) (now text) × Inside (now doc) (readAt (now doc) (cursorOf mark) .event) × (l .items ≤ 1024) × (l .depth ≤ 64) × (length (now doc) ≤ 32768) × IsTable (now t) ⌝ }
     ensures { λ r. ⌜ (cursorOf (r .mark) ≡ readAt (now (doc .entry)) (cursorOf mark) .cursor) × After (stepOf l (now (doc .entry)) (readAt (now (doc .entry)) (cursorOf mark) .place) (readAt (now (doc .entry)) (cursorOf mark) .event) (builderOf s (now (doc .entry)) (now (rec .entry)) (now (text .entry)))) s (takes (readAt (now (doc .entry)) (cursorOf mark) .event)) (now (doc .entry)) (record { state = r .state; verdict = r .verdict }) (now (rec .exit)) (now (text .exit)) ⌝ }
 {
     let cursor = cursor_of(mark);
-    let t = turn(l, doc, cursor, s, rec, text);
-    let state = t.state;
-    let on = mark_of(t.cursor);
-    let verdict = t.verdict;
+    let u = turn(l, doc, cursor, s, rec, text, t);
+    let state = u.state;
+    let on = mark_of(u.cursor);
+    let verdict = u.verdict;
     Marked {
         state,
         mark: on,
@@ -293,9 +310,10 @@ fn read_tested(l: Limits, doc: &[u8], rec: &mut [u32], text: &mut [u8]) -> Schem
     ensures { λ r. ⌜ shown r (now (rec .exit)) (now (text .exit)) ≡ reading l (now (doc .entry)) ⌝ }
 {
     let mut state = first_state();
+    let table = classes::table();
     let mut mark = mark_of(cursor_at(0));
     while !at_end_of(doc, mark) {
-        let t = turn_at(l, doc, mark, state, rec, text);
+        let t = turn_at(l, doc, mark, state, rec, text, &table);
         let verdict = t.verdict;
         match verdict {
             Verdict::Fine => {

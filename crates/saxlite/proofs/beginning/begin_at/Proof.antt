@@ -3,7 +3,6 @@ use Rattle.saxlite.proofs.beginning.begin_at.Statement.{statement}
 use Rattle.saxlite.proofs.beginning.begin_at.Tie as tie
 use Rattle.saxlite.proofs.beginning.begin_at.Reads as reads
 use Rattle.saxlite.proofs.beginning.begin_at.Lts as lts
-use Rattle.classes.proofs.table.Reads as table-reads
 use Rattle.saxlite.proofs.beginning.opening_at.Reads as opening-at-reads
 use Rattle.saxlite.proofs.beginning.opening_short.Reads as opening-short-reads
 use Rattle.saxlite.proofs.scan.prefix_len.Reads as prefix-len-reads
@@ -38,10 +37,6 @@ add-end-2 c = search beginning
 -- src/beginning.rt:207:13
 returns-2 : tie.Need-returns-2
 returns-2 c = search beginning
-
--- src/beginning.rt:214:13
-table-requires : tie.Need-table-requires
-table-requires c κs = search beginning
 
 -- src/beginning.rt:215:9
 tag-name-end-requires : tie.Need-tag-name-end-requires
@@ -90,7 +85,6 @@ begin-at-spec =
     opening-short-requires
     add-end-2
     returns-2
-    table-requires
     tag-name-end-requires
     sub-n
     part-requires

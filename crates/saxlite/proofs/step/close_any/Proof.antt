@@ -3,16 +3,11 @@ use Rattle.saxlite.proofs.step.close_any.Statement.{statement}
 use Rattle.saxlite.proofs.step.close_any.Tie as tie
 use Rattle.saxlite.proofs.step.close_any.Reads as reads
 use Rattle.saxlite.proofs.step.close_any.Lts as lts
-use Rattle.classes.proofs.table.Reads as table-reads
 use Rattle.saxlite.proofs.scan.prefix_len.Reads as prefix-len-reads
 use Rattle.saxlite.proofs.scan.skip_space.Reads as skip-space-reads
 use Rattle.saxlite.proofs.scan.tag_name_end.Reads as tag-name-end-reads
 use Rattle.texts.proofs.part.Reads as part-reads
 use Rattle.texts.proofs.starts_with.Reads as starts-with-reads
-
--- src/step.rt:85:13
-table-requires : tie.Need-table-requires
-table-requires c κs = search laws
 
 -- src/step.rt:86:16
 add-name : tie.Need-add-name
@@ -70,7 +65,6 @@ pub close-any-spec : {M : Type 1} → statement M
 close-any-spec =
     tie.close
     (tie.spec
-    table-requires
     add-name
     tag-name-end-requires
     skip-space-requires

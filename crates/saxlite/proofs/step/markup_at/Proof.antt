@@ -105,7 +105,7 @@ starts-with-requires-4 c κs = search laws
 
 -- src/step.rt:159:21
 close-at-requires : tie.Need-close-at-requires
-close-at-requires c κs = stands-on (ascii "</") _ _ 2 (c .before .starts-with4 .ensures) (c .if4 .taken) tt tt
+close-at-requires c κs = (stands-on (ascii "</") _ _ 2 (c .before .starts-with4 .ensures) (c .if4 .taken) tt tt, search laws)
 
 -- src/step.rt:159:9
 bare-requires-4 : tie.Need-bare-requires-4
@@ -117,7 +117,7 @@ returns-4 c = search laws
 
 -- src/step.rt:161:5
 open-at-requires : tie.Need-open-at-requires
-open-at-requires c κs = search laws
+open-at-requires c κs = (search laws, search laws)
 
 -- src/step.rt:142:1
 returns-5 : tie.Need-returns-5

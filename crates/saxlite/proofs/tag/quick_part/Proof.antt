@@ -4,8 +4,8 @@ use Rattle.saxlite.proofs.tag.quick_part.Tie as tie
 use Rattle.saxlite.proofs.tag.quick_part.Reads as reads
 use Rattle.saxlite.proofs.tag.quick_part.Lts as lts
 use Rattle.saxlite.proofs.known.known_at.Reads as known-at-reads
-use Rattle.saxlite.proofs.tag.end_part.Reads as end-part-reads
 use Rattle.saxlite.proofs.tag.quoted_part.Reads as quoted-part-reads
+use Rattle.saxlite.proofs.tag.tag_part_in.Reads as tag-part-in-reads
 use Rattle.texts.proofs.starts_with.Reads as starts-with-reads
 
 -- src/tag.rt:201:36
@@ -41,8 +41,8 @@ returns : tie.Need-returns
 returns c = search laws
 
 -- src/tag.rt:212:9
-end-part-requires : tie.Need-end-part-requires
-end-part-requires c κs = search laws
+tag-part-in-requires : tie.Need-tag-part-in-requires
+tag-part-in-requires c κs = search laws
 
 -- src/tag.rt:198:1
 returns-2 : tie.Need-returns-2
@@ -60,5 +60,5 @@ quick-part-spec =
     add-value-2
     quoted-part-requires
     returns
-    end-part-requires
+    tag-part-in-requires
     returns-2)

@@ -14,10 +14,10 @@ use Rattle.saxlite.proofs.tag.nothing.Reads as nothing-reads
 use Rattle.saxlite.proofs.tag.quick_part.Reads as quick-part-reads
 
 abbrev Inv-loop : tie.InvT-loop
-Inv-loop doc at place keys codes i₀ noted₀ i noted = Going doc at place i × LookingAll doc at (keysBy keys) i noted × CodesOf (keysBy keys) codes
+Inv-loop doc at place keys t codes i₀ noted₀ i noted = Going doc at place i × LookingAll doc at (keysBy keys) i noted × CodesOf (keysBy keys) codes
 
 abbrev μ-loop : tie.MeasureT-loop
-μ-loop doc at place keys codes i₀ noted₀ i noted = length doc - i
+μ-loop doc at place keys t codes i₀ noted₀ i noted = length doc - i
 
 -- src/tag.rt:396:9
 codes-of-requires : tie.Need-codes-of-requires Inv-loop μ-loop

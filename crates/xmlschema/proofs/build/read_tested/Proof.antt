@@ -1,5 +1,6 @@
 use mathlib.Core.Path.{_≡_}
 use lib.ListN.{length}
+use Rattle.classes.specs.Table.{IsTable}
 use Rattle.xmlschema.specs.Driving.{cursorOf}
 use Rattle.xmlschema.proofs.Driving.{Reading, left}
 use Rattle.xmlschema.proofs.Laws.{driving}
@@ -9,14 +10,17 @@ use Rattle.xmlschema.proofs.build.read_tested.Reads as reads
 use Rattle.xmlschema.proofs.build.read_tested.Lts as lts
 
 abbrev Inv-loop : tie.InvT-loop
-Inv-loop l doc rec₀ text₀ state₀ mark₀ rec text state mark = Reading l doc (cursorOf mark) state rec text × (length rec ≡ length rec₀) × (length text ≡ length text₀)
+Inv-loop l doc rec₀ text₀ state₀ table mark₀ rec text state mark = Reading l doc (cursorOf mark) state rec text × (length rec ≡ length rec₀) × (length text ≡ length text₀) × IsTable table
 
 abbrev μ-loop : tie.MeasureT-loop
-μ-loop l doc rec₀ text₀ state₀ mark₀ rec text state mark = left doc (cursorOf mark)
+μ-loop l doc rec₀ text₀ state₀ table mark₀ rec text state mark = left doc (cursorOf mark)
 
 -- src/build.rt:141:9
 first-state-requires : tie.Need-first-state-requires Inv-loop μ-loop
 first-state-requires c κs = search driving
+
+table-requires : tie.Need-table-requires Inv-loop μ-loop
+table-requires c κs = search driving
 
 -- src/build.rt:142:9
 cursor-at-requires : tie.Need-cursor-at-requires Inv-loop μ-loop
@@ -54,9 +58,9 @@ loop-less c =
     let z = c .before .before .past-close .ensures in
     let told = c .before .before .before .before .enum-told in
     let t = c .before .before .before .before .before .before .before .before .before .before .turn-at .ensures in
-    let more = c .before .before .before .before .before .before .before .before .before .before .before .before .before .if1 in
-    let e = c .before .before .before .before .before .before .before .before .before .before .before .before .before .before .at-end-of .ensures in
-    let held = c .before .before .before .before .before .before .before .before .before .before .before .before .before .before .before .loop in
+    let more = c .before .before .before .before .before .before .before .before .before .before .before .before .before .before .if1 in
+    let e = c .before .before .before .before .before .before .before .before .before .before .before .before .before .before .before .at-end-of .ensures in
+    let held = c .before .before .before .before .before .before .before .before .before .before .before .before .before .before .before .before .loop in
     search driving
 
 -- src/build.rt:143:5
@@ -66,10 +70,10 @@ loop-again c =
     let z = c .before .before .past-close .ensures in
     let told = c .before .before .before .before .enum-told in
     let t = c .before .before .before .before .before .before .before .before .before .before .turn-at .ensures in
-    let more = c .before .before .before .before .before .before .before .before .before .before .before .before .before .if1 in
-    let e = c .before .before .before .before .before .before .before .before .before .before .before .before .before .before .at-end-of .ensures in
-    let held = c .before .before .before .before .before .before .before .before .before .before .before .before .before .before .before .loop in
-    (search driving, search driving, search driving)
+    let more = c .before .before .before .before .before .before .before .before .before .before .before .before .before .before .if1 in
+    let e = c .before .before .before .before .before .before .before .before .before .before .before .before .before .before .before .at-end-of .ensures in
+    let held = c .before .before .before .before .before .before .before .before .before .before .before .before .before .before .before .before .loop in
+    (search driving, search driving, search driving, search driving)
 
 -- src/build.rt:153:30
 enum-known-verdict : tie.Need-enum-known-verdict Inv-loop μ-loop
@@ -118,6 +122,7 @@ read-tested-spec =
     Inv-loop
     μ-loop
     first-state-requires
+    table-requires
     cursor-at-requires
     mark-of-requires
     loop-holds
