@@ -2,18 +2,18 @@
 use mathlib.Core.Path.{_≡_, refl, sym, ap, _∙_}
 use mathlib.Core.Bool.{Bool, true, false}
 use mathlib.Core.List.{List}
-use mathlib.Core.Logic.{_⊎_, inl, inr}
-use Prim.Native.Nat.{ℕ}
+use Prim.Native.Nat.{ℕ, _+_, _≤_}
 use native.Mathlib.Omega.{arith}
-use lib.Dec.{leb→le}
-use lib.ListN.{length, drop}
+use lib.Dec.{T, ltb, leb→le, ltb→lt}
+use lib.ListN.{length, drop, length-take, length-drop}
 use Rattle.texts.specs.Choice.{pick}
 use Rattle.texts.specs.Text.{ascii, piece, same}
+use Rattle.texts.proofs.Comparing.{same-lengths}
 use Rattle.words.specs.Word.{wordOf}
 use Rattle.words.specs.Standing.{ShortText, LongText, StandsShort, StandsLong}
 use Rattle.words.proofs.Digits.{front-is}
 use Rattle.elements.specs.Elements.{elementOf, otherElementOf}
-use Rattle.elements.specs.Leaf.{IsLeaf}
+use Rattle.elements.specs.Leaf.{leaf, IsLeaf}
 use Rattle.elements.specs.declared.Element.{Element}
 use Rattle.elements.specs.declared.Element.the-variants.{MessageSchema, «Type», Ref, Composite, Enum, ValidValue, Message, Group, Field, Other}
 
@@ -111,13 +111,44 @@ module _ (doc : List ℕ) (at : ℕ) {len : ℕ} {b : Bool} where
 pub at-any : (doc : List ℕ) (at len : ℕ) {w : List ℕ} → w ≡ piece doc at len → {r : Element} → r ≡ elementOf w → r ≡ elementOf (piece doc at len)
 at-any doc at len p e = e ∙ ap elementOf p
 
--- a field or a type
-module _ (doc : List ℕ) (at : ℕ) {len : ℕ} {b : Bool} where
-  pub leaf-field : StandsShort doc at 1099511627776 431315315046 b → len ≡ 5 → IsLeaf (piece doc at len) b
-  leaf-field s l = record { is = λ t. inl (sym (at-field doc at s t l)) }
+-- ---- a name by its length alone
 
-  pub leaf-type : StandsShort doc at 4294967296 1701869940 b → len ≡ 4 → IsLeaf (piece doc at len) b
-  leaf-type s l = record { is = λ t. inr (sym (at-type doc at s t l)) }
+-- with room for sixteen bytes a piece has the length that is asked for, or sixteen and more
+module _ (doc : List ℕ) (at : ℕ) {len : ℕ} (h : at + 16 ≤ length doc) where
+  differs : (name : List ℕ) → T (ltb (length name) 16) → (len ≡ length name → ⊥) → same (piece doc at len) name ≡ false
+  differs name t n = sym (same-lengths (piece doc at len) name (λ e. n (omega (arith, ltb→lt (length name) 16 t, simp (length-take, length-drop) at e))))
+
+  -- no element has a name of another length
+  pub at-other : (len ≡ 3 → ⊥) → (len ≡ 4 → ⊥) → (len ≡ 5 → ⊥) → (len ≡ 7 → ⊥) → (len ≡ 9 → ⊥) → (len ≡ 10 → ⊥) → (len ≡ 13 → ⊥) → Other ≡ elementOf (piece doc at len)
+  unfolding elementOf otherElementOf
+  at-other n3 n4 n5 n7 n9 n10 n13 = rw (differs (ascii "messageSchema") tt n13, differs (ascii "type") tt n4, differs (ascii "ref") tt n3, differs (ascii "composite") tt n9, differs (ascii "enum") tt n4, differs (ascii "validValue") tt n10, differs (ascii "message") tt n7, differs (ascii "group") tt n5, differs (ascii "field") tt n5)
+
+-- ---- leaves
+
+leaf-of : (a b c d : Bool) → leaf (pick a MessageSchema (pick b «Type» (pick c Ref (pick d Field Other)))) ≡ true
+leaf-of true b c d = refl
+leaf-of false true c d = refl
+leaf-of false false true d = refl
+leaf-of false false false true = refl
+leaf-of false false false false = refl
+
+module _ (doc : List ℕ) (at : ℕ) {len : ℕ} where
+  module _ {b : Bool} where
+    pub leaf-field : StandsShort doc at 1099511627776 431315315046 b → len ≡ 5 → IsLeaf (piece doc at len) b
+    leaf-field s l = record { is = λ t. ap leaf (sym (at-field doc at s t l)) }
+
+    pub leaf-type : StandsShort doc at 4294967296 1701869940 b → len ≡ 4 → IsLeaf (piece doc at len) b
+    leaf-type s l = record { is = λ t. ap leaf (sym (at-type doc at s t l)) }
+
+  -- none but a leaf has a name of another length
+  pub leaf-other : at + 16 ≤ length doc → (len ≡ 4 → ⊥) → (len ≡ 5 → ⊥) → (len ≡ 7 → ⊥) → (len ≡ 9 → ⊥) → (len ≡ 10 → ⊥) → IsLeaf (piece doc at len) true
+  unfolding elementOf otherElementOf
+  leaf-other h n4 n5 n7 n9 n10 =
+      record {
+        is = λ t.
+            rw (differs doc at h (ascii "composite") tt n9, differs doc at h (ascii "enum") tt n4, differs doc at h (ascii "validValue") tt n10, differs doc at h (ascii "message") tt n7, differs doc at h (ascii "group") tt n5)
+            (leaf-of (same (piece doc at len) (ascii "messageSchema")) (same (piece doc at len) (ascii "type")) (same (piece doc at len) (ascii "ref")) (same (piece doc at len) (ascii "field")));
+      }
 
 pub leaf-not : (name : List ℕ) → IsLeaf name false
 leaf-not name = record { is = λ t. absurd (let z : _≡_ {A = ℕ} 0 1 = cc in omega arith) }

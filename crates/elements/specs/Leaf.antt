@@ -1,12 +1,25 @@
--- Names of elements that are told for speed alone. Internal.
+-- Names of elements that are told for speed alone: those whose close only pops the name. Internal.
 use mathlib.Core.Path.{_≡_}
-use mathlib.Core.Bool.{Bool, true}
+use mathlib.Core.Bool.{Bool, true, false}
 use mathlib.Core.List.{List}
-use mathlib.Core.Logic.{_⊎_}
 use Prim.Native.Nat.{ℕ}
-use Rattle.elements.specs.declared.Element.the-variants.{«Type», Field}
+use Rattle.elements.specs.declared.Element.{Element}
+use Rattle.elements.specs.declared.Element.the-variants.{MessageSchema, «Type», Ref, Composite, Enum, ValidValue, Message, Group, Field, Other}
 use Rattle.elements.specs.Elements.{elementOf}
 
--- r is true only where the name is that of a field or a type
+-- nothing is current because of such an element, and it has no value
+abbrev pub leaf : Element → Bool
+leaf MessageSchema = true
+leaf «Type» = true
+leaf Ref = true
+leaf Composite = false
+leaf Enum = false
+leaf ValidValue = false
+leaf Message = false
+leaf Group = false
+leaf Field = true
+leaf Other = true
+
+-- r is true only where the name is that of a leaf
 pub record IsLeaf (name : List ℕ) (r : Bool) : Type 0 where
-  pub is : r ≡ true → (elementOf name ≡ Field) ⊎ (elementOf name ≡ «Type»)
+  pub is : r ≡ true → leaf (elementOf name) ≡ true

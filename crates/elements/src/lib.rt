@@ -66,27 +66,26 @@ pub fn element_of(name: &[u8]) -> Element
     other_element_of(name)
 }
 
-// Whether the name of `len` bytes at `at` is "field" or "type", which nearly all self-closed tags are: closing one of
-// these changes nothing.
+// Whether the name of `len` bytes at `at` is a leaf's (specs/Leaf.antt), whose close only pops the name: "field", "type",
+// or one as long as no name of the others. None is told of in the document's last 15 bytes.
 pub fn is_leaf_at(doc: &[u8], at: usize, len: usize) -> bool
     ensures { λ r. ⌜ IsLeaf (piece (now (doc .entry)) at len) r ⌝ }
 {
-    if doc.len() < 8 {
+    if doc.len() < 16 {
         return false;
     }
-    if doc.len() - 8 < at {
+    if doc.len() - 16 < at {
         return false;
     }
-    if len == 5 {
-        return stands_short(doc, at, 0x100_0000_0000, 0x64_6c65_6966);
+    match len {
+        5 => stands_short(doc, at, 0x100_0000_0000, 0x64_6c65_6966),
+        4 => stands_short(doc, at, 0x1_0000_0000, 0x6570_7974),
+        7 | 9 | 10 => false,
+        _ => true,
     }
-    if len == 4 {
-        return stands_short(doc, at, 0x1_0000_0000, 0x6570_7974);
-    }
-    false
 }
 
-// What a name of 4 or 5 bytes in a document says.
+// What a name of 3 to 5 bytes in a document says.
 fn short_element_at(doc: &[u8], at: usize, len: usize) -> Element
     requires { ⌜ at + 8 ≤ length (now doc) ⌝ }
     ensures { λ r. ⌜ r ≡ elementOf (piece (now (doc .entry)) at len) ⌝ }
@@ -138,7 +137,8 @@ fn long_element_at(doc: &[u8], at: usize, len: usize) -> Element
     element_of(part(doc, at, len))
 }
 
-// What the name of `len` bytes at `at` says; words are compared up to 16 bytes before the document's end.
+// What the name of `len` bytes at `at` says. Up to 16 bytes before the document's end a length that no element's name has
+// says it at once, and else words are compared.
 pub fn element_at(doc: &[u8], at: usize, len: usize) -> Element
     ensures { λ r. ⌜ r ≡ elementOf (piece (now (doc .entry)) at len) ⌝ }
 {
@@ -148,8 +148,9 @@ pub fn element_at(doc: &[u8], at: usize, len: usize) -> Element
     if doc.len() - 16 < at {
         return element_of(part(doc, at, len));
     }
-    if len < 6 {
-        return short_element_at(doc, at, len);
+    match len {
+        3 | 4 | 5 => short_element_at(doc, at, len),
+        7 | 9 | 10 | 13 => long_element_at(doc, at, len),
+        _ => Element::Other,
     }
-    long_element_at(doc, at, len)
 }

@@ -23,6 +23,7 @@ use Rattle.xmlschema.specs.Builder.{Builder, Outcome, on, refused, withS
 use Rattle.xmlschema.specs.Store.{entryAt, wordsOf, itemOf, itemsOf, schemaOf, found}
 use Rattle.xmlschema.specs.Layout.{current, modelIn, builderOf, stackOf, recurrent, valued, givenAt, higher, Alike, Kept, Ready, After, usedBy}
 use Rattle.elements.specs.Elements.{elementOf}
+use Rattle.elements.specs.Leaf.{leaf}
 use Rattle.elements.specs.declared.Element.{Element}
 use Rattle.elements.specs.declared.Element.the-variants as element
 use Rattle.xmlschema.specs.declared.items.Entry.{Entry}
@@ -171,24 +172,36 @@ module _ (s : State) (doc rec text : List ℕ) (k : Kept s rec text) {a : Steppe
 
 -- ---- by element
 
+leaf-stays : (e : Element) → leaf e ≡ true → (b : Builder) → b ≡ closeBy e b
+leaf-stays element.MessageSchema t b = refl
+leaf-stays element.«Type» t b = refl
+leaf-stays element.Ref t b = refl
+leaf-stays element.Field t b = refl
+leaf-stays element.Other t b = refl
+leaf-stays element.Composite t b = absurd (let z : _≡_ {A = ℕ} 0 1 = cc in omega arith)
+leaf-stays element.Enum t b = absurd (let z : _≡_ {A = ℕ} 0 1 = cc in omega arith)
+leaf-stays element.ValidValue t b = absurd (let z : _≡_ {A = ℕ} 0 1 = cc in omega arith)
+leaf-stays element.Message t b = absurd (let z : _≡_ {A = ℕ} 0 1 = cc in omega arith)
+leaf-stays element.Group t b = absurd (let z : _≡_ {A = ℕ} 0 1 = cc in omega arith)
+
 module _ (e : Element) (s : State) (doc rec text : List ℕ) (k : Kept s rec text) {a : Stepped} where
-  stays : (b : Builder) → b ≡ builderOf s doc rec text → b ≡ closeBy e b → a ≡ record { state = s; verdict = Fine } → After (on (closeBy e (builderOf s doc rec text))) s 0 doc a rec text
-  stays b q c ea = rw ea (record { is = ap on (rw q at c); kept = λ v. k; used = λ v. omega arith })
+  pub leaf-shut : leaf e ≡ true → a ≡ record { state = s; verdict = Fine } → After (on (closeBy e (builderOf s doc rec text))) s 0 doc a rec text
+  leaf-shut t ea = rw ea (record { is = ap on (leaf-stays e t (builderOf s doc rec text)); kept = λ v. k; used = λ v. omega arith })
 
   pub shut-schema : e ≡ element.MessageSchema → a ≡ record { state = s; verdict = Fine } → After (on (closeBy e (builderOf s doc rec text))) s 0 doc a rec text
-  shut-schema q = stays (builderOf s doc rec text) refl (ap (λ x. closeBy x (builderOf s doc rec text)) (sym q))
+  shut-schema q = leaf-shut (ap leaf q)
 
   pub shut-type : e ≡ element.«Type» → a ≡ record { state = s; verdict = Fine } → After (on (closeBy e (builderOf s doc rec text))) s 0 doc a rec text
-  shut-type q = stays (builderOf s doc rec text) refl (ap (λ x. closeBy x (builderOf s doc rec text)) (sym q))
+  shut-type q = leaf-shut (ap leaf q)
 
   pub shut-ref : e ≡ element.Ref → a ≡ record { state = s; verdict = Fine } → After (on (closeBy e (builderOf s doc rec text))) s 0 doc a rec text
-  shut-ref q = stays (builderOf s doc rec text) refl (ap (λ x. closeBy x (builderOf s doc rec text)) (sym q))
+  shut-ref q = leaf-shut (ap leaf q)
 
   pub shut-field : e ≡ element.Field → a ≡ record { state = s; verdict = Fine } → After (on (closeBy e (builderOf s doc rec text))) s 0 doc a rec text
-  shut-field q = stays (builderOf s doc rec text) refl (ap (λ x. closeBy x (builderOf s doc rec text)) (sym q))
+  shut-field q = leaf-shut (ap leaf q)
 
   pub shut-other : e ≡ element.Other → a ≡ record { state = s; verdict = Fine } → After (on (closeBy e (builderOf s doc rec text))) s 0 doc a rec text
-  shut-other q = stays (builderOf s doc rec text) refl (ap (λ x. closeBy x (builderOf s doc rec text)) (sym q))
+  shut-other q = leaf-shut (ap leaf q)
 
   -- another thing current
   now : (c n m g : ℕ) → builderOf (recurrent s c n m g) doc rec text ≡ closeBy e (builderOf s doc rec text) → a ≡ record { state = recurrent s c n m g; verdict = Fine } → After (on (closeBy e (builderOf s doc rec text))) s 0 doc a rec text

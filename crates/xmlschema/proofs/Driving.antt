@@ -41,7 +41,7 @@ use Rattle.xmlschema.specs.declared.state.State.{State}
 use Rattle.xmlschema.specs.declared.state.Verdict.{Verdict}
 use Rattle.xmlschema.specs.declared.state.Verdict.the-variants as verdict
 use Rattle.xmlschema.proofs.Stacking.{length-stack, pop-kept}
-use Rattle.xmlschema.proofs.Closing.{text-off, shut-field, shut-type, close-right}
+use Rattle.xmlschema.proofs.Closing.{text-off, leaf-shut, close-right}
 
 -- ---- the cursor moves on
 
@@ -321,7 +321,7 @@ module _ (l : Limits) (doc : List ℕ) (m : Mark) (s : State) (rec text : List �
       let k = pop-kept s (higher s) doc rec text refl (inv .kept) in
       let e = elementOf (piece doc (m .name) (m .len)) in
       let h : After (on (closeBy e (builderOf (higher s) doc rec text))) (higher s) 0 doc (record { state = higher s; verdict = verdict.Fine }) rec text =
-      ⊎-elim (λ x. shut-field e (higher s) doc rec text k x refl) (λ x. shut-type e (higher s) doc rec text k x refl) (f .is refl) in
+      leaf-shut e (higher s) doc rec text k (f .is refl) refl in
       let a : After (step l doc (readAt doc (cursorOf m) .place) (readAt doc (cursorOf m) .event) (builderOf s doc rec text)) s (takes (readAt doc (cursorOf m) .event)) doc (record { state = higher s; verdict = verdict.Fine }) rec text =
       subst (λ (x : Read). After (step l doc (x .place) (x .event) (builderOf s doc rec text)) s (takes (x .event)) doc (record { state = higher s; verdict = verdict.Fine }) rec text) (sym r) (close-right (m .place) (m .name) (m .len) s doc rec text refl t refl refl h) in
       let d : cursorAt (m .at) ≡ readAt doc (cursorOf m) .cursor = sym (ap (λ (x : Read). x .cursor) r) in

@@ -253,7 +253,7 @@ pub struct Reached {
     pub mark: Mark,
 }
 
-// Past the close that a self-closed field or type owes: it only pops the name.
+// Past the close that a self-closed leaf owes, as a field or a type: it only pops the name.
 fn past_close(doc: &[u8], s: State, m: Mark, rec: &[u32]) -> Reached
     requires { ⌜ s .place .depth ≤ 64 ⌝ }
     ensures { λ r. ⌜ Shuts (now (doc .entry)) (now (rec .entry)) s m r ⌝ }
