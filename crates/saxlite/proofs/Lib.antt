@@ -17,6 +17,7 @@ pub mod Noting
 pub mod Knowing
 pub mod Telling
 pub mod Coding
+pub mod Declaring
 pub mod Begun
 pub mod Laws
 pub mod Trials

@@ -58,15 +58,16 @@ latest-this on this earlier t = rw t
 pub latest-earlier : (on : Bool) (this earlier : ℕ) → on ≡ false → earlier ≡ pick on this earlier
 latest-earlier on this earlier f = rw f
 
--- w is the raw name, and b whether it declares a namespace; v is the local name, and m whether it is the key
-module _ (doc : List ℕ) (raw n value len : ℕ) (key : List ℕ) (was long : ℕ) {w : List ℕ} (e : w ≡ piece doc raw n) {b : Bool} (x : b ≡ isXmlns w) where
-  pub named-xmlns : b ≡ true → foundAt was long ≡ later (valueIfNamed (piece doc raw n) value len key) (foundAt was long)
-  named-xmlns t = rw (← e, ← x, t)
+module _ (doc : List ℕ) (raw n value len : ℕ) (key : List ℕ) (was long : ℕ) where
+  -- b is whether the raw name declares a namespace
+  pub named-xmlns : {b : Bool} → b ≡ isXmlns (piece doc raw n) → b ≡ true → foundAt was long ≡ later (valueIfNamed (piece doc raw n) value len key) (foundAt was long)
+  named-xmlns x t = rw (← x, t)
 
-  pub named-local : b ≡ false → {lost : ℕ} → lost ≡ prefixLength w → {v : List ℕ} → v ≡ piece w lost n → {m : Bool} → m ≡ same v key → {y z : ℕ} → y ≡ pick m (value + 1) was → z ≡ pick m len long → foundAt y z ≡ later (valueIfNamed (piece doc raw n) value len key) (foundAt was long)
-  named-local f l p {m} s hy hz =
+  -- it does not; w is the raw name, v the local name, and m whether that is the key
+  pub named-local : isXmlns (piece doc raw n) ≡ false → {w : List ℕ} → w ≡ piece doc raw n → {lost : ℕ} → lost ≡ prefixLength w → {v : List ℕ} → v ≡ piece w lost n → {m : Bool} → m ≡ same v key → {y z : ℕ} → y ≡ pick m (value + 1) was → z ≡ pick m len long → foundAt y z ≡ later (valueIfNamed (piece doc raw n) value len key) (foundAt was long)
+  named-local f e l p {m} s hy hz =
       let z = p ∙ local-of doc raw n e l in
-      rw (← z, ← e, ← x, f, ← s)
+      rw (f, ← z, ← s)
       (by-test m (λ t. rw (hy, hz, t) (found-value value len)) (λ t. rw (hy, hz, t) refl))
 
 -- ---- a loop that looks a name up in the tag at `at` stands at i, and has found `found`; p is the part at i

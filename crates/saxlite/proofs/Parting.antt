@@ -3,10 +3,12 @@ use mathlib.Core.Path.{_≡_}
 use mathlib.Core.Bool.{Bool, true, false}
 use mathlib.Core.List.{List}
 use Prim.Native.Nat.{ℕ, _+_, _-_, _≤_, _<_}
-use lib.ListN.{length, drop}
+use native.Mathlib.Omega.{arith}
+use lib.ListN.{length, drop, getD}
 use borrow.Author.Tests.{eq-eqb, ne-eqb, lt-ltb, le-ltb, lt-leb, le-leb}
 use Rattle.texts.specs.Text.{ascii, startsWith}
 use Rattle.texts.specs.Scan.{scan, until, is}
+use Rattle.texts.proofs.Scanning.{scan-start, byte-stop}
 use Rattle.classes.specs.Class.{isSpace, isAttributeNameEnd}
 use Rattle.refusals.specs.declared.Refusal.the-variants.{OpenTag, NoAttributeName, NoEquals, NoQuote, OpenValue}
 use Rattle.saxlite.specs.declared.tag.TagPart.{TagPart}
@@ -23,6 +25,12 @@ module _ (quote : ℕ) (doc : List ℕ) (name n at place : ℕ) {end : ℕ} (e :
   pub quoted-open : length doc ≤ end → Bad (OpenValue at place) ≡ quotedAt quote doc name n at place
   unfolding quotedAt
   quoted-open h = rw (← e, le-ltb end (length doc) h)
+
+-- an empty value
+pub quoted-empty : (quote : ℕ) (doc : List ℕ) (name n at place : ℕ) → at < length doc → getD doc at 0 ≡ quote → Part name n at 0 (at + 1) ≡ quotedAt quote doc name n at place
+quoted-empty quote doc name n at place h e =
+    let z : at - at ≡ 0 = omega arith in
+    rw z at (quoted-ends quote doc name n at place (byte-stop scan-start h e) h)
 
 -- ---- a quoted value; b and c are what the comparisons with the quotes say, r what the function above returns
 

@@ -2,7 +2,9 @@
 use classes::is_attribute_name_end_in;
 use classes::is_space_in;
 use classes::is_tag_name_end_in;
+use words::stands_short;
 ghost use mathlib.Core.Path.{_≡_};
+ghost use Rattle.texts.specs.Text.{piece};
 ghost use Rattle.texts.specs.Scan.{scan, until, is};
 ghost use Rattle.classes.specs.Table.{IsTable};
 ghost use Rattle.classes.specs.Class.{isSpace, isTagNameEnd, isAttributeNameEnd};
@@ -40,8 +42,8 @@ pub fn tag_name_end(doc: &[u8], at: usize, t: &[u8; 256]) -> usize
     i
 }
 
-// Where the attribute name at `at` ends.
-pub fn attribute_name_end(doc: &[u8], at: usize, t: &[u8; 256]) -> usize
+// Where the attribute name at `at` ends, byte by byte.
+fn attribute_name_each(doc: &[u8], at: usize, t: &[u8; 256]) -> usize
     requires { ⌜ IsTable (now t) ⌝ }
     ensures { λ r. ⌜ r ≡ scan (until isAttributeNameEnd) (now (doc .entry)) at ⌝ }
 {
@@ -53,6 +55,31 @@ pub fn attribute_name_end(doc: &[u8], at: usize, t: &[u8; 256]) -> usize
         i += 1;
     }
     i
+}
+
+// Past "xmlns", where it stands at `at`: the name goes on there.
+fn past_xmlns(doc: &[u8], at: usize) -> usize
+    ensures { λ r. ⌜ scan (until isAttributeNameEnd) (now (doc .entry)) r ≡ scan (until isAttributeNameEnd) (now (doc .entry)) at ⌝ }
+{
+    if doc.len() < 8 {
+        return at;
+    }
+    if doc.len() - 8 < at {
+        return at;
+    }
+    if stands_short(doc, at, 0x100_0000_0000, 0x73_6e6c_6d78) {
+        return at + 5;
+    }
+    at
+}
+
+// Where the attribute name at `at` ends.
+pub fn attribute_name_end(doc: &[u8], at: usize, t: &[u8; 256]) -> usize
+    requires { ⌜ IsTable (now t) ⌝ }
+    ensures { λ r. ⌜ r ≡ scan (until isAttributeNameEnd) (now (doc .entry)) at ⌝ }
+{
+    let from = past_xmlns(doc, at);
+    attribute_name_each(doc, from, t)
 }
 
 // Where the first `b` from `at` on stands, or the end.
@@ -102,4 +129,26 @@ pub fn is_xmlns(name: &[u8]) -> bool
         return true;
     }
     texts::starts_with(name, 0, b"xmlns:")
+}
+
+// Whether the raw name of `n` bytes at `raw` declares a namespace, by a word where there is room for one.
+pub fn is_xmlns_at(doc: &[u8], raw: usize, n: usize) -> bool
+    ensures { λ r. ⌜ r ≡ isXmlns (piece (now (doc .entry)) raw n) ⌝ }
+{
+    if n < 5 {
+        return false;
+    }
+    if doc.len() < 8 {
+        return is_xmlns(texts::part(doc, raw, n));
+    }
+    if doc.len() - 8 < raw {
+        return is_xmlns(texts::part(doc, raw, n));
+    }
+    if stands_short(doc, raw, 0x100_0000_0000, 0x73_6e6c_6d78) {
+        if n == 5 {
+            return true;
+        }
+        return doc[raw + 5] == b':';
+    }
+    false
 }

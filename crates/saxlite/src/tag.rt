@@ -4,17 +4,20 @@ use crate::known::codes_of;
 use crate::known::known_at;
 use crate::scan::attribute_name_end;
 use crate::scan::byte_from;
-use crate::scan::is_xmlns;
+use crate::scan::is_xmlns_at;
 use crate::scan::prefix_len;
 use crate::scan::skip_space;
 use classes::table;
 use refusals::Refusal;
 ghost use mathlib.Core.Path.{_≡_};
+ghost use mathlib.Core.Bool.{false};
+ghost use mathlib.Core.List.{[]};
 ghost use Prim.Native.Nat.{_<_, _^_};
 ghost use lib.ListN.{length};
 ghost use Rattle.classes.specs.Table.{IsTable};
 ghost use Rattle.texts.specs.Choice.{pick};
 ghost use Rattle.texts.specs.Text.{piece};
+ghost use Rattle.saxlite.specs.Names.{isXmlns};
 ghost use Rattle.saxlite.specs.Attributes.{quotedAt, valueAt, attributePartAt, tagPartAt, tagAt, attributeAt};
 ghost use Rattle.saxlite.specs.Noting.{Keys, noNotes, foundAt, notedOf, NotedWith, NotedBy, keysOf};
 ghost use Rattle.saxlite.specs.Known.{knownName, keysBy, CodesOf, QuickAt, NamedAs, NotedMore};
@@ -96,17 +99,36 @@ fn quoted_part(doc: &[u8], name: usize, n: usize, at: usize, quote: u8, place: u
     }
 }
 
+// The same, where an empty value is told at once.
+fn empty_or_quoted(doc: &[u8], name: usize, n: usize, at: usize, quote: u8, place: usize) -> TagPart
+    ensures { λ r. ⌜ r ≡ quotedAt quote (now (doc .entry)) name n at place ⌝ }
+{
+    if at < doc.len() {
+        if doc[at] == quote {
+            let next = at + 1;
+            return TagPart::Attribute {
+                name,
+                name_len: n,
+                value: at,
+                value_len: 0,
+                next,
+            };
+        }
+    }
+    quoted_part(doc, name, n, at, quote, place)
+}
+
 // The quoted value that is due at `at`.
 fn value_part(doc: &[u8], name: usize, n: usize, at: usize, place: usize) -> TagPart
     ensures { λ r. ⌜ r ≡ valueAt (now (doc .entry)) name n at place ⌝ }
 {
     if texts::starts_with(doc, at, b"\"") {
         let value = at + 1;
-        return quoted_part(doc, name, n, value, b'"', place);
+        return empty_or_quoted(doc, name, n, value, b'"', place);
     }
     if texts::starts_with(doc, at, b"'") {
         let value = at + 1;
-        return quoted_part(doc, name, n, value, b'\'', place);
+        return empty_or_quoted(doc, name, n, value, b'\'', place);
     }
     TagPart::Bad(Refusal::NoQuote { offset: at, place })
 }
@@ -200,7 +222,7 @@ fn latest(on: bool, this: usize, earlier: usize) -> usize
     if on { this } else { earlier }
 }
 
-// What is noted with one more attribute; one that declares a namespace counts for nothing.
+// What is noted with one more attribute, which declares no namespace.
 fn noted_with(
     doc: &[u8],
     raw: usize,
@@ -213,13 +235,10 @@ fn noted_with(
     fourth: &[u8],
     earlier: Notes,
 ) -> Notes
-    requires { ⌜ value < length (now doc) ⌝ }
+    requires { ⌜ (value < length (now doc)) × (isXmlns (piece (now doc) raw n) ≡ false) ⌝ }
     ensures { λ r. ⌜ NotedWith (piece (now (doc .entry)) raw n) value len (now (first .entry)) (now (second .entry)) (now (third .entry)) (now (fourth .entry)) earlier r ⌝ }
 {
     let whole = texts::part(doc, raw, n);
-    if is_xmlns(whole) {
-        return earlier;
-    }
     let lost = prefix_len(whole);
     let name = texts::part(whole, lost, n);
     let at = value + 1;
@@ -239,7 +258,26 @@ fn noted_with(
     }
 }
 
-// The same with a known attribute.
+// What is noted under one name with one more attribute; one that declares a namespace counts for nothing.
+fn noted_one(
+    doc: &[u8],
+    raw: usize,
+    n: usize,
+    value: usize,
+    len: usize,
+    name: &[u8],
+    earlier: Notes,
+) -> Notes
+    requires { ⌜ value < length (now doc) ⌝ }
+    ensures { λ r. ⌜ NotedWith (piece (now (doc .entry)) raw n) value len (now (name .entry)) [] [] [] earlier r ⌝ }
+{
+    if is_xmlns_at(doc, raw, n) {
+        return earlier;
+    }
+    noted_with(doc, raw, n, value, len, name, b"", b"", b"", earlier)
+}
+
+// What is noted with a known attribute.
 fn noted_known(code: usize, codes: Codes, value: usize, len: usize, earlier: Notes) -> Notes
     requires { ⌜ (0 < code) × (code < 18) × (value < 2 ^ 63) ⌝ }
     ensures { λ r. ⌜ ((k : Keys) → CodesOf k codes → NotedMore (knownName code) value len k earlier r) ⌝ }
@@ -265,7 +303,7 @@ fn noted_known(code: usize, codes: Codes, value: usize, len: usize, earlier: Not
     }
 }
 
-// The same with an attribute of another name, in a tag with these keys.
+// The same with an attribute of another name, which declares no namespace, in a tag with these keys.
 fn noted_other(
     doc: &[u8],
     raw: usize,
@@ -275,7 +313,7 @@ fn noted_other(
     keys: usize,
     earlier: Notes,
 ) -> Notes
-    requires { ⌜ value < length (now doc) ⌝ }
+    requires { ⌜ (value < length (now doc)) × (isXmlns (piece (now doc) raw n) ≡ false) ⌝ }
     ensures { λ r. ⌜ NotedMore (piece (now (doc .entry)) raw n) value len (keysBy keys) earlier r ⌝ }
 {
     match keys {
@@ -330,7 +368,7 @@ fn noted_other(
     }
 }
 
-// What is noted with one more attribute, of a known name or another.
+// What is noted with one more attribute, of a known name or another; one that declares a namespace counts for nothing.
 fn noted_by(
     code: usize,
     codes: Codes,
@@ -347,6 +385,9 @@ fn noted_by(
 {
     if 0 < code {
         return noted_known(code, codes, value, len, earlier);
+    }
+    if is_xmlns_at(doc, raw, n) {
+        return earlier;
     }
     noted_other(doc, raw, n, value, len, keys, earlier)
 }
@@ -473,18 +514,7 @@ pub fn attribute(doc: &[u8], at: usize, name: &[u8]) -> Found
                 value_len,
                 next,
             } => {
-                noted = noted_with(
-                    doc,
-                    raw,
-                    name_len,
-                    value,
-                    value_len,
-                    name,
-                    b"",
-                    b"",
-                    b"",
-                    noted,
-                );
+                noted = noted_one(doc, raw, name_len, value, value_len, name, noted);
                 i = next;
             }
             TagPart::TagEnd { next, self_closed } => {

@@ -10,15 +10,15 @@ use Rattle.saxlite.proofs.tag.attribute.Reads as reads
 use Rattle.saxlite.proofs.tag.attribute.Lts as lts
 use Rattle.classes.proofs.table.Reads as table-reads
 use Rattle.saxlite.proofs.tag.found_of.Reads as found-of-reads
-use Rattle.saxlite.proofs.tag.noted_with.Reads as noted-with-reads
+use Rattle.saxlite.proofs.tag.noted_one.Reads as noted-one-reads
 use Rattle.saxlite.proofs.tag.nothing.Reads as nothing-reads
 use Rattle.saxlite.proofs.tag.tag_part_in.Reads as tag-part-in-reads
 
 abbrev Inv-loop : tie.InvT-loop
-Inv-loop doc at name t i₀ noted₀ t16 t17 t18 i noted = Looking doc at name i (foundAt (noted .first) (noted .len1)) × IsTable t
+Inv-loop doc at name t i₀ noted₀ i noted = Looking doc at name i (foundAt (noted .first) (noted .len1)) × IsTable t
 
 abbrev μ-loop : tie.MeasureT-loop
-μ-loop doc at name t i₀ noted₀ t16 t17 t18 i noted = length doc - i
+μ-loop doc at name t i₀ noted₀ i noted = length doc - i
 
 -- src/tag.rt:464:13
 table-requires : tie.Need-table-requires Inv-loop μ-loop
@@ -41,21 +41,9 @@ tag-part-in-requires c κs = search laws
 enum-known-part : tie.Need-enum-known-part Inv-loop μ-loop
 enum-known-part c = search laws
 
--- src/tag.rt:485:21
-slice-aggregate-noted-with : tie.Need-slice-aggregate-noted-with Inv-loop μ-loop
-slice-aggregate-noted-with c = search laws
-
--- src/tag.rt:486:21
-slice-aggregate-noted-with-2 : tie.Need-slice-aggregate-noted-with-2 Inv-loop μ-loop
-slice-aggregate-noted-with-2 c = search laws
-
--- src/tag.rt:487:21
-slice-aggregate-noted-with-3 : tie.Need-slice-aggregate-noted-with-3 Inv-loop μ-loop
-slice-aggregate-noted-with-3 c = search laws
-
 -- src/tag.rt:478:17
-noted-with-requires : tie.Need-noted-with-requires Inv-loop μ-loop
-noted-with-requires c κs = search laws
+noted-one-requires : tie.Need-noted-one-requires Inv-loop μ-loop
+noted-one-requires c κs = search laws
 
 -- src/tag.rt:467:5
 loop-less : tie.Need-loop-less Inv-loop μ-loop
@@ -100,10 +88,7 @@ attribute-spec =
     loop-holds
     tag-part-in-requires
     enum-known-part
-    slice-aggregate-noted-with
-    slice-aggregate-noted-with-2
-    slice-aggregate-noted-with-3
-    noted-with-requires
+    noted-one-requires
     loop-less
     loop-again
     enum-known-part-2

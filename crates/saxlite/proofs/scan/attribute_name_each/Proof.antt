@@ -4,8 +4,8 @@ use lib.ListN.{length}
 use Rattle.texts.proofs.Scanning.{Scanning}
 use Rattle.texts.specs.Scan.{until}
 use Rattle.classes.specs.Class.{isAttributeNameEnd}
-use Rattle.saxlite.proofs.scan.attribute_name_end.Statement.{statement}
-use Rattle.saxlite.proofs.scan.attribute_name_end.Tie as tie
+use Rattle.saxlite.proofs.scan.attribute_name_each.Statement.{statement}
+use Rattle.saxlite.proofs.scan.attribute_name_each.Tie as tie
 
 abbrev Inv-loop : tie.InvT-loop
 Inv-loop doc at t i₀ i = Scanning (until isAttributeNameEnd) doc at i
@@ -38,8 +38,8 @@ loop-again c = search laws
 returns-2 : tie.Need-returns-2 Inv-loop μ-loop
 returns-2 c = search laws
 
-pub attribute-name-end-spec : {M : Type 1} → statement M
-attribute-name-end-spec =
+pub attribute-name-each-spec : {M : Type 1} → statement M
+attribute-name-each-spec =
     tie.close
     (tie.spec
     Inv-loop
