@@ -1,13 +1,14 @@
 //! The reference and the proved converter in one process on the same inputs: medians and their ratio, once with each side
 //! called by itself, some calls in a row, and once in turns, call by call. In turns each call finds the processor's branch
 //! predictor as the other side left it, which costs the faster side more. The work buffers and the output are as the
-//! last call left them.
+//! last call left them. Both sides are given bytes, so the reference's call has the test in it that makes a `str` of them.
 
 use std::hint::black_box;
 use std::time::{Duration, Instant};
 
 use reference::xmltoproto::xml_to_proto;
 
+use crate::hard::{self, most};
 use crate::library::Converter;
 use crate::prng::Prng;
 use crate::published::{dense, schema, smallest};
@@ -69,13 +70,20 @@ fn time(call: impl FnOnce()) -> f64 {
     at.elapsed().as_secs_f64() * 1e6
 }
 
+/// The reference on a document's bytes, which whoever has no `str` has to test first.
+fn reference(document: &[u8]) {
+    if let Ok(text) = str::from_utf8(document) {
+        drop(black_box(xml_to_proto(text)));
+    }
+}
+
 /// The medians of calls in rows of so many, of one side and then of the other.
 fn in_rows(document: &str, converter: &mut Converter, row: usize) -> Times {
     let (mut rust, mut proved) = (Vec::new(), Vec::new());
     let start = Instant::now();
     while rust.len() < LEAST || start.elapsed() < BUDGET {
         for _ in 0..row {
-            rust.push(time(|| drop(black_box(xml_to_proto(black_box(document))))));
+            rust.push(time(|| reference(black_box(document.as_bytes()))));
         }
         for _ in 0..row {
             proved.push(time(|| {
@@ -88,181 +96,6 @@ fn in_rows(document: &str, converter: &mut Converter, row: usize) -> Times {
 
 fn timed(document: &str, converter: &mut Converter) -> Measured {
     Measured { itself: in_rows(document, converter, ROW), turns: in_rows(document, converter, 1) }
-}
-
-/// As many times as there is room for in a document of the longest length.
-fn most(before: &str, each: impl Fn(usize) -> String, after: &str, count: usize) -> String {
-    let mut text = before.to_string();
-    for k in 0..count {
-        let next = each(k);
-        if text.len() + next.len() + after.len() > 32_768 {
-            break;
-        }
-        text += &next;
-    }
-    text + after
-}
-
-/// The hash of a name in the converter's index (crates/index, `hash_of`).
-fn hash(name: &str) -> u64 {
-    let (name, n) = (name.as_bytes(), name.len());
-    let at = |i: usize, k: usize| name[i..i + k].iter().rev().fold(0u64, |w, x| w << 8 | u64::from(*x));
-    let mix = |h: u64, w: u64| (h % (1 << 60) * 9) ^ w;
-    let word = match n {
-        0 => 0,
-        1..=3 => at(0, 1) | at(n / 2, 1) << 8 | at(n - 1, 1) << 16 | (n as u64) << 24,
-        4..=7 => at(0, 4) | at(n - 4, 4) << 32,
-        _ => mix((0..n - 8).step_by(8).fold(n as u64, |h, i| mix(h, at(i, 8))), at(n - 8, 8)),
-    };
-    (word % (1 << 32) * 1_981_491_285 + (word >> 32) * 1_113_222_403) >> 30 & 1023
-}
-
-/// Names with a common prefix that have one hash.
-fn colliding(prefix: &str, count: usize) -> Vec<String> {
-    let letters: Vec<char> = ('a'..='z').chain('A'..='Z').chain('0'..='9').collect();
-    let mut names = Vec::new();
-    for a in &letters {
-        for b in &letters {
-            names.extend(letters.iter().map(|c| format!("{prefix}{a}{b}{c}")).filter(|name| hash(name) == 0));
-        }
-    }
-    names.truncate(count);
-    names
-}
-
-/// A type of each name, and as many fields as there is room for, each of the type that is told.
-fn naming<'a>(names: &'a [String], field: impl Fn(usize) -> &'a String) -> String {
-    let types: String = names.iter().map(|name| format!("<type name='{name}'/>")).collect();
-    let room = 1_023 - names.len();
-    most(&format!("{types}<message>"), |k| format!("<field type='{}'/>", field(k)), "</message>", room)
-}
-
-/// What may be slow for either side, within the limits.
-pub fn hard() -> Vec<(&'static str, String)> {
-    vec![
-        ("nothing", String::new()),
-        ("text alone", "x".repeat(32_768)),
-        ("'&' alone, in a value", format!("<enum><validValue>{}</validValue></enum>", "&".repeat(32_000))),
-        ("entities, in a value", format!("<enum><validValue>{}</validValue></enum>", "&amp;".repeat(6_400))),
-        ("one long name", format!("<message name='{}'/>", "aB".repeat(16_000))),
-        (
-            "one long encoding",
-            format!(
-                "<composite><type primitiveType='char' characterEncoding='{}'/></composite>",
-                "-".repeat(32_000)
-            ),
-        ),
-        (
-            "one long encoding that ends in a letter",
-            format!(
-                "<composite><type primitiveType='char' characterEncoding='{}x'/></composite>",
-                "-".repeat(32_000)
-            ),
-        ),
-        ("one long tag of attributes", most("<field ", |k| format!("a{k}='' "), "/>", 9_999)),
-        ("one long tag of one attribute", most("<field ", |_| "a=''".into(), "/>", 9_999)),
-        ("empty closes", "</>".repeat(10_922)),
-        ("closed at once", "<a/>".repeat(8_192)),
-        ("opened and closed", "<a></a>".repeat(4_681)),
-        ("opened with an attribute and closed", "<a b=''></a>".repeat(2_730)),
-        ("types without any", "<types></types>".repeat(2_184)),
-        ("empty comments", "<!---->".repeat(4_681)),
-        ("empty instructions", "<??>".repeat(8_192)),
-        ("empty declarations", "<!>".repeat(10_922)),
-        ("one long comment", format!("<!--{}-->", "-".repeat(32_000))),
-        ("one long instruction", format!("<?{}?>", "?".repeat(32_000))),
-        ("refused at its first tag", "</a>".repeat(8_192)),
-        ("messages", most("", |_| "<message/>".into(), "", 1_024)),
-        ("fields of unknown type", most("<message>", |_| "<field type='zzzz'/>".into(), "</message>", 1_023)),
-        ("fields after types", {
-            let types = most("", |k| format!("<type name='t{k:03}'/>"), "", 512);
-            most(&format!("{types}<message>"), |_| "<field type='t000'/>".into(), "</message>", 511)
-        }),
-        ("fields after types, one name begins as the other", {
-            let types = most("", |_| "<type name='aaaaaaaaaaaaaaab'/>".to_string(), "", 500);
-            most(
-                &format!("{types}<message>"),
-                |_| "<field type='aaaaaaaaaaaaaaaa'/>".into(),
-                "</message>",
-                500,
-            )
-        }),
-        ("groups, a field each", most("<message>", |_| "<group><field/></group>".into(), "</message>", 511)),
-        ("messages, a field each", most("", |_| "<message><field/></message>".into(), "", 512)),
-        ("composites, a member each", most("", |_| "<composite><type/></composite>".into(), "", 512)),
-        ("enums, a value each", most("", |_| "<enum><validValue/></enum>".into(), "", 512)),
-        ("values", most("<enum>", |_| "<validValue/>".into(), "</enum>", 1_023)),
-        ("empty groups in one message", most("<message>", |_| "<group/>".into(), "</message>", 1_023)),
-        ("fields that name the first of 400 types with a common prefix", {
-            let types = most("", |k| format!("<type name='commonPrefixOfTwenty{k:03}'/>"), "", 400);
-            most(
-                &format!("{types}<message>"),
-                |_| "<field type='commonPrefixOfTwenty000'/>".into(),
-                "</message>",
-                400,
-            )
-        }),
-        ("one tag of 4,000 attributes", most("<field ", |_| "ab='' ".into(), "/>", 4_000)),
-        ("values of one long enum name", {
-            let name = "aB".repeat(6_000);
-            most(&format!("<enum name='{name}'>"), |_| "<validValue/>".into(), "</enum>", 1_020)
-        }),
-        ("fields of two hundred long type names", {
-            let name = "a".repeat(60);
-            let types = most("", |k| format!("<type name='{name}{k:03}'/>"), "", 200);
-            let field = format!("<field type='{name}000'/>");
-            most(&format!("{types}<message>"), |_| field.clone(), "</message>", 800)
-        }),
-        ("groups of long names", {
-            most(
-                "<message>",
-                |k| format!("<group name='aBcDeFgHiJkLmNoPqRsTuVwXyZ{k}'/>"),
-                "</message>",
-                1_023,
-            )
-        }),
-        ("members of a strange encoding", {
-            let each = "<type primitiveType='char' characterEncoding='\u{1}'/>".to_string();
-            most("<composite>", |_| each.clone(), "</composite>", 1_023)
-        }),
-        ("messages, a group with a field each", {
-            most("", |_| "<message><group><field/></group></message>".into(), "", 341)
-        }),
-        ("fields of one type with a long encoding", {
-            let encoding = "-".repeat(10_000);
-            let types =
-                format!("<type name='t' primitiveType='char' characterEncoding='{encoding}'/><message>");
-            most(&types, |_| "<field type='t'/>".into(), "</message>", 1_020)
-        }),
-        ("fields of one type with a long strange encoding", {
-            let encoding = "x".repeat(10_000);
-            let types =
-                format!("<type name='t' primitiveType='char' characterEncoding='{encoding}'/><message>");
-            most(&types, |_| "<field type='t'/>".into(), "</message>", 1_020)
-        }),
-        ("fields of type names that collide, the first", {
-            let names = colliding(&"p".repeat(30), 216);
-            naming(&names, |_| &names[0])
-        }),
-        ("fields of type names that collide, each another", {
-            let names = colliding(&"p".repeat(30), 216);
-            naming(&names, |k| &names[k * 7 % names.len()])
-        }),
-        ("fields of type names that collide, as many as one chain is walked for", {
-            let names = colliding(&"p".repeat(30), 8);
-            naming(&names, |_| &names[0])
-        }),
-        ("fields of one type name, declared 500 times", {
-            let names = vec!["abc".to_string(); 500];
-            naming(&names, |_| &names[0])
-        }),
-        ("fields of type names in falling order, a few collide", {
-            let mut names: Vec<String> = (0..500).map(|k| format!("{:03}", 999 - k)).collect();
-            names.extend(colliding("", 20));
-            naming(&names, |k| &names[519 - k * 7 % 520])
-        }),
-        ("deep", "<a>".repeat(64) + &"</a>".repeat(64)),
-    ]
 }
 
 /// An enum whose source is 3 MB.
@@ -328,12 +161,15 @@ pub fn run() -> bool {
         line(name, &document, measure(&document));
     }
     let mut hard: Vec<_> =
-        hard().into_iter().map(|(name, document)| (name, measure(&document), document)).collect();
+        hard::all().into_iter().map(|(name, document)| (name, measure(&document), document)).collect();
     let worse = |m: &Measured| m.itself.ratio().max(m.turns.ratio());
     hard.sort_by(|a, b| worse(&b.1).total_cmp(&worse(&a.1)));
     for (name, times, document) in &hard {
         line(name, document, *times);
     }
+    let document = schema(&mut rng, 30_000);
+    let tests = (0..999).map(|_| time(|| drop(black_box(str::from_utf8(black_box(document.as_bytes()))))));
+    println!("in the Rust's time: {:.2} us to test {} bytes", median(tests.collect()), document.len());
     true
 }
 
@@ -350,7 +186,7 @@ mod tests {
             agree(document, &mut converter);
         }
         agree(&dense(&mut rng, 250, 420), &mut converter);
-        for (_, document) in hard() {
+        for (_, document) in hard::all() {
             agree(&document, &mut converter);
         }
         refusing(&long_source());

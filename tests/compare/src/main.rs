@@ -4,6 +4,7 @@
 mod bench;
 mod convert;
 mod damage;
+mod hard;
 mod library;
 mod markup;
 mod names;

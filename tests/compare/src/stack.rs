@@ -1,7 +1,7 @@
 //! How much stack the proved converter takes: it runs on a stack of its own that was painted before, and what
 //! is no longer painted was touched. The documents are those that are hard for it and some of real size.
 
-use crate::bench::hard;
+use crate::hard::all;
 use crate::library::Converter;
 use crate::prng::Prng;
 use crate::schema::limits::real;
@@ -13,7 +13,7 @@ const ALLOWED: usize = 128 * 1024;
 pub fn run() -> bool {
     let mut rng = Prng::new(0x7374_6163);
     let mut documents: Vec<(&str, Vec<u8>)> =
-        hard().into_iter().map(|(name, document)| (name, document.into_bytes())).collect();
+        all().into_iter().map(|(name, document)| (name, document.into_bytes())).collect();
     documents.extend([1_800, 30_000, 32_768].map(|length| ("real size", real(&mut rng, length))));
     let mut converter = Converter::new();
     let most = documents.iter().map(|(name, document)| (converter.stack_used(document), name)).max();
