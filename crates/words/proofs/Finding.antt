@@ -40,12 +40,12 @@ odd : (k n : ℕ) → trailingZeros (suc k) (n * 2 + 1) ≡ 0
 unfolding trailingZeros
 odd k n = ap (λ (d : ℕ). under d (trailingZeros k ((n * 2 + 1) / 2))) (digits-mod n (lit< tt))
 
-unmarked-byte : (k n : ℕ) → trailingZeros (8 + k) (n * 256 + 0) ≡ 8 + trailingZeros k n
+pub unmarked-byte : (k n : ℕ) → trailingZeros (8 + k) (n * 256 + 0) ≡ 8 + trailingZeros k n
 unmarked-byte k n =
     let z : n * 256 + 0 ≡ n * 256 = omega arith in
     ap (trailingZeros (8 + k)) z ∙ shifts 8 k n
 
-marked-byte : (k n : ℕ) → trailingZeros (8 + k) (n * 256 + 128) ≡ 7
+pub marked-byte : (k n : ℕ) → trailingZeros (8 + k) (n * 256 + 128) ≡ 7
 marked-byte k n =
     let y : 8 + k ≡ 7 + suc k = omega arith in
     let z : n * 256 + 128 ≡ (n * 2 + 1) * 128 = omega arith in

@@ -3,5 +3,6 @@ pub mod Digits
 pub mod Lanes
 pub mod Finding
 pub mod Standing
+pub mod Pairing
 pub mod Lacking
 pub mod Laws

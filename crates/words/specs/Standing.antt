@@ -1,8 +1,8 @@
 -- A text that is told by words: what stands at a place is compared with its numbers. Internal.
 use mathlib.Core.Path.{_≡_}
-use mathlib.Core.Bool.{Bool}
+use mathlib.Core.Bool.{Bool, false}
 use mathlib.Core.List.{List}
-use Prim.Native.Nat.{ℕ, _^_, _≤_}
+use Prim.Native.Nat.{ℕ, _^_, _≤_, _<_}
 use lib.Dec.{T}
 use lib.ListN.{length, take, drop}
 use lib.Pow.{areBytes}
@@ -29,3 +29,8 @@ pub record StandsShort (s : List ℕ) (i modulus front : ℕ) (r : Bool) : Type 
 
 pub record StandsLong (s : List ℕ) (i front modulus back : ℕ) (r : Bool) : Type 0 where
   pub is : (text : List ℕ) → LongText text front modulus back → r ≡ startsWith text (drop i s)
+
+-- the text stands at no place from one up to another
+pub record Lacks (text s : List ℕ) (from to : ℕ) : Type 0 where
+  pub forward : from ≤ to
+  pub none : (k : ℕ) → from ≤ k → k < to → startsWith text (drop k s) ≡ false

@@ -1,12 +1,13 @@
 // Words: eight bytes of a lent slice at once, as one number.
 //
 // `word_at` gives the number of the eight bytes at a place, the first one lowest (specs/Word.antt); a word tells its
-// bytes (proofs/Digits.antt). By words `byte_from` finds where a byte first stands, whatever the bytes are, and
-// `lacks_word` tells that it is not among eight; `copy_word` copies eight. `stands_short` and `stands_long` compare with a
-// text that is given by its numbers. What works on one word asks that eight bytes are there, and no more.
-// A half is four bytes.
+// bytes (proofs/Digits.antt). By words `byte_from` finds where a byte first stands, whatever the bytes are, `pair_from` and
+// `three_from` do so for two or three bytes one after the other, and `lacks_word` tells that a byte is not among eight;
+// `copy_word` copies eight. `stands_short` and `stands_long` compare with a text that is given by its numbers. What works
+// on one word asks that eight bytes are there, and no more. A half is four bytes.
 ghost use mathlib.Core.Path.{_≡_};
 ghost use mathlib.Core.Bool.{true, false};
+ghost use mathlib.Core.List.{[], _∷_};
 ghost use Prim.Native.Nat.{_+_, _≤_, _<_};
 ghost use lib.ListN.{length};
 ghost use lib.Seq.{sets};
@@ -14,7 +15,7 @@ ghost use Rattle.texts.specs.Text.{piece};
 ghost use Rattle.texts.specs.Scan.{scan, until, is};
 ghost use Rattle.words.specs.Word.{IsWord};
 ghost use Rattle.words.specs.Marks.{Marked};
-ghost use Rattle.words.specs.Standing.{StandsShort, StandsLong};
+ghost use Rattle.words.specs.Standing.{StandsShort, StandsLong, Lacks};
 
 // A 1, the seven low bits, and the high bit, in each of the eight bytes.
 const ONES: u64 = 0x0101_0101_0101_0101;
@@ -175,6 +176,45 @@ pub fn byte_from(s: &[u8], at: usize, x: u8) -> usize
         i += 8;
     }
     byte_each(s, i, x)
+}
+
+// Where the first `x` with `y` behind it stands from `at` on, or a place near the end: before it none stands, which is all
+// that is promised.
+pub fn pair_from(s: &[u8], at: usize, x: u8, y: u8) -> usize
+    ensures { λ r. ⌜ Lacks (x ∷ y ∷ []) (now (s .entry)) at r ⌝ }
+{
+    if s.len() < 9 {
+        return at;
+    }
+    let last = s.len() - 9;
+    let mut i = at;
+    while i <= last {
+        let m = marks(s, i, x) & marks(s, i + 1, y);
+        if m != 0 {
+            return i + (u64::trailing_zeros(m) / 8) as usize;
+        }
+        i += 8;
+    }
+    i
+}
+
+// The same of three bytes: `x`, `y` and `z`.
+pub fn three_from(s: &[u8], at: usize, x: u8, y: u8, z: u8) -> usize
+    ensures { λ r. ⌜ Lacks (x ∷ y ∷ z ∷ []) (now (s .entry)) at r ⌝ }
+{
+    if s.len() < 10 {
+        return at;
+    }
+    let last = s.len() - 10;
+    let mut i = at;
+    while i <= last {
+        let m = marks(s, i, x) & marks(s, i + 1, y) & marks(s, i + 2, z);
+        if m != 0 {
+            return i + (u64::trailing_zeros(m) / 8) as usize;
+        }
+        i += 8;
+    }
+    i
 }
 
 // Whether a text of at most eight bytes stands at `i`: `modulus` is 256 to its length, and `front` its number.
