@@ -38,11 +38,11 @@ unfolding wordOf
 add-lanes f g [] = refl
 add-lanes f g (b ∷ s) = omega (arith, add-lanes f g s)
 
--- functions that agree on bytes
-eq-lanes : (f g : ℕ → ℕ) → ((b : ℕ) → b < 256 → f b ≡ g b) → (s : List ℕ) → Every (λ b. b < 256) s → lanes f s ≡ lanes g s
+-- functions that agree on bytes below n
+eq-lanes : (n : ℕ) (f g : ℕ → ℕ) → ((b : ℕ) → b < n → f b ≡ g b) → (s : List ℕ) → Every (λ b. b < n) s → lanes f s ≡ lanes g s
 unfolding wordOf Every
-eq-lanes f g e [] h = refl
-eq-lanes f g e (b ∷ s) h = ap₂ (λ (m n : ℕ). m * 256 + n) (eq-lanes f g e s (h .1)) (e b (h .0))
+eq-lanes n f g e [] h = refl
+eq-lanes n f g e (b ∷ s) h = ap₂ (λ (m k : ℕ). m * 256 + k) (eq-lanes n f g e s (h .1)) (e b (h .0))
 
 -- an operation that goes digit by digit
 module _ (op : ℕ → ℕ → ℕ) (nought : op 0 0 ≡ 0)
@@ -57,6 +57,9 @@ module _ (op : ℕ → ℕ → ℕ) (nought : op 0 0 ≡ 0)
 
 -- ---- one byte
 
+high-set : (v : ℕ) → v < 256 → 128 ≤ v → bitAnd v 128 ≡ 128
+high-set v h p = and-high v 1 7 ∙ omega arith
+
 -- the high bit is set where the byte v is not 0: a bit below it carries into it, or it is set in v
 abbrev filled : ℕ → ℕ
 filled v = bitOr (bitAnd v 127 + 127) v
@@ -70,8 +73,7 @@ filled-lt v h = or-lt 8 (bitAnd v 127 + 127) v (low-lt v) h
 filled-some : (v : ℕ) → v < 256 → 0 < v → bitAnd (filled v) 128 ≡ 128
 filled-some v h p =
     let a = bitAnd v 127 + 127 in
-    let up : 128 ≤ filled v = omega (arith, and-mask v 7, or-add-and a v, and-le-l a v, and-le-r a v) in
-    and-high (filled v) 1 7 ∙ omega (arith, filled-lt v h)
+    high-set (filled v) (filled-lt v h) (omega (arith, and-mask v 7, or-add-and a v, and-le-l a v, and-le-r a v))
 
 differ-some : (b x : ℕ) → (b ≡ x → ⊥) → 0 < bitXor b x
 differ-some b x n =
@@ -85,6 +87,26 @@ byte-mark x b hx h =
     (λ t. let e : bitXor b x ≡ 0 = ap (λ (n : ℕ). bitXor n x) (eqb-true b x t) ∙ xor-self x in
     ap₂ (λ (v m : ℕ). bitAnd (filled v) 128 + m) e (pick-yes (eqb b x) 128 0 t))
     (λ f. ap₂ (λ (v m : ℕ). v + m) (filled-some (bitXor b x) (xor-lt 8 b x h hx) (differ-some b x (eqb-false b x f))) (pick-no (eqb b x) 128 0 f))
+
+-- a byte without its high bit is below 128
+low-byte : (b : ℕ) → b < 256 → bitAnd b 128 ≡ 0 → b < 128
+low-byte b h e =
+    by-test (ltb b 128)
+    (λ t. ltb-true b 128 t)
+    (λ f. absurd (omega (arith, high-set b h (ltb-false b 128 f))))
+
+low-bytes : (s : List ℕ) → Every (λ b. b < 256) s → lanes (λ b. bitAnd b 128) s ≡ 0 → Every (λ b. b < 128) s
+unfolding wordOf Every
+low-bytes [] h e = tt
+low-bytes (b ∷ s) h e = (low-byte b (h .0) (omega arith), low-bytes s (h .1) (omega arith))
+
+-- and below 128 the difference from 128 has the high bit where there is no other to take away
+low-mark : (x b : ℕ) → x < 128 → b < 128 → bitAnd (128 - bitXor b x) 128 ≡ mark x b
+low-mark x b hx h =
+    by-test (eqb b x)
+    (λ t. let e : bitXor b x ≡ 0 = ap (λ (n : ℕ). bitXor n x) (eqb-true b x t) ∙ xor-self x in
+    ap (λ (v : ℕ). bitAnd (128 - v) 128) e ∙ sym (pick-yes (eqb b x) 128 0 t))
+    (λ f. and-high (128 - bitXor b x) 1 7 ∙ omega (arith, differ-some b x (eqb-false b x f)) ∙ sym (pick-no (eqb b x) 128 0 f))
 
 -- ---- eight bytes
 
@@ -112,9 +134,31 @@ module _ {s : List ℕ} {w : ℕ} (q : IsWord s w) (x : ℕ) (hx : x < 256) wher
   marks-are =
       let all : lanes (λ b. bitAnd (filled (bitXor b x)) 128) s + lanes (mark x) s ≡ 128 * ones 8 =
       add-lanes (λ b. bitAnd (filled (bitXor b x)) 128) (mark x) s
-      ∙ eq-lanes (λ b. bitAnd (filled (bitXor b x)) 128 + mark x b) (λ b. 128) (λ b h. byte-mark x b hx h) s (q .bytes)
+      ∙ eq-lanes 256 (λ b. bitAnd (filled (bitXor b x)) 128 + mark x b) (λ b. 128) (λ b h. byte-mark x b hx h) s (q .bytes)
       ∙ sym (same 128) in
       omega (arith, full-lanes, all)
+
+  -- where all are below 128
+  module _ (hl : x < 128) (e : bitAnd w (128 * ones 8) ≡ 0) where
+    lows : Every (λ b. b < 128) s
+    lows =
+        low-bytes s (q .bytes)
+        (sym (ap₂ bitAnd (q .is ∙ ap wordOf (sym (map-id s))) (same 128)
+        ∙ op-lanes bitAnd refl and-block (λ b. b) (λ b. 128) (λ b h. h) (λ b h. omega arith) s (q .bytes)) ∙ e)
+
+    rest-lanes : bitXor w (x * ones 8) + lanes (λ b. 128 - bitXor b x) s ≡ 128 * ones 8
+    rest-lanes =
+        ap (λ (n : ℕ). n + lanes (λ b. 128 - bitXor b x) s) differ-lanes
+        ∙ add-lanes (λ b. bitXor b x) (λ b. 128 - bitXor b x) s
+        ∙ eq-lanes 128 (λ b. bitXor b x + (128 - bitXor b x)) (λ b. 128) (λ b h. omega (arith, xor-lt 7 b x h hl)) s lows
+        ∙ sym (same 128)
+
+    low-marks-are : bitAnd (128 * ones 8 - bitXor w (x * ones 8)) (128 * ones 8) ≡ lanes (mark x) s
+    low-marks-are =
+        let rest : 128 * ones 8 - bitXor w (x * ones 8) ≡ lanes (λ b. 128 - bitXor b x) s = omega (arith, rest-lanes) in
+        ap₂ bitAnd rest (same 128)
+        ∙ op-lanes bitAnd refl and-block (λ b. 128 - bitXor b x) (λ b. 128) (λ b h. omega arith) (λ b h. omega arith) s (q .bytes)
+        ∙ eq-lanes 128 (λ b. bitAnd (128 - bitXor b x) 128) (mark x) (λ b h. low-mark x b hl h) s lows
 
 -- ---- what `marks` computes
 
@@ -127,3 +171,11 @@ marks-less v = and-le-r v (128 * ones 8)
 pub marks-made : (s : List ℕ) (i : ℕ) {w x y : ℕ} → IsWord (piece s i 8) w → (y ≡ x) × (x < 256)
     → Marked x s i (128 * ones 8 - bitAnd (bitOr (bitAnd (bitXor w (y * ones 8)) (127 * ones 8) + 127 * ones 8) (bitXor w (y * ones 8))) (128 * ones 8))
 marks-made s i {w} {x} q p = rw (p .0) (record { is = marks-are q x (p .1) })
+
+pub low-less : {s : List ℕ} {w x y : ℕ} → IsWord s w → (y ≡ x) × (x < 256) → x < 128 → bitAnd w (128 * ones 8) ≡ 0
+    → bitXor w (y * ones 8) ≤ 128 * ones 8
+low-less {s} {w} {x} q p l e = rw (p .0) (omega (arith, rest-lanes q x (p .1) l e))
+
+pub low-made : (s : List ℕ) (i : ℕ) {w x y : ℕ} → IsWord (piece s i 8) w → (y ≡ x) × (x < 256) → x < 128 → bitAnd w (128 * ones 8) ≡ 0
+    → Marked x s i (bitAnd (128 * ones 8 - bitXor w (y * ones 8)) (128 * ones 8))
+low-made s i {w} {x} q p l e = rw (p .0) (record { is = low-marks-are q x (p .1) l e })

@@ -45,12 +45,19 @@ pub fn word_at(s: &[u8], i: usize) -> u64
         + wide(s[i + 7]) * 72057594037927936
 }
 
-// The high bit of each of the 8 bytes from `i` on that is `x`, and no other bit. No byte carries into the next.
+// The high bit of each of the 8 bytes from `i` on that is `x`, and no other bit. No byte carries into the next. Where
+// `x` and the bytes are below 128 none borrows from the next either, and a difference tells as much in fewer steps.
 fn marks(s: &[u8], i: usize, x: u8) -> u64
     requires { ⌜ i + 8 ≤ length (now s) ⌝ }
     ensures { λ r. ⌜ Marked x (now (s .entry)) i r ⌝ }
 {
-    let differs = word_at(s, i) ^ (wide(x) * ONES);
+    let w = word_at(s, i);
+    let differs = w ^ (wide(x) * ONES);
+    if x < 128 {
+        if w & HIGH == 0 {
+            return (HIGH - differs) & HIGH;
+        }
+    }
     let full = ((differs & LOW) + LOW) | differs;
     HIGH - (full & HIGH)
 }
