@@ -19,5 +19,6 @@ pub mod Telling
 pub mod Coding
 pub mod Declaring
 pub mod Begun
+pub mod Idling
 pub mod Laws
 pub mod Trials

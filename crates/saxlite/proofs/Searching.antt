@@ -54,16 +54,16 @@ scan-moves b doc at h f =
 
 -- ---- a search
 
-find-here : (n s : List ℕ) (k : ℕ) → startsWith n s ≡ true → findIn n s k ≡ At k
+pub find-here : (n s : List ℕ) (k : ℕ) → startsWith n s ≡ true → findIn n s k ≡ At k
 unfolding findIn
 find-here n [] k t = rw (t, findIn)
 find-here n (x ∷ xs) k t = rw (t, findIn)
 
-find-next : (n : List ℕ) (x : ℕ) (xs : List ℕ) (k : ℕ) → startsWith n (x ∷ xs) ≡ false → findIn n (x ∷ xs) k ≡ findIn n xs (k + 1)
+pub find-next : (n : List ℕ) (x : ℕ) (xs : List ℕ) (k : ℕ) → startsWith n (x ∷ xs) ≡ false → findIn n (x ∷ xs) k ≡ findIn n xs (k + 1)
 unfolding findIn
 find-next n x xs k t = rw (t, findIn)
 
-find-none : (n : List ℕ) (k : ℕ) → startsWith n [] ≡ false → findIn n [] k ≡ Nowhere
+pub find-none : (n : List ℕ) (k : ℕ) → startsWith n [] ≡ false → findIn n [] k ≡ Nowhere
 unfolding findIn
 find-none n k t = rw (t, findIn)
 

@@ -10,3 +10,4 @@ pub mod Reader
 pub mod Noting
 pub mod Known
 pub mod Beginning
+pub mod Passing

@@ -5,14 +5,17 @@
 // before it is told of: `step::step_noting` tells with it the values that its element looks up.
 // `entities::decode` writes a text or a value, its entities decoded, into a lent slice.
 // `reader::Reader` holds the document and yields one event at a time. `known` and `beginning` tell the names that nearly
-// every tag of a schema has by a word or two; the general way answers for all others.
+// every tag of a schema has by a word or two; the general way answers for all others. `passing` goes past what changes
+// nothing, as comments and text that nobody collects, in one loop.
 //
 // Nothing is required of a caller. Each promise is one equation with a definition of specs/, on all
 // inputs: specs/Step.antt, specs/Reader.antt, specs/Attributes.antt and specs/Entities.antt, after 01,
-// "Reading markup". What a step means is specs/Event.antt.
+// "Reading markup". What a step means is specs/Event.antt. `passing` promises that it passed such steps alone
+// (specs/Passing.antt).
 pub mod beginning;
 pub mod entities;
 pub mod known;
+pub mod passing;
 pub mod reader;
 pub mod scan;
 pub mod step;

@@ -1,0 +1,31 @@
+-- What is passed because it changes nothing. Internal.
+use mathlib.Core.Path.{_≡_}
+use mathlib.Core.Bool.{Bool, true, false}
+use mathlib.Core.List.{List}
+use Prim.Native.Nat.{ℕ, _+_, _≤_, _<_}
+use lib.ListN.{length}
+use Rattle.saxlite.specs.declared.scan.Occurrence.the-variants.{At}
+use Rattle.saxlite.specs.declared.step.Step.the-variants.{Text, Close, Skipped}
+use Rattle.saxlite.specs.Find.{findFrom}
+use Rattle.saxlite.specs.Step.{stepAt}
+
+-- the step of the reader at i leads to j and changes nothing: it is text and none is collected, or skipped, or a close of no name
+-- outside of every element
+pub data Idles (doc : List ℕ) (collecting outside : Bool) (i j : ℕ) : Type 0 where
+  text : {from len : ℕ} → collecting ≡ false → stepAt doc i ≡ Text from len j → Idles doc collecting outside i j
+  skipped : stepAt doc i ≡ Skipped j → Idles doc collecting outside i j
+  nameless : {name : ℕ} → outside ≡ true → stepAt doc i ≡ Close name 0 j → Idles doc collecting outside i j
+
+-- any number of such steps leads from one place to another. None is as good as many: what was not passed is read
+pub data Idle (doc : List ℕ) (collecting outside : Bool) : ℕ → ℕ → Type 0 where
+  stay : {i : ℕ} → Idle doc collecting outside i i
+  on : {i j k : ℕ} → Idles doc collecting outside i j → Idle doc collecting outside j k → Idle doc collecting outside i k
+
+-- r is the first place from one on where the needle stands, unless r lies past the document
+pub record FoundAt (needle doc : List ℕ) (from r : ℕ) : Type 0 where
+  pub is : r < length doc → findFrom needle doc from ≡ At r
+
+-- r is n bytes past the end of what stands at a place, or the place, where that does not end within the document
+pub record PastEnd (doc : List ℕ) (at end n r : ℕ) : Type 0 where
+  pub past : end < length doc → r ≡ end + n
+  pub stays : length doc ≤ end → r ≡ at

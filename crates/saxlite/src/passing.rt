@@ -1,0 +1,232 @@
+// Past what changes nothing, in one loop: text that nobody collects, comments, instructions, declarations, and closes of no
+// name outside of every element. Each is a step of the reader (specs/Passing.antt), and here a turn of its driver less. This
+// is for speed alone: what is not passed is read.
+use crate::scan::Occurrence;
+use crate::scan::byte_from;
+use crate::scan::find;
+use words::pair_from;
+use words::stands_short;
+use words::three_from;
+ghost use mathlib.Core.Bool.{true, false};
+ghost use Prim.Native.Nat.{_+_, _≤_, _<_};
+ghost use lib.ListN.{length};
+ghost use Rattle.texts.specs.Text.{ascii};
+ghost use Rattle.words.specs.Standing.{ShortText};
+ghost use Rattle.saxlite.specs.Passing.{Idle, FoundAt, PastEnd};
+
+// Where `needle` first stands from `from` on, or the document's length.
+fn found(doc: &[u8], from: usize, needle: &[u8]) -> usize
+    ensures { λ r. ⌜ FoundAt (now (needle .entry)) (now (doc .entry)) from r ⌝ }
+{
+    let place = find(doc, from, needle);
+    match place {
+        Occurrence::At(i) => i,
+        Occurrence::Nowhere => doc.len(),
+    }
+}
+
+// The same of a needle that most likely stands at `from`, and that has these numbers.
+fn found_by(doc: &[u8], from: usize, needle: &[u8], modulus: u64, front: u64) -> usize
+    requires { ⌜ (8 ≤ length (now doc)) × ShortText (now needle) modulus front ⌝ }
+    ensures { λ r. ⌜ FoundAt (now (needle .entry)) (now (doc .entry)) from r ⌝ }
+{
+    if from <= doc.len() - 8 {
+        if stands_short(doc, from, modulus, front) {
+            return from;
+        }
+    }
+    found(doc, from, needle)
+}
+
+// Where the comment that is open at `from` ends, by words.
+fn comment_far(doc: &[u8], from: usize) -> usize
+    requires { ⌜ 8 ≤ length (now doc) ⌝ }
+    ensures { λ r. ⌜ FoundAt (ascii "-->") (now (doc .entry)) from r ⌝ }
+{
+    let near = three_from(doc, from, b'-', b'-', b'>');
+    found_by(doc, near, b"-->", 0x100_0000, 0x3e_2d2d)
+}
+
+// The same: the first four places, which a word costs more than a test for each, and then by words.
+fn comment_end(doc: &[u8], from: usize) -> usize
+    requires { ⌜ from ≤ length (now doc) ⌝ }
+    ensures { λ r. ⌜ FoundAt (ascii "-->") (now (doc .entry)) from r ⌝ }
+{
+    if doc.len() - from < 12 {
+        return found(doc, from, b"-->");
+    }
+    let stop = from + 4;
+    let mut i = from;
+    while i < stop {
+        if stands_short(doc, i, 0x100_0000, 0x3e_2d2d) {
+            return i;
+        }
+        i += 1;
+    }
+    comment_far(doc, i)
+}
+
+// The same two of an instruction.
+fn instruction_far(doc: &[u8], from: usize) -> usize
+    requires { ⌜ 8 ≤ length (now doc) ⌝ }
+    ensures { λ r. ⌜ FoundAt (ascii "?>") (now (doc .entry)) from r ⌝ }
+{
+    let near = pair_from(doc, from, b'?', b'>');
+    found_by(doc, near, b"?>", 0x1_0000, 0x3e3f)
+}
+
+fn instruction_end(doc: &[u8], from: usize) -> usize
+    requires { ⌜ from ≤ length (now doc) ⌝ }
+    ensures { λ r. ⌜ FoundAt (ascii "?>") (now (doc .entry)) from r ⌝ }
+{
+    if doc.len() - from < 12 {
+        return found(doc, from, b"?>");
+    }
+    let stop = from + 4;
+    let mut i = from;
+    while i < stop {
+        if stands_short(doc, i, 0x1_0000, 0x3e3f) {
+            return i;
+        }
+        i += 1;
+    }
+    instruction_far(doc, i)
+}
+
+// Where the declaration that is open at `from` ends.
+fn declaration_end(doc: &[u8], from: usize) -> usize
+    requires { ⌜ from < length (now doc) ⌝ }
+    ensures { λ r. ⌜ FoundAt (ascii ">") (now (doc .entry)) from r ⌝ }
+{
+    if doc[from] == b'>' {
+        return from;
+    }
+    byte_from(doc, from, b'>')
+}
+
+// Past the `n` bytes at `end`, or at `at`, where nothing ends.
+fn past_end(doc: &[u8], at: usize, end: usize, n: usize) -> usize
+    requires { ⌜ n ≤ 8 ⌝ }
+    ensures { λ r. ⌜ PastEnd (now (doc .entry)) at end n r ⌝ }
+{
+    if end < doc.len() { end + n } else { at }
+}
+
+// Past the markup at `at`, where it changes nothing. An empty comment is told by one comparison.
+fn past_markup(doc: &[u8], at: usize, outside: bool) -> usize
+    requires { ⌜ at + 8 ≤ length (now doc) ⌝ }
+    ensures { λ r. ⌜ Idle (now (doc .entry)) true outside at r ⌝ }
+{
+    if stands_short(doc, at, 0x1_0000_0000, 0x2d2d_213c) {
+        if stands_short(doc, at, 0x100_0000_0000_0000, 0x3e_2d2d_2d2d_213c) {
+            return at + 7;
+        }
+        let from = at + 4;
+        let end = comment_end(doc, from);
+        return past_end(doc, at, end, 3);
+    }
+    if stands_short(doc, at, 0x1_0000, 0x213c) {
+        let from = at + 2;
+        let end = declaration_end(doc, from);
+        return past_end(doc, at, end, 1);
+    }
+    if stands_short(doc, at, 0x1_0000, 0x3f3c) {
+        let from = at + 2;
+        let end = instruction_end(doc, from);
+        return past_end(doc, at, end, 2);
+    }
+    if outside {
+        if stands_short(doc, at, 0x100_0000, 0x3e_2f3c) {
+            return at + 3;
+        }
+    }
+    at
+}
+
+// Past the text at `at`, where none is collected.
+fn past_text(doc: &[u8], at: usize, collecting: bool) -> usize
+    ensures { λ r. ⌜ Idle (now (doc .entry)) collecting false at r ⌝ }
+{
+    if collecting {
+        return at;
+    }
+    byte_from(doc, at, b'<')
+}
+
+// Past what stands at `at`. A tag that opens is told by its first letter, which is none of those that begin other markup.
+fn past_one(doc: &[u8], at: usize, collecting: bool, outside: bool) -> usize
+    requires { ⌜ at + 8 ≤ length (now doc) ⌝ }
+    ensures { λ r. ⌜ Idle (now (doc .entry)) collecting outside at r ⌝ }
+{
+    if doc[at] == b'<' {
+        if b'@' <= doc[at + 1] {
+            return at;
+        }
+        return past_markup(doc, at, outside);
+    }
+    past_text(doc, at, collecting)
+}
+
+// From `at` on past all that changes nothing, but for what begins in the last seven bytes.
+pub fn past_idle(doc: &[u8], at: usize, collecting: bool, outside: bool) -> usize
+    ensures { λ r. ⌜ Idle (now (doc .entry)) collecting outside at r ⌝ }
+{
+    if doc.len() < 8 {
+        return past_text(doc, at, collecting);
+    }
+    let last = doc.len() - 8;
+    let mut i = at;
+    while i <= last {
+        let next = past_one(doc, i, collecting, outside);
+        if next == i {
+            return i;
+        }
+        i = next;
+    }
+    past_text(doc, i, collecting)
+}
+
+// The text at `at` and its end, where none is collected: most often it is empty.
+fn text_end(doc: &[u8], at: usize, collecting: bool) -> usize
+    requires { ⌜ at < length (now doc) ⌝ }
+    ensures { λ r. ⌜ Idle (now (doc .entry)) collecting false at r × (r ≤ length (now (doc .entry))) ⌝ }
+{
+    if collecting {
+        return at;
+    }
+    if doc[at] == b'<' {
+        return at;
+    }
+    byte_from(doc, at, b'<')
+}
+
+// Whether the '<' at `at` may begin what is passed.
+fn may_pass(doc: &[u8], at: usize, outside: bool) -> bool
+    requires { ⌜ at + 8 ≤ length (now doc) ⌝ }
+{
+    let b = doc[at + 1];
+    if b'@' <= b {
+        return false;
+    }
+    if b == b'/' {
+        return outside;
+    }
+    true
+}
+
+// The same as `past_idle`, for where most often a tag comes next: the loop is entered only where it passes something.
+pub fn past_between(doc: &[u8], at: usize, collecting: bool, outside: bool) -> usize
+    ensures { λ r. ⌜ Idle (now (doc .entry)) collecting outside at r ⌝ }
+{
+    if doc.len() <= at {
+        return at;
+    }
+    let i = text_end(doc, at, collecting);
+    if doc.len() - i < 8 {
+        return i;
+    }
+    if may_pass(doc, i, outside) {
+        return past_idle(doc, i, collecting, outside);
+    }
+    i
+}
