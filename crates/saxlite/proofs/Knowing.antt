@@ -136,18 +136,16 @@ unfolding quotedAt
 quoted-named doc i code value place n h e = pick-by (Named doc code) (ltb (scan (until (is 34)) doc value) (length doc)) (λ t. (h, e)) (λ f. tt)
 
 module _ (doc : List ℕ) (at place : ℕ) {i : ℕ} (e : i ≡ scan isSpace doc at) {k : Known} (known : KnownAt doc i k) (h : 0 < k .code) where
-  known-in : i + k .len + 2 ≤ length doc
-  known-in = rw (known .length h) (within doc at place e (knownName (k .code)) (known-plain (k .code) h (known .numbered)) (known .stands h))
+  known-in : i + length (knownName (k .code)) + 2 ≤ length doc
+  known-in = within doc at place e (knownName (k .code)) (known-plain (k .code) h (known .numbered)) (known .stands h)
 
-  quick-known : {r : TagPart} → r ≡ quotedAt 34 doc i (k .len) (i + k .len + 2) place → QuickAt doc at place (record { code = k .code; part = r })
+  quick-known : {r : TagPart} → r ≡ quotedAt 34 doc i (length (knownName (k .code))) (i + length (knownName (k .code)) + 2) place → QuickAt doc at place (record { code = k .code; part = r })
   quick-known {r} p =
       let n = knownName (k .code) in
       let t = known-plain (k .code) h (known .numbered) in
-      let l = known .length h in
-      let q : piece doc i (k .len) ≡ n = rw l (plain-name doc at place e n t (known .stands h)) in
       record {
-        is = plain-part doc at place e n t (known .stands h) (rw (← l) p);
-        named = λ z. rw p (quoted-named doc i (k .code) (i + k .len + 2) place (k .len) (known .numbered) q);
+        is = plain-part doc at place e n t (known .stands h) p;
+        named = λ z. rw p (quoted-named doc i (k .code) (i + length n + 2) place (length n) (known .numbered) (plain-name doc at place e n t (known .stands h)));
       }
 
 -- any other part
@@ -173,11 +171,16 @@ module _ (doc : List ℕ) (at place : ℕ) {b : Bool} (e : b ≡ startsWith (asc
       let m : countWhile isSpace (drop (at + 1) doc) ≡ 0 = ap (countWhile isSpace) (starts-split (n ++ ascii "=\"") (drop (at + 1) doc) (known .stands h) ∙ append-assoc n (ascii "=\"") _) ∙ name-first n _ p in
       ap (λ c. at + c) (sym (ap (countWhile isSpace) s ∙ count-yes isSpace 32 (drop (at + 1) doc) refl ∙ ap suc m))
 
-  pub spaced-fits : length doc < 2 ^ 64 → Fits w64 (at + 1 + k .len)
-  spaced-fits l = omega (arith, known-in doc at place spaced known h)
+  pub spaced-fits : length doc < 2 ^ 64 → Fits w64 (at + k .skip)
+  spaced-fits l = omega (arith, known .ahead h, known-in doc at place spaced known h)
 
-  pub spaced-fits-too : length doc < 2 ^ 64 → Fits w64 (at + 1 + k .len + 2)
-  spaced-fits-too l = omega (arith, known-in doc at place spaced known h)
+  pub spaced-quick : {r : TagPart} → r ≡ quotedAt 34 doc (at + 1) (k .skip - 3) (at + k .skip) place → QuickAt doc at place (record { code = k .code; part = r })
+  spaced-quick p =
+      let n = length (knownName (k .code)) in
+      let l : k .skip - 3 ≡ n = omega (arith, known .ahead h) in
+      let v : at + k .skip ≡ at + 1 + n + 2 = omega (arith, known .ahead h) in
+      quick-known doc at place spaced known h (rw (l, v) at p)
 
-  pub spaced-quick : {r : TagPart} → r ≡ quotedAt 34 doc (at + 1) (k .len) (at + 1 + k .len + 2) place → QuickAt doc at place (record { code = k .code; part = r })
-  spaced-quick p = quick-known doc at place spaced known h p
+-- the name's length is what is left
+pub known-less : {doc : List ℕ} {i : ℕ} {k : Known} → KnownAt doc i k → 0 < k .code → 3 ≤ k .skip
+known-less known h = omega (arith, known .ahead h)

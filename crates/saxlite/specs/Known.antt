@@ -2,7 +2,7 @@
 use mathlib.Core.Path.{_≡_}
 use mathlib.Core.Bool.{Bool, true, false}
 use mathlib.Core.List.{List, [], _∷_, _++_}
-use Prim.Native.Nat.{ℕ, zero, suc, _<_}
+use Prim.Native.Nat.{ℕ, zero, suc, _+_, _<_}
 use lib.Dec.{T, eqb, leb}
 use lib.ListN.{length, drop}
 use Rattle.texts.specs.Choice.{pick, _and_}
@@ -30,21 +30,21 @@ knownName = nth ([] ∷ ascii "name" ∷ ascii "id" ∷ ascii "type" ∷ ascii "
 abbrev pub knownText : ℕ → List ℕ
 knownText code = knownName code ++ ascii "=\""
 
--- r is none, or what stands at `at`
+-- r is none, or what stands at `at`; to the value, behind name, '=' and '"', it counts from the byte before `at`
 pub record KnownAt (doc : List ℕ) (at : ℕ) (r : Known) : Type 0 where
   pub numbered : r .code < 18
   pub stands : 0 < r .code → startsWith (knownText (r .code)) (drop at doc) ≡ true
-  pub length : 0 < r .code → r .len ≡ length (knownName (r .code))
+  pub ahead : 0 < r .code → r .skip ≡ length (knownName (r .code)) + 3
 
 -- the numbers by which such a text is told by words
-pub record ToldShort (code len modulus front : ℕ) : Type 0 where
+pub record ToldShort (code skip modulus front : ℕ) : Type 0 where
   pub below : code < 18
-  pub long : len ≡ length (knownName code)
+  pub ahead : skip ≡ length (knownName code) + 3
   pub text : ShortText (knownText code) modulus front
 
-pub record ToldLong (code len front modulus back : ℕ) : Type 0 where
+pub record ToldLong (code skip front modulus back : ℕ) : Type 0 where
   pub below : code < 18
-  pub long : len ≡ length (knownName code)
+  pub ahead : skip ≡ length (knownName code) + 3
   pub text : LongText (knownText code) front modulus back
 
 -- ---- the names that matter in a tag, by a number and by their numbers

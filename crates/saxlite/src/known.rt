@@ -7,10 +7,11 @@ ghost use Prim.Native.Nat.{_+_, _≤_};
 ghost use lib.ListN.{length};
 ghost use Rattle.saxlite.specs.Known.{KnownAt, keysBy, CodesOf, ToldShort, ToldLong};
 
-// A known attribute: the number of its name (specs/Known.antt), 0 where none stands there, and the name's length.
+// A known attribute: the number of its name (specs/Known.antt), 0 where none stands there, and how far the value's first
+// byte is from the space before the name: the name's length and 3, so that one addition finds the value.
 pub struct Known {
     pub code: usize,
-    pub len: usize,
+    pub skip: usize,
 }
 
 // The numbers of the four names that matter in a tag; 0 where a name is not known.
@@ -54,18 +55,18 @@ pub fn codes_of(keys: usize) -> Codes
 }
 
 fn none() -> Known
-    ensures { λ r. ⌜ r ≡ record { code = 0; len = 0 } ⌝ }
+    ensures { λ r. ⌜ r ≡ record { code = 0; skip = 0 } ⌝ }
 {
-    Known { code: 0, len: 0 }
+    Known { code: 0, skip: 0 }
 }
 
 // The name of a number, where it stands at `at` with '=' and '"' behind it: a text of less than eight bytes.
-fn known_short(doc: &[u8], at: usize, code: usize, len: usize, modulus: u64, front: u64) -> Known
-    requires { ⌜ (at + 8 ≤ length (now doc)) × ToldShort code len modulus front ⌝ }
+fn known_short(doc: &[u8], at: usize, code: usize, skip: usize, modulus: u64, front: u64) -> Known
+    requires { ⌜ (at + 8 ≤ length (now doc)) × ToldShort code skip modulus front ⌝ }
     ensures { λ r. ⌜ KnownAt (now (doc .entry)) at r ⌝ }
 {
     if stands_short(doc, at, modulus, front) {
-        return Known { code, len };
+        return Known { code, skip };
     }
     none()
 }
@@ -75,16 +76,16 @@ fn known_long(
     doc: &[u8],
     at: usize,
     code: usize,
-    len: usize,
+    skip: usize,
     front: u64,
     modulus: u64,
     back: u64,
 ) -> Known
-    requires { ⌜ (at + 16 ≤ length (now doc)) × ToldLong code len front modulus back ⌝ }
+    requires { ⌜ (at + 16 ≤ length (now doc)) × ToldLong code skip front modulus back ⌝ }
     ensures { λ r. ⌜ KnownAt (now (doc .entry)) at r ⌝ }
 {
     if stands_long(doc, at, front, modulus, back) {
-        return Known { code, len };
+        return Known { code, skip };
     }
     none()
 }
@@ -94,7 +95,7 @@ fn known_encoding(doc: &[u8], at: usize) -> Known
     ensures { λ r. ⌜ KnownAt (now (doc .entry)) at r ⌝ }
 {
     if texts::starts_with(doc, at, b"characterEncoding=\"") {
-        return Known { code: 7, len: 17 };
+        return Known { code: 7, skip: 20 };
     }
     none()
 }
@@ -103,7 +104,7 @@ fn known_version(doc: &[u8], at: usize) -> Known
     ensures { λ r. ⌜ KnownAt (now (doc .entry)) at r ⌝ }
 {
     if texts::starts_with(doc, at, b"semanticVersion=\"") {
-        return Known { code: 17, len: 15 };
+        return Known { code: 17, skip: 18 };
     }
     none()
 }
@@ -117,7 +118,7 @@ fn known_p(doc: &[u8], at: usize) -> Known
         doc,
         at,
         5,
-        13,
+        16,
         0x7669_7469_6d69_7270,
         0x100_0000_0000_0000,
         0x22_3d65_7079_5465,
@@ -125,11 +126,11 @@ fn known_p(doc: &[u8], at: usize) -> Known
     if 0 < first.code {
         return first;
     }
-    let second = known_long(doc, at, 14, 8, 0x6563_6e65_7365_7270, 0x1_0000, 0x223d);
+    let second = known_long(doc, at, 14, 11, 0x6563_6e65_7365_7270, 0x1_0000, 0x223d);
     if 0 < second.code {
         return second;
     }
-    known_long(doc, at, 9, 7, 0x3d65_6761_6b63_6170, 0x100, 0x22)
+    known_long(doc, at, 9, 10, 0x3d65_6761_6b63_6170, 0x100, 0x22)
 }
 
 // semanticType, sinceVersion, semanticVersion.
@@ -141,7 +142,7 @@ fn known_s(doc: &[u8], at: usize) -> Known
         doc,
         at,
         11,
-        12,
+        15,
         0x6369_746e_616d_6573,
         0x1_0000_0000_0000,
         0x223d_6570_7954,
@@ -153,7 +154,7 @@ fn known_s(doc: &[u8], at: usize) -> Known
         doc,
         at,
         15,
-        12,
+        15,
         0x7265_5665_636e_6973,
         0x1_0000_0000_0000,
         0x223d_6e6f_6973,
@@ -173,7 +174,7 @@ fn known_b(doc: &[u8], at: usize) -> Known
         doc,
         at,
         13,
-        11,
+        14,
         0x6e65_4c6b_636f_6c62,
         0x100_0000_0000,
         0x22_3d68_7467,
@@ -181,7 +182,15 @@ fn known_b(doc: &[u8], at: usize) -> Known
     if 0 < first.code {
         return first;
     }
-    known_long(doc, at, 16, 9, 0x6564_724f_6574_7962, 0x100_0000, 0x22_3d72)
+    known_long(
+        doc,
+        at,
+        16,
+        12,
+        0x6564_724f_6574_7962,
+        0x100_0000,
+        0x22_3d72,
+    )
 }
 
 // The known attribute that stands at `at`, by its first letter. The numbers are those of the bytes of name, '=' and '"'.
@@ -190,34 +199,34 @@ fn known_by(doc: &[u8], at: usize) -> Known
     ensures { λ r. ⌜ KnownAt (now (doc .entry)) at r ⌝ }
 {
     match doc[at] {
-        b'n' => known_short(doc, at, 1, 4, 0x1_0000_0000_0000, 0x223d_656d_616e),
-        b'i' => known_short(doc, at, 2, 2, 0x1_0000_0000, 0x223d_6469),
-        b't' => known_short(doc, at, 3, 4, 0x1_0000_0000_0000, 0x223d_6570_7974),
+        b'n' => known_short(doc, at, 1, 7, 0x1_0000_0000_0000, 0x223d_656d_616e),
+        b'i' => known_short(doc, at, 2, 5, 0x1_0000_0000, 0x223d_6469),
+        b't' => known_short(doc, at, 3, 7, 0x1_0000_0000_0000, 0x223d_6570_7974),
         b'd' => known_long(
             doc,
             at,
             10,
-            11,
+            14,
             0x7470_6972_6373_6564,
             0x100_0000_0000,
             0x22_3d6e_6f69,
         ),
         b'p' => known_p(doc, at),
         b's' => known_s(doc, at),
-        b'o' => known_long(doc, at, 12, 6, 0x223d_7465_7366_666f, 1, 0),
-        b'l' => known_long(doc, at, 4, 6, 0x223d_6874_676e_656c, 1, 0),
+        b'o' => known_long(doc, at, 12, 9, 0x223d_7465_7366_666f, 1, 0),
+        b'l' => known_long(doc, at, 4, 9, 0x223d_6874_676e_656c, 1, 0),
         b'e' => known_long(
             doc,
             at,
             6,
-            12,
+            15,
             0x676e_6964_6f63_6e65,
             0x1_0000_0000_0000,
             0x223d_6570_7954,
         ),
         b'b' => known_b(doc, at),
         b'c' => known_encoding(doc, at),
-        b'v' => known_long(doc, at, 8, 7, 0x3d6e_6f69_7372_6576, 0x100, 0x22),
+        b'v' => known_long(doc, at, 8, 10, 0x3d6e_6f69_7372_6576, 0x100, 0x22),
         _ => none(),
     }
 }

@@ -204,9 +204,10 @@ fn quick_part(doc: &[u8], at: usize, place: usize, t: &[u8; 256]) -> Quick
         let i = at + 1;
         let known = known_at(doc, i);
         let code = known.code;
-        let len = known.len;
+        let skip = known.skip;
         if 0 < code {
-            let value = i + len + 2;
+            let value = at + skip;
+            let len = skip - 3;
             let part = quoted_part(doc, i, len, value, b'"', place);
             return Quick { code, part };
         }

@@ -28,9 +28,9 @@ known-at-requires c κs = search laws
 add-value : tie.Need-add-value
 add-value c = search laws
 
--- src/tag.rt:207:25
-add-value-2 : tie.Need-add-value-2
-add-value-2 c = search laws
+-- src/tag.rt:208:23
+sub-len : tie.Need-sub-len
+sub-len c = search laws
 
 -- src/tag.rt:208:17
 quoted-part-requires : tie.Need-quoted-part-requires
@@ -57,7 +57,7 @@ quick-part-spec =
     add-i
     known-at-requires
     add-value
-    add-value-2
+    sub-len
     quoted-part-requires
     returns
     tag-part-in-requires
