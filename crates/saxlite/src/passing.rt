@@ -47,7 +47,7 @@ fn comment_far(doc: &[u8], from: usize) -> usize
     found_by(doc, near, b"-->", 0x100_0000, 0x3e_2d2d)
 }
 
-// The same: the first four places, which a word costs more than a test for each, and then by words.
+// The same: the first four places one by one, as comments are often short, and then by words.
 fn comment_end(doc: &[u8], from: usize) -> usize
     requires { ⌜ from ≤ length (now doc) ⌝ }
     ensures { λ r. ⌜ FoundAt (ascii "-->") (now (doc .entry)) from r ⌝ }
@@ -186,7 +186,7 @@ pub fn past_idle(doc: &[u8], at: usize, collecting: bool, outside: bool) -> usiz
     past_text(doc, i, collecting)
 }
 
-// The text at `at` and its end, where none is collected: most often it is empty.
+// The same as `past_text`, for a place where most often a tag stands.
 fn text_end(doc: &[u8], at: usize, collecting: bool) -> usize
     requires { ⌜ at < length (now doc) ⌝ }
     ensures { λ r. ⌜ Idle (now (doc .entry)) collecting false at r × (r ≤ length (now (doc .entry))) ⌝ }
@@ -200,7 +200,7 @@ fn text_end(doc: &[u8], at: usize, collecting: bool) -> usize
     byte_from(doc, at, b'<')
 }
 
-// Whether the '<' at `at` may begin what is passed.
+// Whether markup that may be passed begins at `at`.
 fn may_pass(doc: &[u8], at: usize, outside: bool) -> bool
     requires { ⌜ at + 8 ≤ length (now doc) ⌝ }
 {
@@ -211,10 +211,11 @@ fn may_pass(doc: &[u8], at: usize, outside: bool) -> bool
     if b == b'/' {
         return outside;
     }
-    true
+    doc[at] == b'<'
 }
 
-// The same as `past_idle`, for where most often a tag comes next: the loop is entered only where it passes something.
+// The same as `past_idle`, for between two tags: the loop is entered only where it is likely to pass something. `past_idle`
+// has two callers, so that the compiler keeps it out of the driver's loop.
 pub fn past_between(doc: &[u8], at: usize, collecting: bool, outside: bool) -> usize
     ensures { λ r. ⌜ Idle (now (doc .entry)) collecting outside at r ⌝ }
 {

@@ -13,7 +13,7 @@ use borrow.Author.Tests.{ltb-true, ltb-false}
 use mir.Val.{Fits}
 use mir.Syntax.{w64}
 use Rattle.texts.specs.Choice.{pick, _and_}
-use Rattle.texts.specs.Text.{piece, startsWith}
+use Rattle.texts.specs.Text.{startsWith}
 use Rattle.texts.proofs.Choosing.{by-test, pick-yes, pick-no}
 use Rattle.texts.proofs.Comparing.{starts-yes, starts-no, starts-append}
 use Rattle.words.specs.Word.{wordOf}
