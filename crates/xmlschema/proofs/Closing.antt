@@ -1,5 +1,5 @@
 -- Laws of closing an element, and of text.
-use mathlib.Core.Path.{_≡_, refl, sym, ap, _∙_}
+use mathlib.Core.Path.{_≡_, refl, sym, ap, subst, _∙_}
 use mathlib.Core.Bool.{Bool, true, false}
 use mathlib.Core.List.{List, [], _∷_, _++_}
 use mathlib.Core.Option.{Option, none, some}
@@ -19,10 +19,10 @@ use Rattle.refusals.specs.declared.Refusal.the-variants.{WrongClose}
 use Rattle.saxlite.specs.Entities.{decoded}
 use Rattle.xmlschema.specs.Schema.{Item, Schema, noItem, itemAt, under, last, positionsFrom, aValue}
 use Rattle.xmlschema.specs.Search.{lastUnder}
-use Rattle.xmlschema.specs.Builder.{Builder, Outcome, on, refused, withStack, withText, withSchema, withItems, withSecond, givenTo, valueOfEnum, closeValue, closeBy, closed, collect, top, rest, nowComposite, nowEnum, nowMessage, nowGroup}
+use Rattle.xmlschema.specs.Builder.{Builder, Currents, Outcome, on, refused, withStack, withText, withSchema, withItems, withSecond, givenTo, valueOfEnum, closeValue, closeBy, closed, collect, top, rest, nowComposite, nowEnum, nowMessage, nowGroup}
 use Rattle.xmlschema.specs.Store.{entryAt, wordsOf, itemOf, itemsOf, schemaOf, found}
 use Rattle.xmlschema.specs.Layout.{current, modelIn, builderOf, stackOf, recurrent, valued, givenAt, higher, Alike, Kept, Ready, After, usedBy}
-use Rattle.elements.specs.Elements.{elementOf}
+use Rattle.elements.specs.Elements.{elementOf, otherElementOf}
 use Rattle.elements.specs.Leaf.{leaf}
 use Rattle.elements.specs.declared.Element.{Element}
 use Rattle.elements.specs.declared.Element.the-variants as element
@@ -254,6 +254,20 @@ module _ (place name len : ℕ) (s : State) (doc rec text : List ℕ) {b : Bool}
       ∙ closed-yes place (piece doc name len) (builderOf s doc rec text) (sym eb ∙ t) in
       let c = after-as q f in
       record { is = c .is; kept = c .kept; used = λ x. omega (arith, c .used x, ap usedBy ep) }
+
+-- a close of no name, where none is open: nothing is popped
+close-none : (place : ℕ) (collected : List ℕ) (collecting : Bool) (c : Currents) (s : Schema)
+    → let b : Builder = record { stack = []; collected = collected; collecting = collecting; current = c; schema = s } in on b ≡ closed place [] b
+unfolding closed same elementOf otherElementOf
+close-none place collected collecting c s = refl
+
+pub close-nameless : (place name : ℕ) (s : State) (doc rec text : List ℕ) → s .place .depth ≡ 0 → on (builderOf s doc rec text) ≡ closed place (piece doc name 0) (builderOf s doc rec text)
+unfolding stackOf
+close-nameless place name s doc rec text e =
+    let b = builderOf s doc rec text in
+    let q : stackOf (s .place .depth) rec doc ≡ [] = ap (λ (d : ℕ). stackOf d rec doc) e in
+    subst (λ (x : List (List ℕ)). on (record { stack = x; collected = b .collected; collecting = b .collecting; current = b .current; schema = b .schema }) ≡ closed place [] (record { stack = x; collected = b .collected; collecting = b .collecting; current = b .current; schema = b .schema })) (sym q)
+    (close-none place (b .collected) (b .collecting) (b .current) (b .schema))
 
 -- ---- text
 

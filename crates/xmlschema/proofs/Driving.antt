@@ -6,11 +6,11 @@ use mathlib.Core.Logic.{_⊎_, inl, inr, ⊎-elim}
 use Prim.Native.Nat.{ℕ, zero, suc, _+_, _*_, _-_, _≤_, _<_}
 use native.Mathlib.Omega.{arith}
 use lib.Dec.{eqb, leb, ltb}
-use lib.ListN.{length, drop}
-use borrow.Author.Tests.{lt-ltb, le-ltb, lt-leb, leb-true, leb-false, le-leb, eq-eqb, ne-eqb, not-true, not-false}
+use lib.ListN.{length}
+use borrow.Author.Tests.{lt-ltb, le-ltb, lt-leb, leb-true, leb-false, le-leb, eq-eqb, ne-eqb, eqb-true, not-true, not-false}
 use Rattle.texts.specs.Choice.{pick}
-use Rattle.texts.specs.Text.{ascii, piece, same, startsWith}
-use Rattle.texts.specs.Scan.{scan, until, is, isAscii}
+use Rattle.texts.specs.Text.{piece, same}
+use Rattle.texts.specs.Scan.{scan, isAscii}
 use Rattle.texts.proofs.Choosing.{by-test, pick-yes, pick-no}
 use Rattle.refusals.specs.declared.Refusal.{Refusal}
 use Rattle.refusals.specs.declared.Refusal.the-variants.{TooLong, NoWorkSpace, NotAscii, OpenElements}
@@ -22,7 +22,7 @@ use Rattle.saxlite.specs.declared.reader.Cursor.{Cursor}
 use Rattle.saxlite.specs.declared.reader.Read.{Read}
 use Rattle.saxlite.specs.Step.{stepAt}
 use Rattle.saxlite.specs.Reader.{cursorAt, readStep, readAt, atEnd}
-use Rattle.saxlite.proofs.Stepping.{step-text as text-step}
+use Rattle.saxlite.specs.Passing.{Idles, text as idle-text, skipped as idle-skipped, nameless as idle-nameless, Idle, stay, on as idle-on}
 use Rattle.saxlite.proofs.Moving.{text-within, close-within, skipped-within, end-past, open-within, open-named, open-past}
 use Rattle.xmlschema.specs.Schema.{Schema}
 use Rattle.elements.specs.Elements.{elementOf}
@@ -41,7 +41,7 @@ use Rattle.xmlschema.specs.declared.state.State.{State}
 use Rattle.xmlschema.specs.declared.state.Verdict.{Verdict}
 use Rattle.xmlschema.specs.declared.state.Verdict.the-variants as verdict
 use Rattle.xmlschema.proofs.Stacking.{length-stack, pop-kept}
-use Rattle.xmlschema.proofs.Closing.{text-off, leaf-shut, close-right}
+use Rattle.xmlschema.proofs.Closing.{text-off, leaf-shut, close-right, close-nameless}
 
 -- ---- the cursor moves on
 
@@ -175,12 +175,11 @@ pub record Reading (l : Limits) (doc : List ℕ) (c : Cursor) (s : State) (rec t
   pub depth : l .depth ≤ 64
   pub same : run (left doc c + 1) l doc c (builderOf s doc rec text) ≡ reading l doc
 
-pub reading-start : (l : Limits) (doc rec text : List ℕ) {s : State} (m : Mark) {c : Cursor} → s ≡ first → cursorOf m ≡ c → c ≡ cursorAt 0 → length doc ≤ 32768 → 16384 ≤ length rec → 65536 ≤ length text → l .items ≤ 1024 → l .depth ≤ 64 → Reading l doc (cursorOf m) s rec text
+reading-start : (l : Limits) (doc rec text : List ℕ) → length doc ≤ 32768 → 16384 ≤ length rec → 65536 ≤ length text → l .items ≤ 1024 → l .depth ≤ 64 → Reading l doc (cursorAt 0) first rec text
 unfolding schemaOf itemsOf stackOf current
-reading-start l doc rec text m es em ec h k t i d =
+reading-start l doc rec text h k t i d =
     let z : 2 * (length doc - 0) + 0 + 1 ≡ 2 * length doc + 1 = omega arith in
-    rw (es, em ∙ ec)
-    (record {
+    record {
       kept = record { deep = omega arith; many = omega arith; begun = omega arith; apart = omega arith; top = omega arith; records = k; bytes = t; stable = λ u a. refl };
       used = omega arith;
       within = omega arith;
@@ -188,7 +187,7 @@ reading-start l doc rec text m es em ec h k t i d =
       items = i;
       depth = d;
       same = rw z;
-    })
+    }
 
 -- ---- marks: a cursor in whole words
 
@@ -270,35 +269,95 @@ module _ (l : Limits) (doc : List ℕ) (c : Cursor) (s : State) (rec text : List
     unfolding ending
     reading-done d = rw (length-stack (s .place .depth) rec doc, le-ltb 0 (s .place .depth) d) at ended
 
--- ---- text that nobody collects is passed with the event before it
+-- ---- what changes nothing is passed with the event before it
 
-pub pass-none : {doc : List ℕ} {collecting : Bool} {m : Mark} → Passes doc collecting m m
+pub pass-none : {doc : List ℕ} {collecting : Bool} {depth : ℕ} {m : Mark} → Passes doc collecting depth m m
 pass-none = record { is = inl refl }
 
-pub pass-text : (doc : List ℕ) {collecting : Bool} (m : Mark) → collecting ≡ false → (m .owed ≡ 1 → ⊥) → m .at < length doc → {b : Bool} → b ≡ startsWith (ascii "<") (drop (m .at) doc) → b ≡ false → {at : ℕ} → at ≡ scan (until (is 60)) doc (m .at) → {r : Mark} → r ≡ record { at = at; owed = 0; place = 0; name = 0; len = 0 } → Passes doc collecting m r
-unfolding atEnd readAt
-pass-text doc m c o h e f p q =
-    let w : eqb (m .owed) 1 ≡ false = ne-eqb (m .owed) 1 o in
-    rw q (record { is = inr (c, rw (w, lt-leb (length doc) (m .at) h), rw (w, ← text-step doc (m .at) h e f p)) })
+pub pass-idle : (doc : List ℕ) {collecting : Bool} {depth : ℕ} (m : Mark) → (m .owed ≡ 1 → ⊥) → {at : ℕ} → Idle doc collecting (eqb depth 0) (m .at) at → {r : Mark} → r ≡ record { at = at; owed = 0; place = 0; name = 0; len = 0 } → Passes doc collecting depth m r
+pass-idle doc m o p q = rw q (record { is = inr (o, p, refl) })
 
 -- from c to d nothing was read that matters
 record Passed (l : Limits) (doc : List ℕ) (c d : Cursor) (s : State) (rec text : List ℕ) : Type 0 where
   pub on : Reading l doc d s rec text
   pub least : left doc d ≤ left doc c
 
-module _ (l : Limits) (doc : List ℕ) (m : Mark) (s : State) (rec text : List ℕ) (inv : Reading l doc (cursorOf m) s rec text) {r : Mark} (q : Passes doc (s .current .flag) m r) where
+module _ (l : Limits) (doc : List ℕ) (s : State) (rec text : List ℕ) where
+  -- where no close is owed, what a cursor has beside its place does not matter
+  free-run : (k at place name len : ℕ) (b : Builder) → run k l doc (record { at = at; owed = false; place = place; name = name; len = len }) b ≡ run k l doc (cursorAt at) b
+  unfolding run readAt atEnd
+  free-run zero at place name len b = refl
+  free-run (suc k) at place name len b = refl
+
+  freed : (at place name len : ℕ) → Reading l doc (record { at = at; owed = false; place = place; name = name; len = len }) s rec text → Reading l doc (cursorAt at) s rec text
+  freed at place name len inv =
+      record {
+        kept = inv .kept;
+        used = inv .used;
+        within = inv .within;
+        small = inv .small;
+        items = inv .items;
+        depth = inv .depth;
+        same = sym (free-run (2 * (length doc - at) + 0 + 1) at place name len (builderOf s doc rec text)) ∙ inv .same;
+      }
+
+  -- an event that leaves the state as it is
+  still : (c : Cursor) (r : Read) → Reading l doc c s rec text → atEnd doc c ≡ false → readAt doc c ≡ r → on (builderOf s doc rec text) ≡ step l doc (r .place) (r .event) (builderOf s doc rec text) → Passed l doc c (r .cursor) s rec text
+  still c r inv f q e =
+      let d : r .cursor ≡ readAt doc c .cursor = sym (ap (λ (x : Read). x .cursor) q) in
+      let a : After (step l doc (readAt doc c .place) (readAt doc c .event) (builderOf s doc rec text)) s (takes (readAt doc c .event)) doc (record { state = s; verdict = verdict.Fine }) rec text =
+      rw q (record { is = e; kept = λ x. inv .kept; used = λ x. omega arith }) in
+      record {
+        on = reading-on l doc c s rec text inv (sym f) refl d a refl;
+        least = omega (arith, reading-less l doc c s rec text inv (sym f) refl d a refl);
+      }
+
+  module _ (i : ℕ) (inv : Reading l doc (cursorAt i) s rec text) where
+    going-at : i < length doc → atEnd doc (cursorAt i) ≡ false
+    unfolding atEnd
+    going-at h = lt-leb (length doc) i h
+
+    read-at : {m : Step} → stepAt doc i ≡ m → readAt doc (cursorAt i) ≡ readStep i m
+    unfolding readAt
+    read-at e = ap (readStep i) e
+
+    idled : {outside : Bool} → (outside ≡ true → s .place .depth ≡ 0) → {j : ℕ} → Idles doc (s .current .flag) outside i j → Passed l doc (cursorAt i) (cursorAt j) s rec text
+    idled d {j} (idle-text {from} {len} c e) =
+        let w = text-within doc i e in
+        let g = going-at (omega (arith, w .forward, w .inside)) in
+        let r = subst (λ (x : Read). Ready s (takes (x .event)) rec text) (read-at e) (reading-ready l doc (cursorAt i) s rec text inv (sym g) refl) in
+        still (cursorAt i) (readStep i (move.Text from len j)) inv g (read-at e) (text-off s doc rec text from len r c)
+    idled d {j} (idle-skipped e) =
+        let w = skipped-within doc i e in
+        still (cursorAt i) (readStep i (move.Skipped j)) inv (going-at (omega (arith, w .forward, w .inside))) (read-at e) refl
+    idled d {j} (idle-nameless {name} o e) =
+        let w = close-within doc i e in
+        still (cursorAt i) (readStep i (move.Close name 0 j)) inv (going-at (omega (arith, w .forward, w .inside))) (read-at e) (close-nameless i name s doc rec text (d o))
+
+  idle-passed : {outside : Bool} → (outside ≡ true → s .place .depth ≡ 0) → {i k : ℕ} → Idle doc (s .current .flag) outside i k → Reading l doc (cursorAt i) s rec text → Passed l doc (cursorAt i) (cursorAt k) s rec text
+  idle-passed d stay inv = record { on = inv; least = omega arith }
+  idle-passed d (idle-on {i} p t) inv =
+      let one = idled i inv d p in
+      let all = idle-passed d t (one .on) in
+      record { on = all .on; least = omega (arith, one .least, all .least) }
+
+module _ (l : Limits) (doc : List ℕ) (m : Mark) (s : State) (rec text : List ℕ) (inv : Reading l doc (cursorOf m) s rec text) {r : Mark} (q : Passes doc (s .current .flag) (s .place .depth) m r) where
+  by-idle : (m .owed ≡ 1 → ⊥) → Idle doc (s .current .flag) (eqb (s .place .depth) 0) (m .at) (r .at) → Passed l doc (cursorOf m) (cursorAt (r .at)) s rec text
+  by-idle o p =
+      let w : eqb (m .owed) 1 ≡ false = ne-eqb (m .owed) 1 o in
+      let n : Reading l doc (record { at = m .at; owed = false; place = m .place; name = m .name; len = m .len }) s rec text = subst (λ (b : Bool). Reading l doc (record { at = m .at; owed = b; place = m .place; name = m .name; len = m .len }) s rec text) w inv in
+      let all = idle-passed l doc s rec text (eqb-true (s .place .depth) 0) p (freed l doc s rec text (m .at) (m .place) (m .name) (m .len) n) in
+      record { on = all .on; least = omega (arith, all .least) }
+
   passed : Passed l doc (cursorOf m) (cursorOf r) s rec text
-  passed = ⊎-elim (λ e. subst (λ (x : Mark). Passed l doc (cursorOf m) (cursorOf x) s rec text) (sym e) (record { on = inv; least = omega arith })) by-text (q .is)
-    where
-      by-text : (s .current .flag ≡ false) × (atEnd doc (cursorOf m) ≡ false) × (readAt doc (cursorOf m) ≡ record { event = Text (m .at) (r .at - m .at); place = m .at; cursor = cursorOf r }) → Passed l doc (cursorOf m) (cursorOf r) s rec text
-      by-text t =
-          let e : cursorOf r ≡ readAt doc (cursorOf m) .cursor = sym (ap (λ (x : Read). x .cursor) (t .2)) in
-          let a : After (step l doc (readAt doc (cursorOf m) .place) (readAt doc (cursorOf m) .event) (builderOf s doc rec text)) s (takes (readAt doc (cursorOf m) .event)) doc (record { state = s; verdict = verdict.Fine }) rec text =
-          rw (t .2) (record { is = text-off s doc rec text (m .at) (r .at - m .at) (subst (λ (x : Read). Ready s (takes (x .event)) rec text) (t .2) (reading-ready l doc (cursorOf m) s rec text inv (sym (t .1)) refl)) (t .0); kept = λ x. inv .kept; used = λ x. omega arith }) in
-          record {
-            on = reading-on l doc (cursorOf m) s rec text inv (sym (t .1)) refl e a refl;
-            least = omega (arith, reading-less l doc (cursorOf m) s rec text inv (sym (t .1)) refl e a refl);
-          }
+  passed =
+      ⊎-elim (λ e. subst (λ (x : Mark). Passed l doc (cursorOf m) (cursorOf x) s rec text) (sym e) (record { on = inv; least = omega arith }))
+      (λ t. subst (λ (x : Mark). Passed l doc (cursorOf m) (cursorOf x) s rec text) (sym (t .2)) (by-idle (t .0) (t .1)))
+      (q .is)
+
+-- before the first event, no element is open and no text is collected
+pub reading-first : (l : Limits) (doc rec text : List ℕ) {s : State} → s ≡ first → {at : ℕ} → Idle doc false true 0 at → {m : Mark} → m ≡ record { at = at; owed = 0; place = 0; name = 0; len = 0 } → length doc ≤ 32768 → 16384 ≤ length rec → 65536 ≤ length text → l .items ≤ 1024 → l .depth ≤ 64 → Reading l doc (cursorOf m) s rec text
+reading-first l doc rec text es p em h k t i d = rw (es, em) (idle-passed l doc first rec text (λ o. refl) p (reading-start l doc rec text h k t i d) .on)
 
 -- ---- a close that only pops the name is passed with its open
 
@@ -336,7 +395,7 @@ module _ (l : Limits) (doc : List ℕ) (m : Mark) (s : State) (rec text : List �
       (λ t. subst (λ (x : Reached). Passed l doc (cursorOf m) (cursorOf (x .mark)) (x .state) rec text) (sym (t .3)) (by-close (t .0) (t .1) (t .2)))
       (q .is)
 
-module _ (l : Limits) (doc : List ℕ) (c : Cursor) (s : State) (rec text : List ℕ) (inv : Reading l doc c s rec text) {b : Bool} (eb : b ≡ atEnd doc c) (more : not b ≡ true) {n : Mark} {s′ : State} {w : Verdict} {rec′ text′ : List ℕ} (to : cursorOf n ≡ readAt doc c .cursor) (p : After (step l doc (readAt doc c .place) (readAt doc c .event) (builderOf s doc rec text)) s (takes (readAt doc c .event)) doc (record { state = s′; verdict = w }) rec′ text′) (v : w ≡ verdict.Fine) {k : Reached} (z : Shuts doc rec′ s′ n k) {r : Mark} (q : Passes doc (k .state .current .flag) (k .mark) r) where
+module _ (l : Limits) (doc : List ℕ) (c : Cursor) (s : State) (rec text : List ℕ) (inv : Reading l doc c s rec text) {b : Bool} (eb : b ≡ atEnd doc c) (more : not b ≡ true) {n : Mark} {s′ : State} {w : Verdict} {rec′ text′ : List ℕ} (to : cursorOf n ≡ readAt doc c .cursor) (p : After (step l doc (readAt doc c .place) (readAt doc c .event) (builderOf s doc rec text)) s (takes (readAt doc c .event)) doc (record { state = s′; verdict = w }) rec′ text′) (v : w ≡ verdict.Fine) {k : Reached} (z : Shuts doc rec′ s′ n k) {r : Mark} (q : Passes doc (k .state .current .flag) (k .state .place .depth) (k .mark) r) where
   shut-then : Passed l doc (cursorOf n) (cursorOf (k .mark)) (k .state) rec′ text′
   shut-then = shut l doc n s′ rec′ text′ (reading-on l doc c s rec text inv eb more to p v) z
 

@@ -10,7 +10,7 @@ use Rattle.xmlschema.proofs.Opening.{number-room, high-text, high-top, 
 use Rattle.xmlschema.proofs.Dispatching.{version-room, package-high, package-text, package-fits, package-long, schema-on, owner-shown, owner-none, by-schema, by-type, by-ref, by-composite, by-enum, by-value, by-message, by-group, by-field, by-other, open-deep, pushed-ready, pushed-deep, open-done}
 use Rattle.xmlschema.proofs.Keying.{noted-schema, noted-type, noted-enum, noted-ref, noted-composite, noted-value, noted-message, noted-group, noted-field}
 use Rattle.xmlschema.proofs.Closing.{give-none, give-fits, give-some, value-lost as value-unowned, value-given, shut-schema, shut-type, shut-ref, shut-field, shut-other, shut-composite, shut-enum, shut-message, shut-group, shut-value, close-wrong, close-right, text-off, text-room, text-fits, text-on}
-use Rattle.xmlschema.proofs.Driving.{mark-owed, mark-free, ended-at, reading-start, reading-ready, reading-inside, reading-refused, reading-less, reading-on, reading-open, reading-done, pass-none, pass-text, shut-same, shut-leaf, turned-deep, passing-on, passing-less, answer-long, answer-records, answer-text, answer-high, answer-read}
+use Rattle.xmlschema.proofs.Driving.{mark-owed, mark-free, ended-at, reading-first, reading-ready, reading-inside, reading-refused, reading-less, reading-on, reading-open, reading-done, pass-none, pass-idle, shut-same, shut-leaf, turned-deep, passing-on, passing-less, answer-long, answer-records, answer-text, answer-high, answer-read}
 use Rattle.xmlschema.proofs.Stepping.{step-text, step-open, step-close, step-skipped, step-end, step-refused}
 
 pub ruleset laws = (byte-past, count-shown, item-shown, no-item-shown, package-shown, name-shown, second-shown, encoding-shown, kind-and, kind-named, kind-not, seeking-start, seeking-on, next-none, next-found, next-under-none, next-under-found, backward-start, named-on, last-none, last-found, any-start, any-on, any-none, any-found, needs)
@@ -25,4 +25,4 @@ pub ruleset dispatching = (noted-schema, noted-type, noted-enum, noted-ref, note
 
 pub ruleset closing = (after-same, pop-kept, give-none, give-fits, give-some, value-unowned, value-given, shut-schema, shut-type, shut-ref, shut-field, shut-other, shut-composite, shut-enum, shut-message, shut-group, shut-value, close-wrong, close-right, text-off, text-room, text-fits, text-on, needs)
 
-pub ruleset driving = (mark-owed, mark-free, ended-at, reading-start, reading-ready, reading-inside, reading-refused, reading-less, reading-on, reading-open, reading-done, pass-none, pass-text, shut-same, shut-leaf, turned-deep, passing-on, passing-less, answer-long, answer-records, answer-text, answer-high, answer-read, step-text, step-open, step-close, step-skipped, step-end, step-refused, needs)
+pub ruleset driving = (mark-owed, mark-free, ended-at, reading-first, reading-ready, reading-inside, reading-refused, reading-less, reading-on, reading-open, reading-done, pass-none, pass-idle, shut-same, shut-leaf, turned-deep, passing-on, passing-less, answer-long, answer-records, answer-text, answer-high, answer-read, step-text, step-open, step-close, step-skipped, step-end, step-refused, needs)

@@ -9,7 +9,7 @@ use lib.ListN.{length}
 use Rattle.saxlite.specs.declared.reader.Event.{Event}
 use Rattle.saxlite.specs.declared.reader.Event.the-variants.{Text, Open, Close, Skipped, End, Refused}
 use Rattle.saxlite.specs.declared.reader.Cursor.{Cursor}
-use Rattle.saxlite.specs.Reader.{readAt, atEnd}
+use Rattle.saxlite.specs.Passing.{Idle}
 use Rattle.xmlschema.specs.Store.{schemaOf}
 use Rattle.xmlschema.specs.Whole.{Whole, accepted, refusedBy, answerOf}
 use Rattle.texts.specs.Text.{piece, same}
@@ -53,9 +53,13 @@ first =
 abbrev pub cursorOf : Mark → Cursor
 cursorOf m = record { at = m .at; owed = eqb (m .owed) 1; place = m .place; name = m .name; len = m .len }
 
--- from a mark to one past the text there, where none is collected: an event that changes nothing
-pub record Passes (doc : List ℕ) (collecting : Bool) (m r : Mark) : Type 0 where
-  pub is : (r ≡ m) ⊎ ((collecting ≡ false) × (atEnd doc (cursorOf m) ≡ false) × (readAt doc (cursorOf m) ≡ record { event = Text (m .at) (r .at - m .at); place = m .at; cursor = cursorOf r }))
+-- from a mark, where no close is owed, to one past what changes nothing; or the mark itself
+pub record Passes (doc : List ℕ) (collecting : Bool) (depth : ℕ) (m r : Mark) : Type 0 where
+  pub is :
+      (r ≡ m)
+      ⊎ ((m .owed ≡ 1 → ⊥)
+      × Idle doc collecting (eqb depth 0) (m .at) (r .at)
+      × (r ≡ record { at = r .at; owed = 0; place = 0; name = 0; len = 0 }))
 
 -- from a mark and a state to those past the close that is owed there, where it only pops the name
 pub record Shuts (doc rec : List ℕ) (s : State) (m : Mark) (r : Reached) : Type 0 where

@@ -14,16 +14,15 @@ use crate::state::Stepped;
 use crate::state::Verdict;
 use elements::is_leaf_at;
 use refusals::Refusal;
+use saxlite::passing::past_between;
+use saxlite::passing::past_idle;
 use saxlite::reader::Cursor;
 use saxlite::reader::Event;
 use saxlite::reader::Reader;
 use saxlite::reader::at_end;
-use saxlite::reader::cursor_at;
 use saxlite::reader::next;
-use saxlite::scan::byte_from;
 use saxlite::tag::Notes;
 use texts::ascii_end;
-use texts::starts_with;
 ghost use mathlib.Core.Path.{_≡_};
 ghost use Prim.Native.Nat.{_≤_};
 ghost use lib.ListN.{length};
@@ -285,23 +284,15 @@ fn free_mark(at: usize) -> Mark
     }
 }
 
-// Past the text at a mark, where none is collected: an event less.
-fn past_text(doc: &[u8], collecting: bool, m: Mark) -> Mark
-    ensures { λ r. ⌜ Passes (now (doc .entry)) collecting m r ⌝ }
+// Past what changes nothing from a mark on: an event less for each.
+fn past_text(doc: &[u8], collecting: bool, depth: usize, m: Mark) -> Mark
+    ensures { λ r. ⌜ Passes (now (doc .entry)) collecting depth m r ⌝ }
 {
-    if collecting {
-        return m;
-    }
     if m.owed == 1 {
         return m;
     }
-    if doc.len() <= m.at {
-        return m;
-    }
-    if starts_with(doc, m.at, b"<") {
-        return m;
-    }
-    free_mark(byte_from(doc, m.at, b'<'))
+    let outside = depth == 0;
+    free_mark(past_between(doc, m.at, collecting, outside))
 }
 
 // Reads a document whose length and bytes, and the buffers, are tested.
@@ -311,7 +302,7 @@ fn read_tested(l: Limits, doc: &[u8], rec: &mut [u32], text: &mut [u8]) -> Schem
 {
     let mut state = first_state();
     let table = classes::table();
-    let mut mark = mark_of(cursor_at(0));
+    let mut mark = free_mark(past_idle(doc, 0, false, true));
     while !at_end_of(doc, mark) {
         let t = turn_at(l, doc, mark, state, rec, text, &table);
         let verdict = t.verdict;
@@ -320,7 +311,7 @@ fn read_tested(l: Limits, doc: &[u8], rec: &mut [u32], text: &mut [u8]) -> Schem
                 let shut = past_close(doc, t.state, t.mark, rec);
                 let changed = shut.state;
                 state = changed;
-                let on = past_text(doc, state.current.flag, shut.mark);
+                let on = past_text(doc, state.current.flag, state.place.depth, shut.mark);
                 mark = on;
             }
             Verdict::Refused(why) => {
