@@ -9,6 +9,7 @@ pub mod Tagging
 pub mod Placeless
 pub mod Looking
 pub mod Stepping
+pub mod Striding
 pub mod Placing
 pub mod Ranges
 pub mod Moving

@@ -11,8 +11,8 @@ ghost use Rattle.classes.specs.Class.{isSpace, isTagNameEnd, isAttributeNameEnd
 ghost use Rattle.saxlite.specs.Find.{findFrom};
 ghost use Rattle.saxlite.specs.Names.{prefixLength, isXmlns};
 
-// Past the spaces at `at`.
-pub fn skip_space(doc: &[u8], at: usize, t: &[u8; 256]) -> usize
+// Past the spaces at `at`, byte by byte.
+fn skip_space_each(doc: &[u8], at: usize, t: &[u8; 256]) -> usize
     requires { ⌜ IsTable (now t) ⌝ }
     ensures { λ r. ⌜ r ≡ scan isSpace (now (doc .entry)) at ⌝ }
 {
@@ -27,8 +27,36 @@ pub fn skip_space(doc: &[u8], at: usize, t: &[u8; 256]) -> usize
     i
 }
 
-// Where the tag name at `at` ends.
-pub fn tag_name_end(doc: &[u8], at: usize, t: &[u8; 256]) -> usize
+// Past the spaces at `at`: four bytes for each test of the end.
+pub fn skip_space(doc: &[u8], at: usize, t: &[u8; 256]) -> usize
+    requires { ⌜ IsTable (now t) ⌝ }
+    ensures { λ r. ⌜ r ≡ scan isSpace (now (doc .entry)) at ⌝ }
+{
+    if doc.len() < 4 {
+        return skip_space_each(doc, at, t);
+    }
+    let last = doc.len() - 4;
+    let mut i = at;
+    while i <= last {
+        if !is_space_in(t, doc[i]) {
+            return i;
+        }
+        if !is_space_in(t, doc[i + 1]) {
+            return i + 1;
+        }
+        if !is_space_in(t, doc[i + 2]) {
+            return i + 2;
+        }
+        if !is_space_in(t, doc[i + 3]) {
+            return i + 3;
+        }
+        i += 4;
+    }
+    skip_space_each(doc, i, t)
+}
+
+// Where the tag name at `at` ends, byte by byte.
+fn tag_name_each(doc: &[u8], at: usize, t: &[u8; 256]) -> usize
     requires { ⌜ IsTable (now t) ⌝ }
     ensures { λ r. ⌜ r ≡ scan (until isTagNameEnd) (now (doc .entry)) at ⌝ }
 {
@@ -40,6 +68,34 @@ pub fn tag_name_end(doc: &[u8], at: usize, t: &[u8; 256]) -> usize
         i += 1;
     }
     i
+}
+
+// Where the tag name at `at` ends.
+pub fn tag_name_end(doc: &[u8], at: usize, t: &[u8; 256]) -> usize
+    requires { ⌜ IsTable (now t) ⌝ }
+    ensures { λ r. ⌜ r ≡ scan (until isTagNameEnd) (now (doc .entry)) at ⌝ }
+{
+    if doc.len() < 4 {
+        return tag_name_each(doc, at, t);
+    }
+    let last = doc.len() - 4;
+    let mut i = at;
+    while i <= last {
+        if is_tag_name_end_in(t, doc[i]) {
+            return i;
+        }
+        if is_tag_name_end_in(t, doc[i + 1]) {
+            return i + 1;
+        }
+        if is_tag_name_end_in(t, doc[i + 2]) {
+            return i + 2;
+        }
+        if is_tag_name_end_in(t, doc[i + 3]) {
+            return i + 3;
+        }
+        i += 4;
+    }
+    tag_name_each(doc, i, t)
 }
 
 // Where the attribute name at `at` ends, byte by byte.
@@ -55,6 +111,34 @@ fn attribute_name_each(doc: &[u8], at: usize, t: &[u8; 256]) -> usize
         i += 1;
     }
     i
+}
+
+// Where the attribute name at `at` ends, by fours.
+fn attribute_name_fours(doc: &[u8], at: usize, t: &[u8; 256]) -> usize
+    requires { ⌜ IsTable (now t) ⌝ }
+    ensures { λ r. ⌜ r ≡ scan (until isAttributeNameEnd) (now (doc .entry)) at ⌝ }
+{
+    if doc.len() < 4 {
+        return attribute_name_each(doc, at, t);
+    }
+    let last = doc.len() - 4;
+    let mut i = at;
+    while i <= last {
+        if is_attribute_name_end_in(t, doc[i]) {
+            return i;
+        }
+        if is_attribute_name_end_in(t, doc[i + 1]) {
+            return i + 1;
+        }
+        if is_attribute_name_end_in(t, doc[i + 2]) {
+            return i + 2;
+        }
+        if is_attribute_name_end_in(t, doc[i + 3]) {
+            return i + 3;
+        }
+        i += 4;
+    }
+    attribute_name_each(doc, i, t)
 }
 
 // Past "xmlns", where it stands at `at`: the name goes on there.
@@ -79,7 +163,7 @@ pub fn attribute_name_end(doc: &[u8], at: usize, t: &[u8; 256]) -> usize
     ensures { λ r. ⌜ r ≡ scan (until isAttributeNameEnd) (now (doc .entry)) at ⌝ }
 {
     let from = past_xmlns(doc, at);
-    attribute_name_each(doc, from, t)
+    attribute_name_fours(doc, from, t)
 }
 
 // Where the first `b` from `at` on stands, or the end.
