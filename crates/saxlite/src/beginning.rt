@@ -221,7 +221,7 @@ pub fn begin_at(doc: &[u8], name: usize, t: &[u8; 256]) -> Beginning
 }
 
 // The known raw name at `at` with '>' behind it, by its first letter.
-pub fn closing_by(doc: &[u8], at: usize) -> Opening
+fn closing_by(doc: &[u8], at: usize) -> Opening
     requires { ⌜ at + 16 ≤ length (now doc) ⌝ }
     ensures { λ r. ⌜ KnownBeginning 62 (now (doc .entry)) at r ⌝ }
 {
@@ -266,4 +266,17 @@ pub fn closing_by(doc: &[u8], at: usize) -> Opening
         b'm' => opening_long(doc, at, b'>', 9, 7, 0, 0x3e65_6761_7373_656d, 1, 0),
         _ => none(),
     }
+}
+
+// The same; none is looked for in the last 15 bytes.
+pub fn closing_at(doc: &[u8], at: usize) -> Opening
+    ensures { λ r. ⌜ KnownBeginning 62 (now (doc .entry)) at r ⌝ }
+{
+    if doc.len() < 16 {
+        return none();
+    }
+    if doc.len() - 16 < at {
+        return none();
+    }
+    closing_by(doc, at)
 }

@@ -1,6 +1,6 @@
 // One step of the reader.
 use crate::beginning::begin_at;
-use crate::beginning::closing_by;
+use crate::beginning::closing_at;
 use crate::scan::Occurrence;
 use crate::scan::byte_from;
 use crate::scan::find;
@@ -105,20 +105,13 @@ fn close_any(doc: &[u8], at: usize, t: &[u8; 256]) -> Step
     })
 }
 
-// The close tag at `at`: at once, where its name is known. `close_any` has three callers, so that the compiler keeps it out of
-// the reader's loop.
+// The close tag at `at`: at once, where its name is known.
 fn close_at(doc: &[u8], at: usize, t: &[u8; 256]) -> Step
     requires { ⌜ (at + 2 ≤ length (now doc)) × IsTable (now t) ⌝ }
     ensures { λ r. ⌜ r ≡ closeAt (now (doc .entry)) at ⌝ }
 {
     let name = at + 2;
-    if doc.len() < 16 {
-        return close_any(doc, at, t);
-    }
-    if doc.len() - 16 < name {
-        return close_any(doc, at, t);
-    }
-    let known = closing_by(doc, name);
+    let known = closing_at(doc, name);
     if 0 < known.code {
         let end = name + known.len;
         let next = end + 1;
