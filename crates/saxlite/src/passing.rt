@@ -214,6 +214,14 @@ fn may_pass(doc: &[u8], at: usize, outside: bool) -> bool
     doc[at] == b'<'
 }
 
+// `past_idle`, called from a function of its own: a slice that is lent on to a call is kept in memory by the compiler wherever
+// its lender uses it, and the lender of this one stands in the driver's loop.
+fn past_more(doc: &[u8], at: usize, collecting: bool, outside: bool) -> usize
+    ensures { λ r. ⌜ Idle (now (doc .entry)) collecting outside at r ⌝ }
+{
+    past_idle(doc, at, collecting, outside)
+}
+
 // The same as `past_idle`, for between two tags: the loop is entered only where it is likely to pass something. `past_idle`
 // has two callers, so that the compiler keeps it out of the driver's loop.
 pub fn past_between(doc: &[u8], at: usize, collecting: bool, outside: bool) -> usize
@@ -227,7 +235,7 @@ pub fn past_between(doc: &[u8], at: usize, collecting: bool, outside: bool) -> u
         return i;
     }
     if may_pass(doc, i, outside) {
-        return past_idle(doc, i, collecting, outside);
+        return past_more(doc, i, collecting, outside);
     }
     i
 }

@@ -4,7 +4,7 @@ use Rattle.saxlite.proofs.passing.past_between.Tie as tie
 use Rattle.saxlite.proofs.passing.past_between.Reads as reads
 use Rattle.saxlite.proofs.passing.past_between.Lts as lts
 use Rattle.saxlite.proofs.passing.may_pass.Reads as may-pass-reads
-use Rattle.saxlite.proofs.passing.past_idle.Reads as past-idle-reads
+use Rattle.saxlite.proofs.passing.past_more.Reads as past-more-reads
 use Rattle.saxlite.proofs.passing.text_end.Reads as text-end-reads
 
 -- src/passing.rt:222:9
@@ -28,8 +28,8 @@ may-pass-requires : tie.Need-may-pass-requires
 may-pass-requires c κs = search passing
 
 -- src/passing.rt:229:9
-past-idle-requires : tie.Need-past-idle-requires
-past-idle-requires c κs = search passing
+past-more-requires : tie.Need-past-more-requires
+past-more-requires c κs = search passing
 
 -- src/passing.rt:229:9
 returns-3 : tie.Need-returns-3
@@ -48,6 +48,6 @@ past-between-spec =
     sub-if2
     returns-2
     may-pass-requires
-    past-idle-requires
+    past-more-requires
     returns-3
     returns-4)
