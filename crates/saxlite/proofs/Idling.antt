@@ -5,7 +5,7 @@ use mathlib.Core.List.{List, [], _∷_, _++_}
 use Prim.Native.Nat.{ℕ, zero, suc, _+_, _-_, _≤_, _<_}
 use native.Mathlib.Omega.{arith}
 use native.Mathlib.Nat.{add-zero}
-use lib.Dec.{eqb, ltb, leb→le}
+use lib.Dec.{eqb, ltb, T, leb→le, lit<}
 use lib.ListN.{length, drop, getD, drop-of-length-le, length-drop}
 use lib.Seq.{drop-cons, drop-drop}
 use borrow.Author.Needs.{needs}
@@ -21,14 +21,14 @@ use Rattle.words.specs.Standing.{ShortText, StandsShort, Lacks}
 use Rattle.words.proofs.Standing.{power-some}
 use Rattle.refusals.specs.declared.Refusal.the-variants.{OpenComment, OpenInstruction, OpenDeclaration}
 use Rattle.saxlite.specs.declared.scan.Occurrence.{Occurrence}
-use Rattle.saxlite.specs.declared.scan.Occurrence.the-variants.{At}
+use Rattle.saxlite.specs.declared.scan.Occurrence.the-variants.{At, Nowhere}
 use Rattle.saxlite.specs.declared.step.Step.{Step}
 use Rattle.saxlite.specs.declared.step.Step.the-variants.{Close, Skipped}
 use Rattle.saxlite.specs.Find.{findIn, findFrom}
 use Rattle.saxlite.specs.Names.{prefixLength}
 use Rattle.saxlite.specs.Step.{stepAt, markupAt}
 use Rattle.saxlite.specs.Passing.{Idles, text, skipped, nameless, Idle, stay, on, FoundAt, PastEnd}
-use Rattle.saxlite.proofs.Searching.{stands-within, byte-stands, scan-within, find-here, find-next, find-none, Searching, search-start, search-on}
+use Rattle.saxlite.proofs.Searching.{stands-within, byte-stands, scan-within, find-here, find-next, find-none, Searching, search-start, search-on, found-from, found-inside, found-past}
 use Rattle.saxlite.proofs.Stepping.{past-found, close-ends, markup-comment, markup-instruction, markup-declaration, markup-close, step-markup, step-text}
 use Rattle.saxlite.proofs.Moving.{text-within, close-within, skipped-within}
 
@@ -52,37 +52,46 @@ pass-many n doc i (suc k) f =
 pub lacks-found : {n doc : List ℕ} {from i r : ℕ} → Lacks n doc from i → FoundAt n doc i r → FoundAt n doc from r
 lacks-found {n} {doc} {from} {i} l f =
     let z : from + (i - from) ≡ i = omega (arith, l .forward) in
-    record { is = λ h. sym (ap (findFrom n doc) (sym z) ∙ pass-many n doc from (i - from) (λ j a b. l .none j a (omega arith))) ∙ f .is h }
+    let e : findFrom n doc i ≡ findFrom n doc from = ap (findFrom n doc) (sym z) ∙ pass-many n doc from (i - from) (λ j a b. l .none j a (omega arith)) in
+    record { is = λ h. sym e ∙ f .is h; none = λ h. sym e ∙ f .none h }
 
 -- ---- what was found
 
-pub occurs-found : (n doc : List ℕ) (from : ℕ) {o : Occurrence} → o ≡ findFrom n doc from → {i : ℕ} → o ≡ At i → FoundAt n doc from i
-occurs-found n doc from e f = record { is = λ h. sym e ∙ f }
+-- a text of some bytes is found within the document
+occurs-within : (n doc : List ℕ) (from i : ℕ) → 0 < length n → findFrom n doc from ≡ At i → i < length doc
+occurs-within n doc from i p e =
+    by-test (ltb (length doc) from)
+    (λ t. absurd (omega (arith, found-from n doc from i e, found-past n doc from i e (ltb-true (length doc) from t))))
+    (λ g. omega (arith, found-inside n doc from i e (ltb-false (length doc) from g)))
 
-pub nowhere-found : (n doc : List ℕ) (from : ℕ) → FoundAt n doc from (length doc)
-nowhere-found n doc from = record { is = λ h. absurd (omega arith) }
+module _ (n doc : List ℕ) (from : ℕ) {o : Occurrence} (e : o ≡ findFrom n doc from) where
+  pub occurs-found : 0 < length n → {i : ℕ} → o ≡ At i → FoundAt n doc from i
+  occurs-found p {i} f = record { is = λ h. sym e ∙ f; none = λ h. absurd (omega (arith, occurs-within n doc from i p (sym e ∙ f))) }
 
-here-found : (n doc : List ℕ) (from : ℕ) → startsWith n (drop from doc) ≡ true → FoundAt n doc from from
-here-found n doc from t = record { is = λ h. find-here n (drop from doc) from t }
+  pub nowhere-found : o ≡ Nowhere → FoundAt n doc from (length doc)
+  nowhere-found f = record { is = λ h. absurd (omega arith); none = λ h. sym e ∙ f }
+
+here-found : (n doc : List ℕ) (from : ℕ) → from < length doc → startsWith n (drop from doc) ≡ true → FoundAt n doc from from
+here-found n doc from l t = record { is = λ h. find-here n (drop from doc) from t; none = λ h. absurd (omega arith) }
+
+pub near-far : {n doc : List ℕ} {from i r : ℕ} → Searching n doc from i → FoundAt n doc i r → FoundAt n doc from r
+near-far inv f = record { is = λ h. sym (inv .rest) ∙ f .is h; none = λ h. sym (inv .rest) ∙ f .none h }
 
 -- b is what the comparison by words says
 module _ {n doc : List ℕ} {i modulus front : ℕ} {b : Bool} (s : StandsShort doc i modulus front b) (t : ShortText n modulus front) where
-  pub short-found : b ≡ true → FoundAt n doc i i
-  short-found e = here-found n doc i (sym (s .is n t) ∙ e)
+  pub short-found : b ≡ true → 0 < length n → FoundAt n doc i i
+  short-found e p = let h = sym (s .is n t) ∙ e in here-found n doc i (omega (arith, stands-within n doc i h p)) h
 
   module _ {from : ℕ} (inv : Searching n doc from i) where
-    pub near-found : b ≡ true → FoundAt n doc from i
-    near-found e = record { is = λ h. sym (inv .rest) ∙ short-found e .is h }
+    pub near-found : b ≡ true → T (ltb 0 (length n)) → FoundAt n doc from i
+    near-found e p = near-far inv (short-found e (lit< p))
 
     pub near-on : b ≡ false → Searching n doc from (i + 1)
     near-on f = record { rest = pass-one n doc i (sym (s .is n t) ∙ f) ∙ inv .rest }
 
-pub near-far : {n doc : List ℕ} {from i r : ℕ} → Searching n doc from i → FoundAt n doc i r → FoundAt n doc from r
-near-far inv f = record { is = λ h. sym (inv .rest) ∙ f .is h }
-
 -- one byte
 pub byte-found : (b : ℕ) (doc : List ℕ) (from : ℕ) → from < length doc → getD doc from 0 ≡ b → FoundAt (b ∷ []) doc from from
-byte-found b doc from h e = here-found (b ∷ []) doc from (byte-stands b doc from h e)
+byte-found b doc from h e = here-found (b ∷ []) doc from h (byte-stands b doc from h e)
 
 count-found : (b : ℕ) (s : List ℕ) (k : ℕ) → countWhile (until (is b)) s < length s → findIn (b ∷ []) s k ≡ At (k + countWhile (until (is b)) s)
 unfolding startsWith
@@ -94,9 +103,20 @@ count-found b (x ∷ s) k h =
     let z : k + 1 + countWhile (until (is b)) s ≡ k + suc (countWhile (until (is b)) s) = omega arith in
     rw c (find-next (b ∷ []) x s k (starts-no b x [] s f) ∙ count-found b s (k + 1) (omega (arith, c)) ∙ ap At z))
 
+count-nowhere : (b : ℕ) (s : List ℕ) (k : ℕ) → length s ≤ countWhile (until (is b)) s → findIn (b ∷ []) s k ≡ Nowhere
+unfolding startsWith
+count-nowhere b [] k h = find-none (b ∷ []) k refl
+count-nowhere b (x ∷ s) k h =
+    by-test (eqb x b)
+    (λ t. absurd (omega (arith, count-no (until (is b)) x s (ap not t))))
+    (λ f. find-next (b ∷ []) x s k (starts-no b x [] s f) ∙ count-nowhere b s (k + 1) (omega (arith, count-yes (until (is b)) x s (ap not f))))
+
 pub scan-found : (b : ℕ) (doc : List ℕ) (from : ℕ) {r : ℕ} → r ≡ scan (until (is b)) doc from → FoundAt (b ∷ []) doc from r
 scan-found b doc from {r} e =
-    record { is = λ h. count-found b (drop from doc) from (omega (arith, length-drop from doc)) ∙ ap At (sym e) }
+    record {
+      is = λ h. count-found b (drop from doc) from (omega (arith, length-drop from doc)) ∙ ap At (sym e);
+      none = λ h. count-nowhere b (drop from doc) from (omega (arith, length-drop from doc));
+    }
 
 -- ---- the texts, by their numbers
 
@@ -165,17 +185,17 @@ module _ (doc : List ℕ) (at : ℕ) where
       sym (step-markup doc at (omega (arith, stands-within (ascii "<") doc at o (omega arith))) refl o e)
 
   comment-is : startsWith (ascii "<!--") (drop at doc) ≡ true → {i : ℕ} → findFrom (ascii "-->") doc (at + 4) ≡ At i → stepAt doc at ≡ Skipped (i + 3)
-  comment-is t e = open-stands (ascii "!--") t (markup-comment doc at refl t (past-found (ascii "-->") doc (at + 4) (OpenComment at) refl e))
+  comment-is t e = open-stands (ascii "!--") t (markup-comment doc at refl t (past-found (ascii "-->") doc (at + 4) (OpenComment at) e))
 
   declaration-is : startsWith (ascii "<!--") (drop at doc) ≡ false → startsWith (ascii "<!") (drop at doc) ≡ true → {i : ℕ} → findFrom (ascii ">") doc (at + 2) ≡ At i → stepAt doc at ≡ Skipped (i + 1)
   declaration-is f t e =
       open-stands (ascii "!") t
-      (markup-declaration doc at refl f refl (second-differs 60 33 63 [] (drop at doc) refl t) refl t (past-found (ascii ">") doc (at + 2) (OpenDeclaration at) refl e))
+      (markup-declaration doc at refl f refl (second-differs 60 33 63 [] (drop at doc) refl t) refl t (past-found (ascii ">") doc (at + 2) (OpenDeclaration at) e))
 
   instruction-is : startsWith (ascii "<?") (drop at doc) ≡ true → {i : ℕ} → findFrom (ascii "?>") doc (at + 2) ≡ At i → stepAt doc at ≡ Skipped (i + 2)
   instruction-is t e =
       open-stands (ascii "?") t
-      (markup-instruction doc at refl (second-differs 60 63 33 (ascii "--") (drop at doc) refl t) refl t (past-found (ascii "?>") doc (at + 2) (OpenInstruction at) refl e))
+      (markup-instruction doc at refl (second-differs 60 63 33 (ascii "--") (drop at doc) refl t) refl t (past-found (ascii "?>") doc (at + 2) (OpenInstruction at) e))
 
   -- '>' right behind '</' ends a name that is empty
   module _ (t : startsWith (ascii "</>") (drop at doc) ≡ true) where

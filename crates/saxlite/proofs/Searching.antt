@@ -10,13 +10,12 @@ use lib.ListN.{length, drop, getD, drop-of-length-le, length-drop}
 use lib.Seq.{drop-cons}
 use mir.Val.{Fits}
 use mir.Syntax.{w64}
-use borrow.Author.Tests.{eq-eqb, leb-true, leb-false}
+use borrow.Author.Tests.{eq-eqb}
 use Rattle.texts.specs.Text.{startsWith}
 use Rattle.texts.specs.Scan.{countWhile, scan, until, is}
 use Rattle.texts.proofs.Choosing.{by-test}
 use Rattle.texts.proofs.Comparing.{starts-length}
 use Rattle.texts.proofs.Scanning.{Scanning, scan-start, byte-on}
-use Rattle.saxlite.specs.declared.scan.Occurrence.{Occurrence}
 use Rattle.saxlite.specs.declared.scan.Occurrence.the-variants.{At, Nowhere}
 use Rattle.saxlite.specs.Find.{findIn, findFrom}
 
@@ -111,11 +110,3 @@ module _ (n doc : List ℕ) (k i : ℕ) (e : findFrom n doc k ≡ At i) where
 
   pub found-past : length doc < k → i + length n ≤ k
   found-past h = omega (arith, found-within n (drop k doc) k i e, length-drop k doc)
-
--- r is what the search from k on returns, and k fits
-module _ (n doc : List ℕ) (k : ℕ) {r : Occurrence} (e : r ≡ findFrom n doc k) where
-  pub found-fits : (i : ℕ) → r ≡ At i → length doc < 2 ^ 64 → k < 2 ^ 64 → Fits w64 (i + length n)
-  found-fits i f l h =
-      by-test (leb k (length doc))
-      (λ t. omega (arith, found-inside n doc k i (sym e ∙ f) (leb-true k (length doc) t)))
-      (λ v. omega (arith, found-past n doc k i (sym e ∙ f) (leb-false k (length doc) v)))

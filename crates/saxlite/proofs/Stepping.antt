@@ -1,17 +1,19 @@
 -- Laws of one step, as its functions come to it: each premise is what a call or a test says.
-use mathlib.Core.Path.{_≡_}
+use mathlib.Core.Path.{_≡_, refl}
 use mathlib.Core.Bool.{Bool, true, false}
 use mathlib.Core.List.{List}
 use Prim.Native.Nat.{ℕ, _+_, _-_, _≤_, _<_}
+use native.Mathlib.Omega.{arith}
+use lib.Dec.{ltb}
 use lib.ListN.{length, drop}
-use borrow.Author.Tests.{eq-eqb, ne-eqb, lt-leb, le-leb}
+use borrow.Author.Tests.{eq-eqb, ne-eqb, lt-leb, le-leb, ltb-true, ltb-false}
 use Rattle.texts.specs.Text.{ascii, piece, startsWith}
 use Rattle.texts.specs.Scan.{scan, until, is}
+use Rattle.texts.proofs.Choosing.{by-test}
 use Rattle.classes.specs.Class.{isSpace, isTagNameEnd}
 use Rattle.refusals.specs.declared.Refusal.{Refusal}
 use Rattle.refusals.specs.declared.Refusal.the-variants.{OpenComment, OpenInstruction, OpenDeclaration, NoCloseTagEnd, NoTagName}
-use Rattle.saxlite.specs.declared.scan.Occurrence.{Occurrence}
-use Rattle.saxlite.specs.declared.scan.Occurrence.the-variants.{At, Nowhere}
+use Rattle.saxlite.specs.declared.scan.Occurrence.the-variants.{At}
 use Rattle.saxlite.specs.declared.tag.Ending.{Ending}
 use Rattle.saxlite.specs.declared.tag.Ending.the-variants.{Ends, Broken}
 use Rattle.saxlite.specs.declared.step.Step.{Step}
@@ -20,17 +22,26 @@ use Rattle.saxlite.specs.Find.{findFrom}
 use Rattle.saxlite.specs.Names.{prefixLength}
 use Rattle.saxlite.specs.Attributes.{tagAt}
 use Rattle.saxlite.specs.Step.{textAt, pastEnd, skippedTo, closeAt, openWith, openAt, markupAt, stepAt}
+use Rattle.saxlite.specs.Passing.{FoundAt, StepPast}
 
 -- ---- markup that is passed over
 
-module _ (end doc : List ℕ) (from : ℕ) (refusal : Refusal) {o : Occurrence} (e : o ≡ findFrom end doc from) where
-  pub past-found : {i : ℕ} → o ≡ At i → Skipped (i + length end) ≡ pastEnd (length end) (findFrom end doc from) refusal
-  unfolding pastEnd
-  past-found f = rw (← e, f)
+pub past-found : (end doc : List ℕ) (from : ℕ) (refusal : Refusal) {i : ℕ} → findFrom end doc from ≡ At i → Skipped (i + length end) ≡ pastEnd (length end) (findFrom end doc from) refusal
+unfolding pastEnd
+past-found end doc from refusal f = rw f
 
-  pub past-nowhere : o ≡ Nowhere → Refused refusal ≡ pastEnd (length end) (findFrom end doc from) refusal
-  unfolding pastEnd
-  past-nowhere f = rw (← e, f)
+pub past-step : {doc : List ℕ} {end n : ℕ} {refusal : Refusal} → end < length doc → StepPast doc end n refusal (Skipped (end + n))
+past-step h = record { past = λ l. refl; refused = λ l. absurd (omega arith) }
+
+pub past-refused : {doc : List ℕ} {end n : ℕ} {refusal : Refusal} → length doc ≤ end → StepPast doc end n refusal (Refused refusal)
+past-refused h = record { past = λ l. absurd (omega arith); refused = λ l. refl }
+
+pub past-ends : (needle doc : List ℕ) (from n end : ℕ) (refusal : Refusal) {r : Step} → FoundAt needle doc from end → StepPast doc end n refusal r → r ≡ pastEnd n (findFrom needle doc from) refusal
+unfolding pastEnd
+past-ends needle doc from n end refusal f p =
+    by-test (ltb end (length doc))
+    (λ t. let h = ltb-true end (length doc) t in rw (f .is h) (p .past h))
+    (λ g. let h = ltb-false end (length doc) g in rw (f .none h) (p .refused h))
 
 -- ---- a close tag
 

@@ -4,8 +4,10 @@ use mathlib.Core.Bool.{Bool, true, false}
 use mathlib.Core.List.{List}
 use Prim.Native.Nat.{ℕ, _+_, _≤_, _<_}
 use lib.ListN.{length}
-use Rattle.saxlite.specs.declared.scan.Occurrence.the-variants.{At}
-use Rattle.saxlite.specs.declared.step.Step.the-variants.{Text, Close, Skipped}
+use Rattle.refusals.specs.declared.Refusal.{Refusal}
+use Rattle.saxlite.specs.declared.scan.Occurrence.the-variants.{At, Nowhere}
+use Rattle.saxlite.specs.declared.step.Step.{Step}
+use Rattle.saxlite.specs.declared.step.Step.the-variants.{Text, Close, Skipped, Refused}
 use Rattle.saxlite.specs.Find.{findFrom}
 use Rattle.saxlite.specs.Step.{stepAt}
 
@@ -21,11 +23,17 @@ pub data Idle (doc : List ℕ) (collecting outside : Bool) : ℕ → ℕ → Typ
   stay : {i : ℕ} → Idle doc collecting outside i i
   on : {i j k : ℕ} → Idles doc collecting outside i j → Idle doc collecting outside j k → Idle doc collecting outside i k
 
--- r is the first place from one on where the needle stands, unless r lies past the document
+-- r is the first place from one on where the needle stands, or no place of the document, where it stands nowhere
 pub record FoundAt (needle doc : List ℕ) (from r : ℕ) : Type 0 where
   pub is : r < length doc → findFrom needle doc from ≡ At r
+  pub none : length doc ≤ r → findFrom needle doc from ≡ Nowhere
 
 -- r is n bytes past the end of what stands at a place, or the place, where that does not end within the document
 pub record PastEnd (doc : List ℕ) (at end n r : ℕ) : Type 0 where
   pub past : end < length doc → r ≡ end + n
   pub stays : length doc ≤ end → r ≡ at
+
+-- the step past the n bytes at `end`, or a refusal, where what is open does not end within the document
+pub record StepPast (doc : List ℕ) (end n : ℕ) (refusal : Refusal) (r : Step) : Type 0 where
+  pub past : end < length doc → r ≡ Skipped (end + n)
+  pub refused : length doc ≤ end → r ≡ Refused refusal

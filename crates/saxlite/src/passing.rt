@@ -1,6 +1,6 @@
 // Past what changes nothing, in one loop: text that nobody collects, comments, instructions, declarations, and closes of no
 // name outside of every element. Each is a step of the reader (specs/Passing.antt), and here a turn of its driver less. This
-// is for speed alone: what is not passed is read.
+// is for speed alone: what is not passed is read. Where markup that is skipped ends, the reader asks here too.
 use crate::scan::Occurrence;
 use crate::scan::byte_from;
 use crate::scan::find;
@@ -16,6 +16,7 @@ ghost use Rattle.saxlite.specs.Passing.{Idle, FoundAt, PastEnd};
 
 // Where `needle` first stands from `from` on, or the document's length.
 fn found(doc: &[u8], from: usize, needle: &[u8]) -> usize
+    requires { ⌜ 0 < length (now needle) ⌝ }
     ensures { λ r. ⌜ FoundAt (now (needle .entry)) (now (doc .entry)) from r ⌝ }
 {
     let place = find(doc, from, needle);
@@ -27,7 +28,7 @@ fn found(doc: &[u8], from: usize, needle: &[u8]) -> usize
 
 // The same of a needle that most likely stands at `from`, and that has these numbers.
 fn found_by(doc: &[u8], from: usize, needle: &[u8], modulus: u64, front: u64) -> usize
-    requires { ⌜ (8 ≤ length (now doc)) × ShortText (now needle) modulus front ⌝ }
+    requires { ⌜ (8 ≤ length (now doc)) × (0 < length (now needle)) × ShortText (now needle) modulus front ⌝ }
     ensures { λ r. ⌜ FoundAt (now (needle .entry)) (now (doc .entry)) from r ⌝ }
 {
     if from <= doc.len() - 8 {
@@ -48,7 +49,7 @@ fn comment_far(doc: &[u8], from: usize) -> usize
 }
 
 // The same: the first four places one by one, as comments are often short, and then by words.
-fn comment_end(doc: &[u8], from: usize) -> usize
+pub fn comment_end(doc: &[u8], from: usize) -> usize
     requires { ⌜ from ≤ length (now doc) ⌝ }
     ensures { λ r. ⌜ FoundAt (ascii "-->") (now (doc .entry)) from r ⌝ }
 {
@@ -75,7 +76,7 @@ fn instruction_far(doc: &[u8], from: usize) -> usize
     found_by(doc, near, b"?>", 0x1_0000, 0x3e3f)
 }
 
-fn instruction_end(doc: &[u8], from: usize) -> usize
+pub fn instruction_end(doc: &[u8], from: usize) -> usize
     requires { ⌜ from ≤ length (now doc) ⌝ }
     ensures { λ r. ⌜ FoundAt (ascii "?>") (now (doc .entry)) from r ⌝ }
 {
@@ -94,12 +95,13 @@ fn instruction_end(doc: &[u8], from: usize) -> usize
 }
 
 // Where the declaration that is open at `from` ends.
-fn declaration_end(doc: &[u8], from: usize) -> usize
-    requires { ⌜ from < length (now doc) ⌝ }
+pub fn declaration_end(doc: &[u8], from: usize) -> usize
     ensures { λ r. ⌜ FoundAt (ascii ">") (now (doc .entry)) from r ⌝ }
 {
-    if doc[from] == b'>' {
-        return from;
+    if from < doc.len() {
+        if doc[from] == b'>' {
+            return from;
+        }
     }
     byte_from(doc, from, b'>')
 }

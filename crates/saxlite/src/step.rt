@@ -1,9 +1,10 @@
 // One step of the reader.
 use crate::beginning::begin_at;
 use crate::beginning::closing_at;
-use crate::scan::Occurrence;
+use crate::passing::comment_end;
+use crate::passing::declaration_end;
+use crate::passing::instruction_end;
 use crate::scan::byte_from;
-use crate::scan::find;
 use crate::scan::prefix_len;
 use crate::scan::skip_space;
 use crate::scan::tag_name_end;
@@ -17,8 +18,8 @@ ghost use mathlib.Core.Path.{_≡_};
 ghost use Prim.Native.Nat.{_+_, _≤_, _<_};
 ghost use lib.ListN.{length};
 ghost use Rattle.classes.specs.Table.{IsTable};
-ghost use Rattle.saxlite.specs.Find.{findFrom};
-ghost use Rattle.saxlite.specs.Step.{stepAt, markupAt, closeAt, openAt, pastEnd};
+ghost use Rattle.saxlite.specs.Step.{stepAt, markupAt, closeAt, openAt};
+ghost use Rattle.saxlite.specs.Passing.{StepPast};
 ghost use Rattle.saxlite.specs.Noting.{NotedAs};
 
 // What stands at a place, and where the reader goes on.
@@ -65,18 +66,16 @@ fn bare(step: Step) -> NotedStep
     NotedStep { step, noted }
 }
 
-// Past the first `end` from `from` on.
-fn skip_to(doc: &[u8], from: usize, end: &[u8], refusal: Refusal) -> Step
-    ensures { λ r. ⌜ r ≡ pastEnd (length (now (end .entry))) (findFrom (now (end .entry)) (now (doc .entry)) from) refusal ⌝ }
+// Past the `n` bytes at `end`, or a refusal, where nothing ends.
+fn skip_past(doc: &[u8], end: usize, n: usize, refusal: Refusal) -> Step
+    requires { ⌜ n ≤ 8 ⌝ }
+    ensures { λ r. ⌜ StepPast (now (doc .entry)) end n refusal r ⌝ }
 {
-    let found = find(doc, from, end);
-    match found {
-        Occurrence::At(i) => {
-            let next = i + end.len();
-            Step::Skipped { next }
-        }
-        Occurrence::Nowhere => Step::Refused(refusal),
+    if end < doc.len() {
+        let next = end + n;
+        return Step::Skipped { next };
     }
+    Step::Refused(refusal)
 }
 
 // The close tag at `at`, of any name.
@@ -169,15 +168,18 @@ fn markup_at(doc: &[u8], at: usize, t: &[u8; 256]) -> NotedStep
 {
     if texts::starts_with(doc, at, b"<!--") {
         let from = at + 4;
-        return bare(skip_to(doc, from, b"-->", Refusal::OpenComment { at }));
+        let end = comment_end(doc, from);
+        return bare(skip_past(doc, end, 3, Refusal::OpenComment { at }));
     }
     if texts::starts_with(doc, at, b"<?") {
         let from = at + 2;
-        return bare(skip_to(doc, from, b"?>", Refusal::OpenInstruction { at }));
+        let end = instruction_end(doc, from);
+        return bare(skip_past(doc, end, 2, Refusal::OpenInstruction { at }));
     }
     if texts::starts_with(doc, at, b"<!") {
         let from = at + 2;
-        return bare(skip_to(doc, from, b">", Refusal::OpenDeclaration { at }));
+        let end = declaration_end(doc, from);
+        return bare(skip_past(doc, end, 1, Refusal::OpenDeclaration { at }));
     }
     if texts::starts_with(doc, at, b"</") {
         return bare(close_at(doc, at, t));

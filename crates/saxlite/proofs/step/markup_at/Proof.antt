@@ -1,125 +1,129 @@
 use Rattle.texts.specs.Text.{ascii}
 use Rattle.saxlite.proofs.Searching.{stands-on}
+use Rattle.saxlite.proofs.Stepping.{past-ends}
 use Rattle.saxlite.proofs.Laws.{laws}
 use Rattle.saxlite.proofs.step.markup_at.Statement.{statement}
 use Rattle.saxlite.proofs.step.markup_at.Tie as tie
 use Rattle.saxlite.proofs.step.markup_at.Reads as reads
 use Rattle.saxlite.proofs.step.markup_at.Lts as lts
+use Rattle.saxlite.proofs.passing.comment_end.Reads as comment-end-reads
+use Rattle.saxlite.proofs.passing.declaration_end.Reads as declaration-end-reads
+use Rattle.saxlite.proofs.passing.instruction_end.Reads as instruction-end-reads
 use Rattle.saxlite.proofs.step.bare.Reads as bare-reads
 use Rattle.saxlite.proofs.step.close_at.Reads as close-at-reads
 use Rattle.saxlite.proofs.step.open_at.Reads as open-at-reads
-use Rattle.saxlite.proofs.step.skip_to.Reads as skip-to-reads
+use Rattle.saxlite.proofs.step.skip_past.Reads as skip-past-reads
 use Rattle.texts.proofs.starts_with.Reads as starts-with-reads
 
--- src/step.rt:146:36
+-- src/step.rt:176:36
 slice-aggregate-starts-with : tie.Need-slice-aggregate-starts-with
 slice-aggregate-starts-with c = search laws
 
--- src/step.rt:146:8
+-- src/step.rt:176:8
 starts-with-requires : tie.Need-starts-with-requires
 starts-with-requires c κs = search laws
 
--- src/step.rt:147:20
+-- src/step.rt:177:20
 add-from : tie.Need-add-from
 add-from c = search laws
 
--- src/step.rt:148:40
-slice-aggregate-skip-to : tie.Need-slice-aggregate-skip-to
-slice-aggregate-skip-to c = search laws
+-- src/step.rt:178:13
+comment-end-requires : tie.Need-comment-end-requires
+comment-end-requires c κs = stands-on (ascii "<!--") _ _ _ (c .before .starts-with .ensures) (c .if1 .taken) tt tt
 
--- src/step.rt:148:21
-skip-to-requires : tie.Need-skip-to-requires
-skip-to-requires c κs = search laws
+-- src/step.rt:179:21
+skip-past-requires : tie.Need-skip-past-requires
+skip-past-requires c κs = search laws
 
--- src/step.rt:148:9
+-- src/step.rt:179:9
 bare-requires : tie.Need-bare-requires
 bare-requires c κs = search laws
 
--- src/step.rt:148:9
+-- src/step.rt:179:9
 returns : tie.Need-returns
-returns c = search laws
+returns c = let p = past-ends (ascii "-->") _ _ 3 _ _ (c .before .before .comment-end .ensures) (c .before .skip-past .ensures) in search laws
 
--- src/step.rt:150:36
+-- src/step.rt:181:36
 slice-aggregate-starts-with-2 : tie.Need-slice-aggregate-starts-with-2
 slice-aggregate-starts-with-2 c = search laws
 
--- src/step.rt:150:8
+-- src/step.rt:181:8
 starts-with-requires-2 : tie.Need-starts-with-requires-2
 starts-with-requires-2 c κs = search laws
 
--- src/step.rt:151:20
+-- src/step.rt:182:20
 add-from-2 : tie.Need-add-from-2
 add-from-2 c = search laws
 
--- src/step.rt:152:40
-slice-aggregate-skip-to-2 : tie.Need-slice-aggregate-skip-to-2
-slice-aggregate-skip-to-2 c = search laws
+-- src/step.rt:183:13
+instruction-end-requires : tie.Need-instruction-end-requires
+instruction-end-requires c κs = stands-on (ascii "<?") _ _ _ (c .before .starts-with2 .ensures) (c .if2 .taken) tt tt
 
--- src/step.rt:152:21
-skip-to-requires-2 : tie.Need-skip-to-requires-2
-skip-to-requires-2 c κs = search laws
+-- src/step.rt:184:21
+skip-past-requires-2 : tie.Need-skip-past-requires-2
+skip-past-requires-2 c κs = search laws
 
--- src/step.rt:152:9
+-- src/step.rt:184:9
 bare-requires-2 : tie.Need-bare-requires-2
 bare-requires-2 c κs = search laws
 
--- src/step.rt:152:9
+-- src/step.rt:184:9
 returns-2 : tie.Need-returns-2
-returns-2 c = search laws
+returns-2 c = let p = past-ends (ascii "?>") _ _ 2 _ _ (c .before .before .instruction-end .ensures) (c .before .skip-past2 .ensures) in search laws
 
--- src/step.rt:154:36
+-- src/step.rt:186:36
 slice-aggregate-starts-with-3 : tie.Need-slice-aggregate-starts-with-3
 slice-aggregate-starts-with-3 c = search laws
 
--- src/step.rt:154:8
+-- src/step.rt:186:8
 starts-with-requires-3 : tie.Need-starts-with-requires-3
 starts-with-requires-3 c κs = search laws
 
--- src/step.rt:155:20
+-- src/step.rt:187:20
 add-from-3 : tie.Need-add-from-3
 add-from-3 c = search laws
 
--- src/step.rt:156:40
-slice-aggregate-skip-to-3 : tie.Need-slice-aggregate-skip-to-3
-slice-aggregate-skip-to-3 c = search laws
+-- src/step.rt:188:13
+declaration-end-requires : tie.Need-declaration-end-requires
+declaration-end-requires c κs = search laws
 
--- src/step.rt:156:21
-skip-to-requires-3 : tie.Need-skip-to-requires-3
-skip-to-requires-3 c κs = search laws
+-- src/step.rt:189:21
+skip-past-requires-3 : tie.Need-skip-past-requires-3
+skip-past-requires-3 c κs = search laws
 
--- src/step.rt:156:9
+-- src/step.rt:189:9
 bare-requires-3 : tie.Need-bare-requires-3
 bare-requires-3 c κs = search laws
 
--- src/step.rt:156:9
+-- src/step.rt:189:9
 returns-3 : tie.Need-returns-3
-returns-3 c = search laws
+returns-3 c = let p = past-ends (ascii ">") _ _ 1 _ _ (c .before .before .declaration-end .ensures) (c .before .skip-past3 .ensures) in search laws
 
--- src/step.rt:158:36
+-- src/step.rt:191:36
 slice-aggregate-starts-with-4 : tie.Need-slice-aggregate-starts-with-4
 slice-aggregate-starts-with-4 c = search laws
 
--- src/step.rt:158:8
+-- src/step.rt:191:8
 starts-with-requires-4 : tie.Need-starts-with-requires-4
 starts-with-requires-4 c κs = search laws
 
--- src/step.rt:159:21
+-- src/step.rt:192:21
 close-at-requires : tie.Need-close-at-requires
 close-at-requires c κs = (stands-on (ascii "</") _ _ 2 (c .before .starts-with4 .ensures) (c .if4 .taken) tt tt, search laws)
 
--- src/step.rt:159:9
+-- src/step.rt:192:9
 bare-requires-4 : tie.Need-bare-requires-4
 bare-requires-4 c κs = search laws
 
--- src/step.rt:159:9
+-- src/step.rt:192:9
 returns-4 : tie.Need-returns-4
 returns-4 c = search laws
 
--- src/step.rt:161:5
+-- src/step.rt:194:5
 open-at-requires : tie.Need-open-at-requires
 open-at-requires c κs = (search laws, search laws)
 
--- src/step.rt:142:1
+-- src/step.rt:172:1
 returns-5 : tie.Need-returns-5
 returns-5 c = search laws
 
@@ -130,22 +134,22 @@ markup-at-spec =
     slice-aggregate-starts-with
     starts-with-requires
     add-from
-    slice-aggregate-skip-to
-    skip-to-requires
+    comment-end-requires
+    skip-past-requires
     bare-requires
     returns
     slice-aggregate-starts-with-2
     starts-with-requires-2
     add-from-2
-    slice-aggregate-skip-to-2
-    skip-to-requires-2
+    instruction-end-requires
+    skip-past-requires-2
     bare-requires-2
     returns-2
     slice-aggregate-starts-with-3
     starts-with-requires-3
     add-from-3
-    slice-aggregate-skip-to-3
-    skip-to-requires-3
+    declaration-end-requires
+    skip-past-requires-3
     bare-requires-3
     returns-3
     slice-aggregate-starts-with-4
