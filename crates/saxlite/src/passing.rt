@@ -40,16 +40,19 @@ fn found_by(doc: &[u8], from: usize, needle: &[u8], modulus: u64, front: u64) ->
 }
 
 // Where the comment that is open at `from` ends, by words.
-fn comment_far(doc: &[u8], from: usize) -> usize
-    requires { ⌜ 8 ≤ length (now doc) ⌝ }
+pub fn comment_far(doc: &[u8], from: usize) -> usize
     ensures { λ r. ⌜ FoundAt (ascii "-->") (now (doc .entry)) from r ⌝ }
 {
+    if doc.len() < 8 {
+        return found(doc, from, b"-->");
+    }
     let near = three_from(doc, from, b'-', b'-', b'>');
     found_by(doc, near, b"-->", 0x100_0000, 0x3e_2d2d)
 }
 
-// The same: the first four places one by one, as comments are often short, and then by words.
-pub fn comment_end(doc: &[u8], from: usize) -> usize
+// The same: the first four places one by one, as comments are often short, and then by words. The reader, which meets one only
+// where the loop below has not passed it, asks `comment_far`.
+fn comment_end(doc: &[u8], from: usize) -> usize
     requires { ⌜ from ≤ length (now doc) ⌝ }
     ensures { λ r. ⌜ FoundAt (ascii "-->") (now (doc .entry)) from r ⌝ }
 {
@@ -68,15 +71,17 @@ pub fn comment_end(doc: &[u8], from: usize) -> usize
 }
 
 // The same two of an instruction.
-fn instruction_far(doc: &[u8], from: usize) -> usize
-    requires { ⌜ 8 ≤ length (now doc) ⌝ }
+pub fn instruction_far(doc: &[u8], from: usize) -> usize
     ensures { λ r. ⌜ FoundAt (ascii "?>") (now (doc .entry)) from r ⌝ }
 {
+    if doc.len() < 8 {
+        return found(doc, from, b"?>");
+    }
     let near = pair_from(doc, from, b'?', b'>');
     found_by(doc, near, b"?>", 0x1_0000, 0x3e3f)
 }
 
-pub fn instruction_end(doc: &[u8], from: usize) -> usize
+fn instruction_end(doc: &[u8], from: usize) -> usize
     requires { ⌜ from ≤ length (now doc) ⌝ }
     ensures { λ r. ⌜ FoundAt (ascii "?>") (now (doc .entry)) from r ⌝ }
 {
@@ -95,7 +100,7 @@ pub fn instruction_end(doc: &[u8], from: usize) -> usize
 }
 
 // Where the declaration that is open at `from` ends.
-pub fn declaration_end(doc: &[u8], from: usize) -> usize
+fn declaration_end(doc: &[u8], from: usize) -> usize
     ensures { λ r. ⌜ FoundAt (ascii ">") (now (doc .entry)) from r ⌝ }
 {
     if from < doc.len() {

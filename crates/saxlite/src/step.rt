@@ -1,9 +1,8 @@
 // One step of the reader.
 use crate::beginning::begin_at;
 use crate::beginning::closing_at;
-use crate::passing::comment_end;
-use crate::passing::declaration_end;
-use crate::passing::instruction_end;
+use crate::passing::comment_far;
+use crate::passing::instruction_far;
 use crate::scan::byte_from;
 use crate::scan::prefix_len;
 use crate::scan::skip_space;
@@ -168,17 +167,17 @@ fn markup_at(doc: &[u8], at: usize, t: &[u8; 256]) -> NotedStep
 {
     if texts::starts_with(doc, at, b"<!--") {
         let from = at + 4;
-        let end = comment_end(doc, from);
+        let end = comment_far(doc, from);
         return bare(skip_past(doc, end, 3, Refusal::OpenComment { at }));
     }
     if texts::starts_with(doc, at, b"<?") {
         let from = at + 2;
-        let end = instruction_end(doc, from);
+        let end = instruction_far(doc, from);
         return bare(skip_past(doc, end, 2, Refusal::OpenInstruction { at }));
     }
     if texts::starts_with(doc, at, b"<!") {
         let from = at + 2;
-        let end = declaration_end(doc, from);
+        let end = byte_from(doc, from, b'>');
         return bare(skip_past(doc, end, 1, Refusal::OpenDeclaration { at }));
     }
     if texts::starts_with(doc, at, b"</") {

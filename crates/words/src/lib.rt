@@ -45,21 +45,30 @@ pub fn word_at(s: &[u8], i: usize) -> u64
         + wide(s[i + 7]) * 72057594037927936
 }
 
-// The high bit of each of the 8 bytes from `i` on that is `x`, and no other bit. No byte carries into the next. Where
-// `x` and the bytes are below 128 none borrows from the next either, and a difference tells as much in fewer steps.
+// The high bit of each of the 8 bytes from `i` on that is `x`, and no other bit. No byte carries into the next.
 fn marks(s: &[u8], i: usize, x: u8) -> u64
     requires { ⌜ i + 8 ≤ length (now s) ⌝ }
     ensures { λ r. ⌜ Marked x (now (s .entry)) i r ⌝ }
 {
-    let w = word_at(s, i);
-    let differs = w ^ (wide(x) * ONES);
+    let differs = word_at(s, i) ^ (wide(x) * ONES);
+    let full = ((differs & LOW) + LOW) | differs;
+    HIGH - (full & HIGH)
+}
+
+// The same where one word after the other waits for it: where `x` and the bytes are below 128 none borrows from the next either,
+// and a difference tells as much in fewer steps.
+fn quick_marks(s: &[u8], i: usize, x: u8) -> u64
+    requires { ⌜ i + 8 ≤ length (now s) ⌝ }
+    ensures { λ r. ⌜ Marked x (now (s .entry)) i r ⌝ }
+{
     if x < 128 {
+        let w = word_at(s, i);
         if w & HIGH == 0 {
+            let differs = w ^ (wide(x) * ONES);
             return (HIGH - differs) & HIGH;
         }
     }
-    let full = ((differs & LOW) + LOW) | differs;
-    HIGH - (full & HIGH)
+    marks(s, i, x)
 }
 
 // Whether one of the 8 bytes from `i` on is `x`. Written as one `|` of tests it is one comparison of all the bytes.
@@ -176,7 +185,7 @@ pub fn byte_from(s: &[u8], at: usize, x: u8) -> usize
     let last = s.len() - 8;
     let mut i = at;
     while i <= last {
-        let m = marks(s, i, x);
+        let m = quick_marks(s, i, x);
         if m != 0 {
             return i + (u64::trailing_zeros(m) / 8) as usize;
         }

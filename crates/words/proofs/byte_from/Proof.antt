@@ -9,7 +9,7 @@ use Rattle.words.proofs.byte_from.Tie as tie
 use Rattle.words.proofs.byte_from.Reads as reads
 use Rattle.words.proofs.byte_from.Lts as lts
 use Rattle.words.proofs.byte_each.Reads as byte-each-reads
-use Rattle.words.proofs.marks.Reads as marks-reads
+use Rattle.words.proofs.quick_marks.Reads as quick-marks-reads
 
 abbrev Inv-loop : tie.InvT-loop
 Inv-loop s at x last i₀ i = Scanning (until (is x)) s at i × (last + 8 ≡ length s)
@@ -34,8 +34,8 @@ loop-holds : tie.Need-loop-holds Inv-loop μ-loop
 loop-holds c = search laws
 
 -- src/lib.rt:171:13
-marks-requires : tie.Need-marks-requires Inv-loop μ-loop
-marks-requires c κs = search laws
+quick-marks-requires : tie.Need-quick-marks-requires Inv-loop μ-loop
+quick-marks-requires c κs = search laws
 
 -- src/lib.rt:173:24
 cast-result : tie.Need-cast-result Inv-loop μ-loop
@@ -79,7 +79,7 @@ byte-from-spec =
     returns
     sub-last
     loop-holds
-    marks-requires
+    quick-marks-requires
     cast-result
     add-result
     returns-2

@@ -15,30 +15,15 @@ wide-requires c κs = search laws
 mul-differs : tie.Need-mul-differs
 mul-differs c = search laws
 
+add-full : tie.Need-add-full
+add-full c = search laws
+
 sub-result : tie.Need-sub-result
 sub-result c = search laws
 
 returns : tie.Need-returns
 returns c = search laws
 
-add-full : tie.Need-add-full
-add-full c = search laws
-
-sub-result-2 : tie.Need-sub-result-2
-sub-result-2 c = search laws
-
-returns-2 : tie.Need-returns-2
-returns-2 c = search laws
-
 pub marks-spec : {M : Type 1} → statement M
 marks-spec =
-    tie.close
-    (tie.spec
-    word-at-requires
-    wide-requires
-    mul-differs
-    sub-result
-    returns
-    add-full
-    sub-result-2
-    returns-2)
+    tie.close (tie.spec word-at-requires wide-requires mul-differs add-full sub-result returns)

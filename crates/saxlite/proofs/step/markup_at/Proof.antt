@@ -1,14 +1,15 @@
 use Rattle.texts.specs.Text.{ascii}
 use Rattle.saxlite.proofs.Searching.{stands-on}
 use Rattle.saxlite.proofs.Stepping.{past-ends}
+use Rattle.saxlite.proofs.Idling.{scan-found}
 use Rattle.saxlite.proofs.Laws.{laws}
 use Rattle.saxlite.proofs.step.markup_at.Statement.{statement}
 use Rattle.saxlite.proofs.step.markup_at.Tie as tie
 use Rattle.saxlite.proofs.step.markup_at.Reads as reads
 use Rattle.saxlite.proofs.step.markup_at.Lts as lts
-use Rattle.saxlite.proofs.passing.comment_end.Reads as comment-end-reads
-use Rattle.saxlite.proofs.passing.declaration_end.Reads as declaration-end-reads
-use Rattle.saxlite.proofs.passing.instruction_end.Reads as instruction-end-reads
+use Rattle.saxlite.proofs.passing.comment_far.Reads as comment-far-reads
+use Rattle.saxlite.proofs.scan.byte_from.Reads as byte-from-reads
+use Rattle.saxlite.proofs.passing.instruction_far.Reads as instruction-far-reads
 use Rattle.saxlite.proofs.step.bare.Reads as bare-reads
 use Rattle.saxlite.proofs.step.close_at.Reads as close-at-reads
 use Rattle.saxlite.proofs.step.open_at.Reads as open-at-reads
@@ -28,8 +29,8 @@ add-from : tie.Need-add-from
 add-from c = search laws
 
 -- src/step.rt:178:13
-comment-end-requires : tie.Need-comment-end-requires
-comment-end-requires c κs = stands-on (ascii "<!--") _ _ _ (c .before .starts-with .ensures) (c .if1 .taken) tt tt
+comment-far-requires : tie.Need-comment-far-requires
+comment-far-requires c κs = search laws
 
 -- src/step.rt:179:21
 skip-past-requires : tie.Need-skip-past-requires
@@ -41,7 +42,7 @@ bare-requires c κs = search laws
 
 -- src/step.rt:179:9
 returns : tie.Need-returns
-returns c = let p = past-ends (ascii "-->") _ _ 3 _ _ (c .before .before .comment-end .ensures) (c .before .skip-past .ensures) in search laws
+returns c = let p = past-ends (ascii "-->") _ _ 3 _ _ (c .before .before .comment-far .ensures) (c .before .skip-past .ensures) in search laws
 
 -- src/step.rt:181:36
 slice-aggregate-starts-with-2 : tie.Need-slice-aggregate-starts-with-2
@@ -56,8 +57,8 @@ add-from-2 : tie.Need-add-from-2
 add-from-2 c = search laws
 
 -- src/step.rt:183:13
-instruction-end-requires : tie.Need-instruction-end-requires
-instruction-end-requires c κs = stands-on (ascii "<?") _ _ _ (c .before .starts-with2 .ensures) (c .if2 .taken) tt tt
+instruction-far-requires : tie.Need-instruction-far-requires
+instruction-far-requires c κs = search laws
 
 -- src/step.rt:184:21
 skip-past-requires-2 : tie.Need-skip-past-requires-2
@@ -69,7 +70,7 @@ bare-requires-2 c κs = search laws
 
 -- src/step.rt:184:9
 returns-2 : tie.Need-returns-2
-returns-2 c = let p = past-ends (ascii "?>") _ _ 2 _ _ (c .before .before .instruction-end .ensures) (c .before .skip-past2 .ensures) in search laws
+returns-2 c = let p = past-ends (ascii "?>") _ _ 2 _ _ (c .before .before .instruction-far .ensures) (c .before .skip-past2 .ensures) in search laws
 
 -- src/step.rt:186:36
 slice-aggregate-starts-with-3 : tie.Need-slice-aggregate-starts-with-3
@@ -84,8 +85,8 @@ add-from-3 : tie.Need-add-from-3
 add-from-3 c = search laws
 
 -- src/step.rt:188:13
-declaration-end-requires : tie.Need-declaration-end-requires
-declaration-end-requires c κs = search laws
+byte-from-requires : tie.Need-byte-from-requires
+byte-from-requires c κs = search laws
 
 -- src/step.rt:189:21
 skip-past-requires-3 : tie.Need-skip-past-requires-3
@@ -97,7 +98,10 @@ bare-requires-3 c κs = search laws
 
 -- src/step.rt:189:9
 returns-3 : tie.Need-returns-3
-returns-3 c = let p = past-ends (ascii ">") _ _ 1 _ _ (c .before .before .declaration-end .ensures) (c .before .skip-past3 .ensures) in search laws
+returns-3 c =
+    let q = scan-found 62 _ _ (c .before .before .byte-from .ensures) in
+    let p = past-ends (ascii ">") _ _ 1 _ _ q (c .before .skip-past3 .ensures) in
+    search laws
 
 -- src/step.rt:191:36
 slice-aggregate-starts-with-4 : tie.Need-slice-aggregate-starts-with-4
@@ -134,21 +138,21 @@ markup-at-spec =
     slice-aggregate-starts-with
     starts-with-requires
     add-from
-    comment-end-requires
+    comment-far-requires
     skip-past-requires
     bare-requires
     returns
     slice-aggregate-starts-with-2
     starts-with-requires-2
     add-from-2
-    instruction-end-requires
+    instruction-far-requires
     skip-past-requires-2
     bare-requires-2
     returns-2
     slice-aggregate-starts-with-3
     starts-with-requires-3
     add-from-3
-    declaration-end-requires
+    byte-from-requires
     skip-past-requires-3
     bare-requires-3
     returns-3
