@@ -17,7 +17,7 @@ use Rattle.texts.specs.Lists.{Every}
 use Rattle.texts.specs.Text.{piece, startsWith}
 use Rattle.texts.proofs.Choosing.{by-test}
 use Rattle.texts.proofs.Comparing.{starts-yes, starts-no}
-use Rattle.words.specs.Word.{wordOf, IsWord}
+use Rattle.words.specs.Word.{wordOf, IsWord, IsHalf}
 
 -- ---- equal numbers of as many bytes are of the same bytes
 
@@ -148,6 +148,21 @@ module _ (s : List ℕ) (i : ℕ) (room : i + 4 ≤ length s) where
       let at : ℕ → List ℕ → List ℕ = λ k t. getD s (i + k) 0 ∷ t in
       ap (take 4) (drop-cons s i 0 (omega arith)) ∙ ap (λ (j : ℕ). getD s i 0 ∷ piece s j 3) (sym (add-one i))
       ∙ ap (λ (t : List ℕ). getD s i 0 ∷ t) (next s i 1 2 (omega arith) ∙ ap (at 1) (next s i 2 1 (omega arith) ∙ ap (at 2) (next s i 3 0 (omega arith))))
+
+  pub half-read : {a b c d : ℕ}
+      → (a ≡ getD s i 0) × (getD s i 0 < 256)
+      → (b ≡ getD s (i + 1) 0) × (getD s (i + 1) 0 < 256)
+      → (c ≡ getD s (i + 2) 0) × (getD s (i + 2) 0 < 256)
+      → (d ≡ getD s (i + 3) 0) × (getD s (i + 3) 0 < 256)
+      → IsHalf (piece s i 4) (a + b * 256 + c * 65536 + d * 16777216)
+  unfolding wordOf Every
+  half-read pa pb pc pd =
+      rw four-bytes (record {
+        is = omega (arith, pa .0, pb .0, pc .0, pd .0);
+        four = refl;
+        bytes = (pa .1, (pb .1, (pc .1, (pd .1, tt))));
+        small = omega (arith, pa .0, pb .0, pc .0, pd .0, pa .1, pb .1, pc .1, pd .1);
+      })
 
   pub half-written : (d : List ℕ) (at : ℕ)
       → set (set (set (set d at (getD s i 0)) (at + 1) (getD s (i + 1) 0)) (at + 2) (getD s (i + 2) 0)) (at + 3) (getD s (i + 3) 0) ≡ sets d at (piece s i 4)

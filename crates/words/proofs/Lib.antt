@@ -5,4 +5,5 @@ pub mod Finding
 pub mod Standing
 pub mod Pairing
 pub mod Lacking
+pub mod Alike
 pub mod Laws

@@ -14,3 +14,10 @@ pub record IsWord (s : List ℕ) (w : ℕ) : Type 0 where
   pub is : w ≡ wordOf s
   pub eight : length s ≡ 8
   pub bytes : Every (λ b. b < 256) s
+
+-- the same of four, whose number is below 256 ^ 4
+pub record IsHalf (s : List ℕ) (w : ℕ) : Type 0 where
+  pub is : w ≡ wordOf s
+  pub four : length s ≡ 4
+  pub bytes : Every (λ b. b < 256) s
+  pub small : w < 4294967296

@@ -3,17 +3,17 @@
 // `word_at` gives the number of the eight bytes at a place, the first one lowest (specs/Word.antt); a word tells its
 // bytes (proofs/Digits.antt). By words `byte_from` finds where a byte first stands, whatever the bytes are, `pair_from` and
 // `three_from` do so for two or three bytes one after the other, and `lacks_word` tells that a byte is not among eight;
-// `copy_word` copies eight. `stands_short` and `stands_long` compare with a text that is given by its numbers. What works
-// on one word asks that eight bytes are there, and no more. A half is four bytes.
+// `copy_word` copies eight. `stands_short` and `stands_long` compare with a text that is given by its numbers, and `same_name`
+// compares two names. What works on one word asks that eight bytes are there, and no more. A half is four bytes.
 ghost use mathlib.Core.Path.{_≡_};
 ghost use mathlib.Core.Bool.{true, false};
 ghost use mathlib.Core.List.{[], _∷_};
 ghost use Prim.Native.Nat.{_+_, _≤_, _<_};
 ghost use lib.ListN.{length};
 ghost use lib.Seq.{sets};
-ghost use Rattle.texts.specs.Text.{piece};
+ghost use Rattle.texts.specs.Text.{piece, same};
 ghost use Rattle.texts.specs.Scan.{scan, until, is};
-ghost use Rattle.words.specs.Word.{IsWord};
+ghost use Rattle.words.specs.Word.{IsWord, IsHalf};
 ghost use Rattle.words.specs.Marks.{Marked};
 ghost use Rattle.words.specs.Standing.{StandsShort, StandsLong, Lacks};
 
@@ -43,6 +43,14 @@ pub fn word_at(s: &[u8], i: usize) -> u64
         + wide(s[i + 5]) * 1099511627776
         + wide(s[i + 6]) * 281474976710656
         + wide(s[i + 7]) * 72057594037927936
+}
+
+// The number of the 4 bytes from `i` on, the first one lowest.
+pub fn half_at(s: &[u8], i: usize) -> u64
+    requires { ⌜ i + 4 ≤ length (now s) ⌝ }
+    ensures { λ r. ⌜ IsHalf (piece (now (s .entry)) i 4) r ⌝ }
+{
+    wide(s[i]) + wide(s[i + 1]) * 256 + wide(s[i + 2]) * 65536 + wide(s[i + 3]) * 16777216
 }
 
 // The high bit of each of the 8 bytes from `i` on that is `x`, and no other bit. No byte carries into the next.
@@ -250,4 +258,48 @@ pub fn stands_long(s: &[u8], i: usize, front: u64, modulus: u64, back: u64) -> b
         return stands_short(s, i + 8, modulus, back);
     }
     false
+}
+
+// Two names of one length, less than 8 bytes: from 4 on by their first four bytes and their last four.
+fn same_short(a: &[u8], b: &[u8]) -> bool
+    requires { ⌜ (length (now a) < 8) × (length (now a) ≡ length (now b)) ⌝ }
+    ensures { λ r. ⌜ r ≡ same (now (a .entry)) (now (b .entry)) ⌝ }
+{
+    if a.len() < 4 {
+        return texts::equal(a, b);
+    }
+    if half_at(a, 0) != half_at(b, 0) {
+        return false;
+    }
+    let last = a.len() - 4;
+    half_at(a, last) == half_at(b, last)
+}
+
+// Two names of one length, 8 bytes at least: their words, the last of them up to their ends.
+fn same_long(a: &[u8], b: &[u8]) -> bool
+    requires { ⌜ (8 ≤ length (now a)) × (length (now a) ≡ length (now b)) ⌝ }
+    ensures { λ r. ⌜ r ≡ same (now (a .entry)) (now (b .entry)) ⌝ }
+{
+    let mut k = 0;
+    while k + 8 < a.len() {
+        if word_at(a, k) != word_at(b, k) {
+            return false;
+        }
+        k += 8;
+    }
+    let last = a.len() - 8;
+    word_at(a, last) == word_at(b, last)
+}
+
+// Whether two names are one.
+pub fn same_name(a: &[u8], b: &[u8]) -> bool
+    ensures { λ r. ⌜ r ≡ same (now (a .entry)) (now (b .entry)) ⌝ }
+{
+    if a.len() != b.len() {
+        return false;
+    }
+    if a.len() < 8 {
+        return same_short(a, b);
+    }
+    same_long(a, b)
 }

@@ -5,7 +5,7 @@ use crate::items::VALUE;
 use crate::items::entry_at;
 use crate::items::last_under;
 use crate::items::put_entry;
-use crate::stack::is_top;
+use crate::stack::is_open;
 use crate::stack::pop;
 use crate::state::Current;
 use crate::state::Place;
@@ -162,7 +162,7 @@ pub fn on_close(
     requires { ⌜ Kept s (now rec) (now text) ⌝ }
     ensures { λ r. ⌜ After (closed place (piece (now (doc .entry)) name len) (builderOf s (now (doc .entry)) (now (rec .entry)) (now (text .entry)))) s 0 (now (doc .entry)) r (now (rec .exit)) (now (text .entry)) ⌝ }
 {
-    if is_top(s.place.depth, name, len, doc, rec) {
+    if is_open(s.place.depth, name, len, doc, rec) {
         let e = element_at(doc, name, len);
         let p = pop(s);
         return close_by(p, e, doc, rec, text);

@@ -2,8 +2,8 @@
 use crate::items::word;
 use crate::state::Place;
 use crate::state::State;
-use texts::equal;
 use texts::part;
+use words::same_name;
 ghost use mathlib.Core.Path.{_≡_};
 ghost use Prim.Native.Nat.{_+_, _≤_, _<_};
 ghost use lib.ListN.{length};
@@ -53,6 +53,14 @@ pub fn top_name<'a>(depth: usize, doc: &'a [u8], rec: &[u32]) -> &'a [u8]
     part(doc, from, len)
 }
 
+// Whether the name at `name` is the innermost open one.
+pub fn is_open(depth: usize, name: usize, len: usize, doc: &[u8], rec: &[u32]) -> bool
+    requires { ⌜ depth ≤ 64 ⌝ }
+    ensures { λ r. ⌜ r ≡ same (piece (now (doc .entry)) name len) (top (stackOf depth (now (rec .entry)) (now (doc .entry)))) ⌝ }
+{
+    same_name(part(doc, name, len), top_name(depth, doc, rec))
+}
+
 // Whether the name at `name` is the innermost open one: at once, where a self-closed tag closes itself.
 pub fn is_top(depth: usize, name: usize, len: usize, doc: &[u8], rec: &[u32]) -> bool
     requires { ⌜ depth ≤ 64 ⌝ }
@@ -67,7 +75,7 @@ pub fn is_top(depth: usize, name: usize, len: usize, doc: &[u8], rec: &[u32]) ->
             }
         }
     }
-    equal(part(doc, name, len), top_name(depth, doc, rec))
+    is_open(depth, name, len, doc, rec)
 }
 
 pub fn pop(s: State) -> State

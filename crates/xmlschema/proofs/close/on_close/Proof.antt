@@ -5,12 +5,12 @@ use Rattle.xmlschema.proofs.close.on_close.Reads as reads
 use Rattle.xmlschema.proofs.close.on_close.Lts as lts
 use Rattle.elements.proofs.element_at.Reads as element-at-reads
 use Rattle.xmlschema.proofs.close.close_by.Reads as close-by-reads
-use Rattle.xmlschema.proofs.stack.is_top.Reads as is-top-reads
+use Rattle.xmlschema.proofs.stack.is_open.Reads as is-open-reads
 use Rattle.xmlschema.proofs.stack.pop.Reads as pop-reads
 
 -- src/close.rt:167:8
-is-top-requires : tie.Need-is-top-requires
-is-top-requires c κs = search closing
+is-open-requires : tie.Need-is-open-requires
+is-open-requires c κs = search closing
 
 -- src/close.rt:168:13
 element-at-requires : tie.Need-element-at-requires
@@ -44,7 +44,7 @@ pub on-close-spec : {M : Type 1} → statement M
 on-close-spec =
     tie.close
     (tie.spec
-    is-top-requires
+    is-open-requires
     element-at-requires
     pop-requires
     close-by-requires

@@ -3,10 +3,8 @@ use Rattle.xmlschema.proofs.stack.is_top.Statement.{statement}
 use Rattle.xmlschema.proofs.stack.is_top.Tie as tie
 use Rattle.xmlschema.proofs.stack.is_top.Reads as reads
 use Rattle.xmlschema.proofs.stack.is_top.Lts as lts
-use Rattle.texts.proofs.equal.Reads as equal-reads
-use Rattle.texts.proofs.part.Reads as part-reads
 use Rattle.xmlschema.proofs.items.word.Reads as word-reads
-use Rattle.xmlschema.proofs.stack.top_name.Reads as top-name-reads
+use Rattle.xmlschema.proofs.stack.is_open.Reads as is-open-reads
 
 -- src/stack.rt:62:30
 sub-k : tie.Need-sub-k
@@ -44,17 +42,9 @@ cast-if3 c = search stacking
 returns : tie.Need-returns
 returns c = search stacking
 
--- src/stack.rt:70:11
-part-requires : tie.Need-part-requires
-part-requires c κs = search stacking
-
--- src/stack.rt:70:33
-top-name-requires : tie.Need-top-name-requires
-top-name-requires c κs = search stacking
-
--- src/stack.rt:70:5
-equal-requires : tie.Need-equal-requires
-equal-requires c κs = search stacking
+-- src/stack.rt:79:5
+is-open-requires : tie.Need-is-open-requires
+is-open-requires c κs = search stacking
 
 -- src/stack.rt:57:1
 returns-2 : tie.Need-returns-2
@@ -73,7 +63,5 @@ is-top-spec =
     word-requires-2
     cast-if3
     returns
-    part-requires
-    top-name-requires
-    equal-requires
+    is-open-requires
     returns-2)
