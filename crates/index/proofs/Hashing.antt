@@ -12,15 +12,15 @@ use Rattle.texts.specs.Choice.{pick}
 use Rattle.texts.specs.Text.{piece}
 use Rattle.xmlschema.specs.Schema.{Schema}
 use Rattle.xmlschema.proofs.Records.{by-less}
-use Rattle.words.specs.Word.{wordOf, IsWord}
-use Rattle.index.specs.Index.{halfAt, shortWord, mix, wordsFrom, longWord, narrowed, hash, HashOf, maskOf, place, HeadOf}
+use Rattle.words.specs.Word.{wordOf, IsWord, IsHalf}
+use Rattle.index.specs.Index.{shortWord, mix, wordsFrom, longWord, narrowed, hash, HashOf, maskOf, place, HeadOf}
 
 -- ---- less than 8 bytes
 
 module _ (s : List ℕ) where
-  pub short-four : 4 ≤ length s → {a b : ℕ} → (a ≡ halfAt s 0) × (a < 4294967296) → (b ≡ halfAt s (length s - 4)) × (b < 4294967296) → a + b * 4294967296 ≡ shortWord s
+  pub short-four : 4 ≤ length s → {a b : ℕ} → IsHalf (piece s 0 4) a → IsHalf (piece s (length s - 4) 4) b → a + b * 4294967296 ≡ shortWord s
   unfolding shortWord
-  short-four h ea eb = rw (le-ltb (length s) 4 h, ea .0, eb .0)
+  short-four h ea eb = rw (le-ltb (length s) 4 h, ea .is, eb .is)
 
   pub short-none : length s < 4 → length s ≡ 0 → 0 ≡ shortWord s
   unfolding shortWord

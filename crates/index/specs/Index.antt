@@ -34,13 +34,9 @@ pub record Linked (s : Schema) (i : ℕ) (ix : List ℕ) : Type 0 where
 
 -- ---- names: behind all items the heads, and of each item that declares the second number is the next
 
--- the number of the 4 bytes from i on
-unfoldable pub halfAt : List ℕ → ℕ → ℕ
-halfAt s i = getD s i 0 + getD s (i + 1) 0 * 256 + getD s (i + 2) 0 * 65536 + getD s (i + 3) 0 * 16777216
-
 -- a text of less than 8 bytes as one number
 unfoldable pub shortWord : List ℕ → ℕ
-shortWord s = pick (ltb (length s) 4) (pick (eqb (length s) 0) 0 (getD s 0 0 + getD s (length s / 2) 0 * 256 + getD s (length s - 1) 0 * 65536 + length s * 16777216)) (halfAt s 0 + halfAt s (length s - 4) * 4294967296)
+shortWord s = pick (ltb (length s) 4) (pick (eqb (length s) 0) 0 (getD s 0 0 + getD s (length s / 2) 0 * 256 + getD s (length s - 1) 0 * 65536 + length s * 16777216)) (wordOf (piece s 0 4) + wordOf (piece s (length s - 4) 4) * 4294967296)
 
 unfoldable pub mix : ℕ → ℕ → ℕ
 mix h w = bitXor (h % 1152921504606846976 * 9) w

@@ -8,7 +8,8 @@ use ordered::SIZE as NAMES;
 use ordered::is_declaring;
 use ordered::number_of;
 use ordered::put_ordered;
-use ordered::same_name;
+use words::half_at;
+use words::same_name;
 use words::word_at;
 use xmlschema::items::COMPOSITE;
 use xmlschema::items::ENUM;
@@ -31,7 +32,7 @@ ghost use lib.ListN.{length, getD, set};
 ghost use Rattle.xmlschema.specs.Schema.{itemAt, nextUnder, aField};
 ghost use Rattle.xmlschema.specs.Store.{schemaOf, found};
 ghost use Rattle.ordered.specs.Ordered.{Ordered};
-ghost use Rattle.index.specs.Index.{code, fronted, halfAt, shortWord, mix, longWord, narrowed, HashOf, maskOf, HeadOf, Chained, Blank, Naming, Settling, Indexed};
+ghost use Rattle.index.specs.Index.{code, fronted, shortWord, mix, longWord, narrowed, HashOf, maskOf, HeadOf, Chained, Blank, Naming, Settling, Indexed};
 ghost use Rattle.index.specs.Declarations.{declarationOf, numberOf, keptBy};
 ghost use Rattle.index.specs.declared.Declaration.{Declaration};
 
@@ -73,14 +74,6 @@ fn wide(b: u8) -> u64
     ensures { λ r. ⌜ (r ≡ b) × (r < 256) ⌝ }
 {
     b as u64
-}
-
-// The number of the 4 bytes from `i` on, the first one lowest.
-fn half_at(s: &[u8], i: usize) -> u64
-    requires { ⌜ i + 4 ≤ length (now s) ⌝ }
-    ensures { λ r. ⌜ (r ≡ halfAt (now (s .entry)) i) × (r < 4294967296) ⌝ }
-{
-    wide(s[i]) + wide(s[i + 1]) * 256 + wide(s[i + 2]) * 65536 + wide(s[i + 3]) * 16777216
 }
 
 // A name of less than 8 bytes as one number.

@@ -1,17 +1,14 @@
 -- Which of two texts comes first: an order, and what the loops that compare keep.
 use mathlib.Core.Path.{_≡_, refl, sym, ap, _∙_}
-use mathlib.Core.Bool.{true, false}
 use mathlib.Core.List.{List, [], _∷_, _++_}
-use Prim.Native.Nat.{ℕ, suc, _+_, _-_, _≤_, _<_}
+use Prim.Native.Nat.{ℕ, suc, _+_, _≤_, _<_}
 use native.Mathlib.Numerals.{add-one}
 use native.Mathlib.Omega.{arith}
-use lib.ListN.{length, drop, getD, drop-of-length-le, length-drop, take-append-drop}
-use lib.Seq.{drop-cons, drop-drop, take-all}
+use lib.ListN.{length, drop, getD, drop-of-length-le, take-append-drop}
+use lib.Seq.{drop-cons, drop-drop}
 use borrow.Author.Tests.{eq-eqb, ne-eqb, lt-ltb, le-ltb}
-use Rattle.texts.specs.Text.{piece, same}
-use Rattle.texts.proofs.Choosing.{by-test}
-use Rattle.texts.proofs.Comparing.{same-equal, equal-same}
-use Rattle.words.specs.Word.{wordOf, IsWord}
+use Rattle.texts.specs.Text.{piece}
+use Rattle.words.specs.Word.{IsWord}
 use Rattle.words.proofs.Digits.{word-tells}
 use Rattle.xmlschema.proofs.Records.{by-less}
 use Rattle.ordered.specs.declared.Order.{Order}
@@ -90,21 +87,6 @@ greater-less (x ∷ xs) (y ∷ ys) p =
     (λ e. order-on y x ys xs (sym e) ∙ greater-less xs ys (sym (order-on x y xs ys e) ∙ p))
     (λ l. order-less y x ys xs l)
 
--- ---- whether two names are one
-
-module _ (a b : List ℕ) {o : Order} (e : o ≡ order a b) where
-  pub same-yes : o ≡ Same → true ≡ same a b
-  same-yes q = sym (equal-same (order-same a b (sym e ∙ q)))
-
-  differ : (o ≡ Same → ⊥) → false ≡ same a b
-  differ n = by-test (same a b) (λ t. absurd (n (e ∙ ap (order a) (sym (same-equal a b t)) ∙ order-refl a))) (λ f. sym f)
-
-  pub same-less : o ≡ Less → false ≡ same a b
-  same-less q = differ (λ r. let z : _≡_ {A = ℕ} 0 1 = cc in omega arith)
-
-  pub same-greater : o ≡ Greater → false ≡ same a b
-  same-greater q = differ (λ r. let z : _≡_ {A = ℕ} 0 1 = cc in omega arith)
-
 -- what two texts have in common at the front decides nothing
 order-common : (w s t : List ℕ) → order (w ++ s) (w ++ t) ≡ order s t
 order-common [] s t = refl
@@ -153,22 +135,3 @@ module _ {a b : List ℕ} {from i : ℕ} (inv : Comparing a b from i) where
 
 pub comparing-rest : {a b : List ℕ} {i : ℕ} → Comparing a b 0 i → {r : Order} → r ≡ order (drop i a) (drop i b) → r ≡ order a b
 comparing-rest inv e = e ∙ inv .rest
-
--- ---- two names of one length by their words, the last of them up to their ends
-
-pub words-differ : (a b : List ℕ) (i : ℕ) {x y : ℕ} → IsWord (piece a i 8) x → IsWord (piece b i 8) y → (x ≡ y → ⊥) → false ≡ same a b
-words-differ a b i u v n = by-test (same a b) (λ t. absurd (n (u .is ∙ ap (λ s. wordOf (piece s i 8)) (same-equal a b t) ∙ sym (v .is)))) (λ f. sym f)
-
-module _ (a b : List ℕ) (i n d : ℕ) (inv : Comparing a b 0 i) (ea : length a ≡ n + 8) (eb : length b ≡ n + 8) (ei : i ≡ n + d) where
-  ends : (s : List ℕ) → length s ≡ n + 8 → piece s n 8 ≡ drop n s
-  ends s e = take-all 8 (drop n s) (let l = length-drop n s in omega arith)
-
-  last-same : {x y : ℕ} → IsWord (piece a n 8) x → IsWord (piece b n 8) y → x ≡ y → true ≡ same a b
-  last-same u v q =
-      let p = word-tells (piece a n 8) (piece b n 8) (u .eight ∙ sym (v .eight)) (u .bytes) (v .bytes) (sym (u .is) ∙ q ∙ v .is) in
-      let r : drop n a ≡ drop n b = sym (ends a ea) ∙ p ∙ ends b eb in
-      let t : drop i a ≡ drop i b = ap (λ k. drop k a) ei ∙ sym (drop-drop d n a) ∙ ap (drop d) r ∙ drop-drop d n b ∙ sym (ap (λ k. drop k b) ei) in
-      same-yes a b refl (sym (inv .rest) ∙ ap (λ s. order s (drop i b)) t ∙ order-refl (drop i b))
-
-pub words-same : (a b : List ℕ) (i : ℕ) → Comparing a b 0 i → 8 ≤ length a → length a ≡ length b → length a ≤ i + 8 → {x y : ℕ} → IsWord (piece a (length a - 8) 8) x → IsWord (piece b (length a - 8) 8) y → x ≡ y → true ≡ same a b
-words-same a b i inv h e l u v q = last-same a b i (length a - 8) (i - (length a - 8)) inv (omega arith) (omega arith) (omega arith) u v q

@@ -2,7 +2,7 @@
 //
 // `put_ordered` fills a lent array from any model of at most 1,024 items, and `number_of` promises of a name what
 // the model's `last_named` says of enums, composites and types. A search compares ten names at most, whatever the names
-// are. Beside these stands what they share with the searches by a hash: which kinds declare, and whether two names are one.
+// are. Beside these stands what they share with the searches by a hash: which kinds declare.
 use words::word_at;
 use xmlschema::items::COMPOSITE;
 use xmlschema::items::ENUM;
@@ -14,7 +14,6 @@ use xmlschema::items::name_of;
 ghost use mathlib.Core.Path.{_≡_};
 ghost use Prim.Native.Nat.{_+_, _<_, _≤_};
 ghost use lib.ListN.{length, drop, set};
-ghost use Rattle.texts.specs.Text.{same};
 ghost use Rattle.xmlschema.specs.Schema.{lastNamed, anEnum, aComposite, aType};
 ghost use Rattle.xmlschema.specs.Store.{schemaOf};
 ghost use Rattle.ordered.specs.Ordered.{order, declares, numbered, Rising, Placed, Inserted, Ordered, Meeting};
@@ -68,48 +67,6 @@ fn compared(a: &[u8], b: &[u8]) -> Order
         i += 8;
     }
     compared_from(a, b, i)
-}
-
-fn same_short(a: &[u8], b: &[u8]) -> bool
-    ensures { λ r. ⌜ r ≡ same (now (a .entry)) (now (b .entry)) ⌝ }
-{
-    match compared(a, b) {
-        Order::Less => false,
-        Order::Same => true,
-        Order::Greater => false,
-    }
-}
-
-// Two names of one length, 8 bytes at least: their words, the last of them up to their ends.
-fn same_long(a: &[u8], b: &[u8]) -> bool
-    requires { ⌜ (8 ≤ length (now a)) × (length (now a) ≡ length (now b)) ⌝ }
-    ensures { λ r. ⌜ r ≡ same (now (a .entry)) (now (b .entry)) ⌝ }
-{
-    let mut k = 0;
-    while k + 8 < a.len() {
-        if word_at(a, k) != word_at(b, k) {
-            return false;
-        }
-        k += 8;
-    }
-    let last = a.len() - 8;
-    if word_at(a, last) != word_at(b, last) {
-        return false;
-    }
-    true
-}
-
-// Whether two names are one.
-pub fn same_name(a: &[u8], b: &[u8]) -> bool
-    ensures { λ r. ⌜ r ≡ same (now (a .entry)) (now (b .entry)) ⌝ }
-{
-    if a.len() != b.len() {
-        return false;
-    }
-    if a.len() < 8 {
-        return same_short(a, b);
-    }
-    same_long(a, b)
 }
 
 // ---- names in order

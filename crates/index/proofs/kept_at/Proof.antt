@@ -3,7 +3,7 @@ use Rattle.index.proofs.kept_at.Statement.{statement}
 use Rattle.index.proofs.kept_at.Tie as tie
 use Rattle.index.proofs.kept_at.Reads as reads
 use Rattle.index.proofs.kept_at.Lts as lts
-use Rattle.ordered.proofs.same_name.Reads as same-name-reads
+use Rattle.words.proofs.same_name.Reads as same-name-reads
 use Rattle.xmlschema.proofs.items.item.Reads as item-reads
 use Rattle.xmlschema.proofs.items.name_of.Reads as name-of-reads
 

@@ -3,7 +3,7 @@ use Rattle.index.proofs.short_word.Statement.{statement}
 use Rattle.index.proofs.short_word.Tie as tie
 use Rattle.index.proofs.short_word.Reads as reads
 use Rattle.index.proofs.short_word.Lts as lts
-use Rattle.index.proofs.half_at.Reads as half-at-reads
+use Rattle.words.proofs.half_at.Reads as half-at-reads
 use Rattle.index.proofs.wide.Reads as wide-reads
 
 -- src/lib.rt:82:16
