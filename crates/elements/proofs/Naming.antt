@@ -1,14 +1,16 @@
 -- Laws of the elements' names: a, b, .. are what the comparisons say, in their order.
 use mathlib.Core.Path.{_≡_, refl, sym, ap, _∙_}
-use mathlib.Core.Bool.{Bool, true, false}
-use mathlib.Core.List.{List}
+use mathlib.Core.Bool.{Bool, true, false, not}
+use mathlib.Core.List.{List, [], _∷_, _++_}
 use Prim.Native.Nat.{ℕ, _+_, _≤_}
 use native.Mathlib.Omega.{arith}
 use lib.Dec.{T, ltb, leb→le, ltb→lt}
-use lib.ListN.{length, drop, length-take, length-drop}
+use lib.ListN.{length, drop, length-take, length-drop, take-append-drop}
+use borrow.Author.Tests.{eq-eqb}
 use Rattle.texts.specs.Choice.{pick}
-use Rattle.texts.specs.Text.{ascii, piece, same}
-use Rattle.texts.proofs.Comparing.{same-lengths}
+use Rattle.texts.specs.Text.{ascii, piece, same, startsWith}
+use Rattle.texts.proofs.Choosing.{by-test}
+use Rattle.texts.proofs.Comparing.{same-lengths, same-equal, starts-yes}
 use Rattle.words.specs.Word.{wordOf}
 use Rattle.words.specs.Standing.{ShortText, LongText, StandsShort, StandsLong}
 use Rattle.words.proofs.Digits.{front-is}
@@ -132,23 +134,39 @@ leaf-of false false true d = refl
 leaf-of false false false true = refl
 leaf-of false false false false = refl
 
+leaf-unless : (name : List ℕ) → same name (ascii "composite") ≡ false → same name (ascii "enum") ≡ false → same name (ascii "validValue") ≡ false → same name (ascii "message") ≡ false → same name (ascii "group") ≡ false → leaf (elementOf name) ≡ true
+unfolding elementOf otherElementOf
+leaf-unless name c e v m g = rw (c, e, v, m, g) (leaf-of (same name (ascii "messageSchema")) (same name (ascii "type")) (same name (ascii "ref")) (same name (ascii "field")))
+
+starts-self : (n r : List ℕ) → startsWith n (n ++ r) ≡ true
+unfolding startsWith
+starts-self [] r = refl
+starts-self (x ∷ n) r = starts-yes x x n (n ++ r) (eq-eqb x x refl) ∙ starts-self n r
+
+-- a name that does not stand there
+unlike : (doc : List ℕ) (at len : ℕ) (name : List ℕ) {modulus front : ℕ} {b : Bool} → ShortText name modulus front → StandsShort doc at modulus front b → not b ≡ true → same (piece doc at len) name ≡ false
+unlike doc at len name {b = b} t s e =
+    by-test (same (piece doc at len) name)
+    (λ y.
+      let rest = drop len (drop at doc) in
+      let z : startsWith name (drop at doc) ≡ true = ap (startsWith name) (sym (take-append-drop len (drop at doc))) ∙ ap (λ x. startsWith name (x ++ rest)) (same-equal (piece doc at len) name y) ∙ starts-self name rest in
+      absurd (let k : not true ≡ true = ap not (sym (s .is name t ∙ z)) ∙ e in let w : _≡_ {A = ℕ} 0 1 = cc in omega arith))
+    (λ f. f)
+
 module _ (doc : List ℕ) (at : ℕ) {len : ℕ} where
-  module _ {b : Bool} where
-    pub leaf-field : StandsShort doc at 1099511627776 431315315046 b → len ≡ 5 → IsLeaf (piece doc at len) b
-    leaf-field s l = record { is = λ t. ap leaf (sym (at-field doc at s t l)) }
+  module _ (h : at + 16 ≤ length doc) where
+    -- of five bytes only "group" is no leaf's, and of four "enum"
+    pub leaf-five : {b : Bool} → StandsShort doc at 1099511627776 483006575207 b → len ≡ 5 → IsLeaf (piece doc at len) (not b)
+    unfolding wordOf
+    leaf-five s l = record { is = λ t. leaf-unless (piece doc at len) (differs doc at {len = len} h (ascii "composite") tt (λ e. omega arith)) (differs doc at {len = len} h (ascii "enum") tt (λ e. omega arith)) (differs doc at {len = len} h (ascii "validValue") tt (λ e. omega arith)) (differs doc at {len = len} h (ascii "message") tt (λ e. omega arith)) (unlike doc at len (ascii "group") (record { few = leb→le 5 8 tt; power = refl; number = refl; bytes = tt }) s t) }
 
-    pub leaf-type : StandsShort doc at 4294967296 1701869940 b → len ≡ 4 → IsLeaf (piece doc at len) b
-    leaf-type s l = record { is = λ t. ap leaf (sym (at-type doc at s t l)) }
+    pub leaf-four : {b : Bool} → StandsShort doc at 4294967296 1836412517 b → len ≡ 4 → IsLeaf (piece doc at len) (not b)
+    unfolding wordOf
+    leaf-four s l = record { is = λ t. leaf-unless (piece doc at len) (differs doc at {len = len} h (ascii "composite") tt (λ e. omega arith)) (unlike doc at len (ascii "enum") (record { few = leb→le 4 8 tt; power = refl; number = refl; bytes = tt }) s t) (differs doc at {len = len} h (ascii "validValue") tt (λ e. omega arith)) (differs doc at {len = len} h (ascii "message") tt (λ e. omega arith)) (differs doc at {len = len} h (ascii "group") tt (λ e. omega arith)) }
 
-  -- none but a leaf has a name of another length
-  pub leaf-other : at + 16 ≤ length doc → (len ≡ 4 → ⊥) → (len ≡ 5 → ⊥) → (len ≡ 7 → ⊥) → (len ≡ 9 → ⊥) → (len ≡ 10 → ⊥) → IsLeaf (piece doc at len) true
-  unfolding elementOf otherElementOf
-  leaf-other h n4 n5 n7 n9 n10 =
-      record {
-        is = λ t.
-            rw (differs doc at h (ascii "composite") tt n9, differs doc at h (ascii "enum") tt n4, differs doc at h (ascii "validValue") tt n10, differs doc at h (ascii "message") tt n7, differs doc at h (ascii "group") tt n5)
-            (leaf-of (same (piece doc at len) (ascii "messageSchema")) (same (piece doc at len) (ascii "type")) (same (piece doc at len) (ascii "ref")) (same (piece doc at len) (ascii "field")));
-      }
+    -- none but a leaf has a name of another length
+    pub leaf-other : (len ≡ 4 → ⊥) → (len ≡ 5 → ⊥) → (len ≡ 7 → ⊥) → (len ≡ 9 → ⊥) → (len ≡ 10 → ⊥) → IsLeaf (piece doc at len) true
+    leaf-other n4 n5 n7 n9 n10 = record { is = λ t. leaf-unless (piece doc at len) (differs doc at h (ascii "composite") tt n9) (differs doc at h (ascii "enum") tt n4) (differs doc at h (ascii "validValue") tt n10) (differs doc at h (ascii "message") tt n7) (differs doc at h (ascii "group") tt n5) }
 
 pub leaf-not : (name : List ℕ) → IsLeaf name false
 leaf-not name = record { is = λ t. absurd (let z : _≡_ {A = ℕ} 0 1 = cc in omega arith) }

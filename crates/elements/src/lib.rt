@@ -66,8 +66,8 @@ pub fn element_of(name: &[u8]) -> Element
     other_element_of(name)
 }
 
-// Whether the name of `len` bytes at `at` is a leaf's (specs/Leaf.antt), whose close only pops the name: "field", "type",
-// or one as long as no name of the others. None is told of in the document's last 15 bytes.
+// Whether the name of `len` bytes at `at` is a leaf's (specs/Leaf.antt), whose close only pops the name: but for five and four
+// bytes its length tells. None is told of in the document's last 15 bytes.
 pub fn is_leaf_at(doc: &[u8], at: usize, len: usize) -> bool
     ensures { λ r. ⌜ IsLeaf (piece (now (doc .entry)) at len) r ⌝ }
 {
@@ -78,8 +78,9 @@ pub fn is_leaf_at(doc: &[u8], at: usize, len: usize) -> bool
         return false;
     }
     match len {
-        5 => stands_short(doc, at, 0x100_0000_0000, 0x64_6c65_6966),
-        4 => stands_short(doc, at, 0x1_0000_0000, 0x6570_7974),
+        // "group", "enum"
+        5 => !stands_short(doc, at, 0x100_0000_0000, 0x70_756f_7267),
+        4 => !stands_short(doc, at, 0x1_0000_0000, 0x6d75_6e65),
         7 | 9 | 10 => false,
         _ => true,
     }

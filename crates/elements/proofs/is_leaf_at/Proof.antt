@@ -1,4 +1,6 @@
+use Prim.Native.Nat.{_+_, _≤_}
 use native.Mathlib.Omega.{arith}
+use lib.ListN.{length}
 use Rattle.elements.proofs.Naming.{leaf-other}
 use Rattle.elements.proofs.Laws.{laws}
 use Rattle.elements.proofs.is_leaf_at.Statement.{statement}
@@ -29,11 +31,17 @@ stands-short-requires-2 c κs = search laws
 
 -- src/lib.rt:71:1
 returns-3 : tie.Need-returns-3
-returns-3 c = search laws
+returns-3 c =
+    let start = c .before .before .before .before .before in
+    let h : start .args .at + 16 ≤ length (start .args .doc .now) = omega arith in
+    search laws
 
 -- src/lib.rt:71:1
 returns-4 : tie.Need-returns-4
-returns-4 c = search laws
+returns-4 c =
+    let start = c .before .before .before .before .before in
+    let h : start .args .at + 16 ≤ length (start .args .doc .now) = omega arith in
+    search laws
 
 -- src/lib.rt:71:1
 returns-5 : tie.Need-returns-5
