@@ -187,6 +187,12 @@ fn tag(begin: &str, each: &str) -> String {
     most(begin, |_| each.to_string(), "/>", 9_999)
 }
 
+/// Elements with names of so many bytes, opened and closed.
+fn paired(length: usize) -> String {
+    let name = "a".repeat(length);
+    full(&format!("<{name}></{name}>"))
+}
+
 /// Bytes of two kinds in no order, without the text that ends the markup around them.
 fn mixed(one: char, other: char, end: &str) -> String {
     let mut rng = Prng::new(0x6d69_7865);
@@ -258,6 +264,17 @@ fn little() -> Vec<(&'static str, String)> {
         ("one long number", format!("<message id='{}'/>", "0".repeat(32_000))),
         ("one long name of '&'", format!("<message name='{}'/>", "&".repeat(32_000))),
         ("one long name of entities", format!("<message name='{}'/>", "&amp;".repeat(6_400))),
+        ("names of 30 bytes, opened and closed", paired(30)),
+        ("names of 100 bytes, opened and closed", paired(100)),
+        ("one name of 16,000 bytes, opened and closed", paired(16_000)),
+        ("names of 60 bytes, closed at once", full(&format!("<{}/>", "a".repeat(60)))),
+        ("one long name of colons", format!("<{}/>", ":".repeat(32_000))),
+        ("one long attribute name", format!("<a {}=''/>", "b".repeat(32_000))),
+        ("tabs and lines in a tag", format!("<a{}/>", "\t\n".repeat(16_000))),
+        ("a name that never ends", full("<a")),
+        ("comments that never end", full("<!--")),
+        ("an instruction that never ends", format!("<?{}", "x".repeat(32_000))),
+        ("a declaration that never ends", format!("<!{}", "x".repeat(32_000))),
         ("refused at its first number", full("<field id='+'/>")),
         ("refused at its last byte", "<a></a>".repeat(4_600) + "<"),
     ]
