@@ -148,9 +148,9 @@ unlike : (doc : List ℕ) (at len : ℕ) (name : List ℕ) {modulus front : ℕ}
 unlike doc at len name {b = b} t s e =
     by-test (same (piece doc at len) name)
     (λ y.
-      let rest = drop len (drop at doc) in
-      let z : startsWith name (drop at doc) ≡ true = ap (startsWith name) (sym (take-append-drop len (drop at doc))) ∙ ap (λ x. startsWith name (x ++ rest)) (same-equal (piece doc at len) name y) ∙ starts-self name rest in
-      absurd (let k : not true ≡ true = ap not (sym (s .is name t ∙ z)) ∙ e in let w : _≡_ {A = ℕ} 0 1 = cc in omega arith))
+    let rest = drop len (drop at doc) in
+    let z : startsWith name (drop at doc) ≡ true = ap (startsWith name) (sym (take-append-drop len (drop at doc))) ∙ ap (λ x. startsWith name (x ++ rest)) (same-equal (piece doc at len) name y) ∙ starts-self name rest in
+    absurd (let k : not true ≡ true = ap not (sym (s .is name t ∙ z)) ∙ e in let w : _≡_ {A = ℕ} 0 1 = cc in omega arith))
     (λ f. f)
 
 module _ (doc : List ℕ) (at : ℕ) {len : ℕ} where

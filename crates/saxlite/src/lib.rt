@@ -8,7 +8,8 @@
 // every tag of a schema has by a word or two; the general way answers for all others. `passing` goes past what changes
 // nothing, as comments and text that nobody collects, in one loop.
 //
-// Nothing is required of a caller. Each promise is one equation with a definition of specs/, on all
+// `step_at`, `read_next`, `ahead`, `attribute` and `decode` require nothing of a caller; `next` and what it calls are lent the
+// table of classes, and ask that it is that table. Each promise is one equation with a definition of specs/, on all
 // inputs: specs/Step.antt, specs/Reader.antt, specs/Attributes.antt and specs/Entities.antt, after 01,
 // "Reading markup". What a step means is specs/Event.antt. `passing` promises that it passed such steps alone
 // (specs/Passing.antt).
