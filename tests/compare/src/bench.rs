@@ -8,6 +8,7 @@ use std::time::{Duration, Instant};
 
 use reference::xmltoproto::xml_to_proto;
 
+use crate::automaton::Automaton;
 use crate::hard::{self, most};
 use crate::library::Converter;
 use crate::prng::Prng;
@@ -134,12 +135,30 @@ fn published() -> (Vec<String>, Prng) {
     (documents, rng)
 }
 
+/// A byte automaton beside the reference, which is by itself too.
+fn limit(document: &str) {
+    let automaton = Automaton::new();
+    let (mut rust, mut bytes) = (Vec::new(), Vec::new());
+    let start = Instant::now();
+    while rust.len() < LEAST || start.elapsed() < BUDGET {
+        rust.extend((0..ROW).map(|_| time(|| reference(black_box(document.as_bytes())))));
+        bytes.extend((0..ROW).map(|_| {
+            time(|| {
+                black_box(automaton.run(black_box(document.as_bytes())));
+            })
+        }));
+    }
+    let (rust, bytes) = (median(rust), median(bytes));
+    println!("a byte automaton over {} bytes: {bytes:.2} us, ratio {:.3}", document.len(), bytes / rust);
+}
+
 pub fn run() -> bool {
     drop(std::panic::take_hook());
     let (documents, mut rng) = published();
     for document in &documents {
         line("as published", document, measure(document));
     }
+    limit(documents.last().expect("there are documents"));
     let document = dense(&mut rng, 250, 420);
     line("250 types, 420 fields that name them", &document, measure(&document));
     for length in [4_000, 8_000, 16_000, 32_000] {

@@ -1,6 +1,7 @@
 //! Compares the proved library with the Rust reference, and records samples of the reference's
 //! answers. tests/README.md says how to run it and how to add a suite.
 
+mod automaton;
 mod bench;
 mod convert;
 mod damage;
