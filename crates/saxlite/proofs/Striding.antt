@@ -7,7 +7,7 @@ use native.Mathlib.Omega.{arith}
 use lib.ListN.{length, getD}
 use borrow.Author.Needs.{needs}
 use Rattle.texts.specs.Scan.{scan}
-use Rattle.texts.proofs.Scanning.{Scanning, scan-start, scan-on, scan-stop}
+use Rattle.texts.proofs.Scanning.{Scanning, scan-start, scan-on, scan-stop, scan-end}
 
 -- what a test says of a byte, where the scan goes on at those that fail it; and its contrary, where at those that pass it
 pub fails : {a b c : Bool} → a ≡ b → a ≡ c → not b ≡ not c
@@ -58,4 +58,4 @@ four-within h e = omega arith
 pub stride-rest : {p : ℕ → Bool} {s : List ℕ} {at i : ℕ} → Scanning p s at i → {r : ℕ} → r ≡ scan p s i → r ≡ scan p s at
 stride-rest inv e = e ∙ inv .rest
 
-pub ruleset striding = (scan-start, four-within, stride-rest, needs)
+pub ruleset striding = (scan-start, scan-on, scan-stop, scan-end, four-within, stride-rest, needs)

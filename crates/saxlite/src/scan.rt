@@ -27,8 +27,8 @@ fn skip_space_each(doc: &[u8], at: usize, t: &[u8; 256]) -> usize
     i
 }
 
-// Past the spaces at `at`: four bytes for each test of the end.
-pub fn skip_space(doc: &[u8], at: usize, t: &[u8; 256]) -> usize
+// The same, four bytes for each test of the end.
+fn skip_space_fours(doc: &[u8], at: usize, t: &[u8; 256]) -> usize
     requires { ⌜ IsTable (now t) ⌝ }
     ensures { λ r. ⌜ r ≡ scan isSpace (now (doc .entry)) at ⌝ }
 {
@@ -53,6 +53,20 @@ pub fn skip_space(doc: &[u8], at: usize, t: &[u8; 256]) -> usize
         i += 4;
     }
     skip_space_each(doc, i, t)
+}
+
+// Past the spaces at `at`: where a tag has none, as mostly, one byte tells it.
+pub fn skip_space(doc: &[u8], at: usize, t: &[u8; 256]) -> usize
+    requires { ⌜ IsTable (now t) ⌝ }
+    ensures { λ r. ⌜ r ≡ scan isSpace (now (doc .entry)) at ⌝ }
+{
+    if doc.len() <= at {
+        return at;
+    }
+    if is_space_in(t, doc[at]) {
+        return skip_space_fours(doc, at + 1, t);
+    }
+    at
 }
 
 // Where the tag name at `at` ends, byte by byte.
