@@ -272,6 +272,7 @@ fn little() -> Vec<(&'static str, String)> {
         ("one long attribute name", format!("<a {}=''/>", "b".repeat(32_000))),
         ("tabs and lines in a tag", format!("<a{}/>", "\t\n".repeat(16_000))),
         ("a name that never ends", full("<a")),
+        ("a name of letters that never ends", full("<messageSchema")),
         ("comments that never end", full("<!--")),
         ("an instruction that never ends", format!("<?{}", "x".repeat(32_000))),
         ("a declaration that never ends", format!("<!{}", "x".repeat(32_000))),
