@@ -8,25 +8,25 @@
 //     0x82 local name, 0x83 decoded value: an attribute, of each name one, in the order of the names
 //     0x84 local name of a close
 //
-// The value is the one that `saxlite::tag::attribute` finds under the name. Nothing here is part of
+// The value is the one that `tags::tag::attribute` finds under the name. Nothing here is part of
 // the product; no contract is given beyond safety and termination.
 pub mod model;
 
+use entities::Decoded;
+use entities::decode;
 use printing::put_byte;
 use printing::put_bytes;
 use refusals::Refusal;
-use saxlite::entities::Decoded;
-use saxlite::entities::decode;
 use saxlite::reader::Event;
 use saxlite::reader::at_end;
 use saxlite::reader::cursor_at;
 use saxlite::reader::read_next;
-use saxlite::scan::is_xmlns;
-use saxlite::scan::prefix_len;
-use saxlite::tag::Found;
-use saxlite::tag::TagPart;
-use saxlite::tag::attribute;
-use saxlite::tag::tag_part;
+use tags::scan::is_xmlns;
+use tags::scan::prefix_len;
+use tags::tag::Found;
+use tags::tag::TagPart;
+use tags::tag::attribute;
+use tags::tag::tag_part;
 use texts::part;
 
 const TEXT: u8 = 0x80;

@@ -20,15 +20,15 @@ use Rattle.words.specs.Word.{wordOf}
 use Rattle.words.specs.Standing.{ShortText, StandsShort, Lacks}
 use Rattle.words.proofs.Standing.{power-some}
 use Rattle.refusals.specs.declared.Refusal.the-variants.{OpenComment, OpenInstruction, OpenDeclaration}
-use Rattle.saxlite.specs.declared.scan.Occurrence.{Occurrence}
-use Rattle.saxlite.specs.declared.scan.Occurrence.the-variants.{At, Nowhere}
+use Rattle.tags.specs.declared.scan.Occurrence.{Occurrence}
+use Rattle.tags.specs.declared.scan.Occurrence.the-variants.{At, Nowhere}
+use Rattle.tags.specs.Find.{findIn, findFrom}
+use Rattle.tags.specs.Names.{prefixLength}
+use Rattle.tags.proofs.Searching.{stands-within, byte-stands, scan-within, find-here, find-next, find-none, Searching, search-start, search-on, found-from, found-inside, found-past}
 use Rattle.saxlite.specs.declared.step.Step.{Step}
 use Rattle.saxlite.specs.declared.step.Step.the-variants.{Close, Skipped}
-use Rattle.saxlite.specs.Find.{findIn, findFrom}
-use Rattle.saxlite.specs.Names.{prefixLength}
 use Rattle.saxlite.specs.Step.{stepAt, markupAt}
 use Rattle.saxlite.specs.Passing.{Idles, text, skipped, nameless, Idle, stay, on, FoundAt, PastEnd}
-use Rattle.saxlite.proofs.Searching.{stands-within, byte-stands, scan-within, find-here, find-next, find-none, Searching, search-start, search-on, found-from, found-inside, found-past}
 use Rattle.saxlite.proofs.Stepping.{past-found, close-ends, markup-comment, markup-instruction, markup-declaration, markup-close, step-markup, step-text}
 use Rattle.saxlite.proofs.Moving.{text-within, close-within, skipped-within}
 

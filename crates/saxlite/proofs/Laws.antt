@@ -1,22 +1,14 @@
--- Every law that the proofs of this crate's functions cite, in one set: `search laws` at each need.
+-- The laws that the proofs of the steps cite, in one set: `search laws` at each need. Those of a close tag whose name is known are a
+-- set beside it, and so are those of passing (Idling.antt), reading and noting.
 use borrow.Author.Needs.{needs}
 use Rattle.texts.proofs.Scanning.{scan-start, scan-on, scan-stop, scan-end, until-on, until-stop, byte-on, byte-stop}
-use Rattle.saxlite.proofs.Searching.{stands-on, stands-fits, search-start, search-found, search-on, search-none}
-use Rattle.saxlite.proofs.Decoding.{unit-plain, unit-lt, unit-gt, unit-quot, unit-apos, unit-and, unit-bare, unit-add, unit-less, decoding-start, decoding-on, decoding-end, decoding-not, decoding-short, decoding-same}
-use Rattle.saxlite.proofs.Naming.{prefix-some, prefix-none, lost-within, lost-fits, xmlns-whole, xmlns-front}
-use Rattle.saxlite.proofs.Parting.{quoted-ends, quoted-open, value-double, value-single, value-none, attribute-unnamed, attribute-valued, attribute-bare, part-open, part-end, part-self-end, part-attribute}
-use Rattle.saxlite.proofs.Tagging.{going-start, part-less, part-value, going-on, going-end, going-bad}
-use Rattle.saxlite.proofs.Looking.{found-none, found-some, latest-this, latest-earlier, named-xmlns, named-local, looking-start, looking-on, looking-end, looking-bad}
-use Rattle.saxlite.proofs.Noting.{noted-each, as-end, as-text, as-refused, as-past, as-close, as-other, as-open}
+use Rattle.tags.proofs.Searching.{stands-on, stands-fits}
+use Rattle.tags.proofs.Naming.{prefix-some, prefix-none, lost-within, lost-fits}
+use Rattle.tags.proofs.Begun.{closing-fits, closing-next-fits, closing-lost, closing-local-fits, begun-from, begun-lost, begun-fits}
+use Rattle.saxlite.proofs.Noting.{as-end, as-text, as-refused, as-past, as-close, as-other, as-open}
 use Rattle.saxlite.proofs.Stepping.{past-step, past-refused, close-ends, close-open, open-unnamed, open-ends, open-broken, markup-comment, markup-instruction, markup-declaration, markup-close, markup-open, step-end, step-markup, step-text}
-use Rattle.saxlite.proofs.Knowing.{spaced-fits, spaced-quick, known-less, other-quick}
-use Rattle.saxlite.proofs.Telling.{short-power, long-power, known-short, known-long, known-encoding, told-name, told-id, told-type, told-length, told-primitivetype, told-encodingtype, told-description, told-semantictype, told-offset, told-blocklength, told-presence, told-sinceversion, told-version, told-package, told-byteorder, known-version, known-none}
-use Rattle.saxlite.proofs.Coding.{codes-schema, codes-type, codes-enum, codes-other, keys-schema, keys-type, keys-enum, keys-field, known-past, known-more, named-below, by-name, looked-end, looked-bad, other-schema, other-type, other-enum, other-field, all-start, quick-less, quick-value, quick-named, quick-on, quick-end, quick-bad, all-on, all-end, all-bad, by-keys}
-use Rattle.saxlite.proofs.Begun.{begin-none, begin-short, begin-long, begin-short-power, begin-long-power, begin-field, begin-type, begin-enum, begin-group, begin-ref, begin-value, begin-composite, begin-prefixed, begin-message, close-enum, close-group, close-value, close-composite, close-prefixed, close-message, close-types, begin-schema, begin-fits, known-begins, bare-fits, bare-begins, closing-fits, closing-next-fits, closing-lost, closing-local-fits, known-closes, plain-begins, begun-from, begun-lost, begun-fits, begun-unnamed, begun-open, begun-broken}
+use Rattle.saxlite.proofs.Tagged.{known-closes, begun-unnamed, begun-open, begun-broken}
 
-pub ruleset laws = (scan-start, scan-on, scan-stop, scan-end, until-on, until-stop, byte-on, byte-stop, stands-on, stands-fits, search-start, search-found, search-on, search-none, unit-plain, unit-lt, unit-gt, unit-quot, unit-apos, unit-and, unit-bare, unit-add, unit-less, decoding-start, decoding-on, decoding-end, decoding-not, decoding-short, decoding-same, prefix-some, prefix-none, lost-within, lost-fits, xmlns-whole, xmlns-front, quoted-ends, quoted-open, value-double, value-single, value-none, attribute-unnamed, attribute-valued, attribute-bare, part-open, part-end, part-self-end, part-attribute, going-start, part-less, part-value, going-on, going-end, going-bad, found-none, found-some, latest-this, latest-earlier, named-xmlns, named-local, looking-start, looking-on, looking-end, looking-bad, past-step, past-refused, close-ends, close-open, open-unnamed, open-ends, open-broken, markup-comment, markup-instruction, markup-declaration, markup-close, markup-open, step-end, step-markup, step-text, noted-each, as-end, as-text, as-refused, as-past, as-close, as-other, as-open, spaced-fits, spaced-quick, known-less, other-quick, codes-schema, codes-type, codes-enum, codes-other, keys-schema, keys-type, keys-enum, keys-field, known-past, known-more, named-below, by-name, looked-end, looked-bad, other-schema, other-type, other-enum, other-field, all-start, quick-less, quick-value, quick-named, quick-on, quick-end, quick-bad, all-on, all-end, all-bad, by-keys, begun-from, begun-lost, begun-fits, begun-unnamed, begun-open, begun-broken, needs)
+pub ruleset laws = (scan-start, scan-on, scan-stop, scan-end, until-on, until-stop, byte-on, byte-stop, stands-on, stands-fits, prefix-some, prefix-none, lost-within, lost-fits, past-step, past-refused, close-ends, close-open, open-unnamed, open-ends, open-broken, markup-comment, markup-instruction, markup-declaration, markup-close, markup-open, step-end, step-markup, step-text, as-end, as-text, as-refused, as-past, as-close, as-other, as-open, begun-from, begun-lost, begun-fits, begun-unnamed, begun-open, begun-broken, needs)
 
--- known names, by words
-pub ruleset telling = (short-power, long-power, known-short, known-long, known-encoding, told-name, told-id, told-type, told-length, told-primitivetype, told-encodingtype, told-description, told-semantictype, told-offset, told-blocklength, told-presence, told-sinceversion, told-version, told-package, told-byteorder, known-version, known-none, needs)
-
-pub ruleset beginning = (begin-none, begin-short, begin-long, begin-short-power, begin-long-power, begin-field, begin-type, begin-enum, begin-group, begin-ref, begin-value, begin-composite, begin-prefixed, begin-message, close-enum, close-group, close-value, close-composite, close-prefixed, close-message, close-types, begin-schema, begin-fits, known-begins, bare-fits, bare-begins, closing-fits, closing-next-fits, closing-lost, closing-local-fits, known-closes, plain-begins, prefix-some, prefix-none, lost-within, lost-fits, needs)
+pub ruleset closing = (closing-fits, closing-next-fits, closing-lost, closing-local-fits, known-closes, needs)

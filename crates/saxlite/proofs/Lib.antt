@@ -1,25 +1,9 @@
 -- Laws of the reader: what its own proofs cite, and what the crates above need.
-pub mod Picking
-pub mod Searching
-pub mod Decoding
-pub mod Copying
-pub mod Naming
-pub mod Parting
-pub mod Tagging
-pub mod Placeless
-pub mod Looking
-pub mod Stepping
-pub mod Striding
-pub mod Placing
-pub mod Ranges
+mod Stepping
 pub mod Moving
-pub mod Reading
-pub mod Noting
-pub mod Knowing
-pub mod Telling
-pub mod Coding
-pub mod Declaring
-pub mod Begun
-pub mod Idling
-pub mod Laws
-pub mod Trials
+mod Reading
+mod Noting
+mod Tagged
+mod Idling
+mod Laws
+mod Trials

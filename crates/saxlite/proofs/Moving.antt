@@ -11,24 +11,24 @@ use lib.ListN.{length}
 use borrow.Author.Tests.{leb-true, leb-false}
 use Rattle.texts.specs.Text.{ascii, piece}
 use Rattle.texts.specs.Scan.{scan, until, is}
+use Rattle.texts.proofs.Choosing.{pick-by}
 use Rattle.classes.specs.Class.{isSpace, isTagNameEnd}
 use Rattle.refusals.specs.declared.Refusal.{Refusal}
 use Rattle.refusals.specs.declared.Refusal.the-variants.{OpenComment, OpenInstruction, OpenDeclaration}
-use Rattle.saxlite.specs.declared.scan.Occurrence.{Occurrence}
-use Rattle.saxlite.specs.declared.scan.Occurrence.the-variants.{At, Nowhere}
-use Rattle.saxlite.specs.declared.tag.Ending.{Ending}
-use Rattle.saxlite.specs.declared.tag.Ending.the-variants.{Ends, Broken}
-use Rattle.saxlite.specs.declared.tag.Found.the-variants.{Value}
+use Rattle.tags.specs.declared.scan.Occurrence.{Occurrence}
+use Rattle.tags.specs.declared.scan.Occurrence.the-variants.{At, Nowhere}
+use Rattle.tags.specs.declared.tag.Ending.{Ending}
+use Rattle.tags.specs.declared.tag.Ending.the-variants.{Ends, Broken}
+use Rattle.tags.specs.declared.tag.Found.the-variants.{Value}
+use Rattle.tags.specs.Find.{stands, findFrom}
+use Rattle.tags.specs.Names.{prefixLength}
+use Rattle.tags.specs.Attributes.{tagAt, attributeAt, rawLengths}
+use Rattle.tags.proofs.Searching.{stands-within, scan-within, scan-moves, found-from, found-inside}
+use Rattle.tags.proofs.Naming.{lost-within}
+use Rattle.tags.proofs.Ranges.{different, ending-past, ending-inside, value-lies, values-lie}
 use Rattle.saxlite.specs.declared.step.Step.{Step}
 use Rattle.saxlite.specs.declared.step.Step.the-variants.{Text, Open, Close, Skipped, End, Refused}
-use Rattle.saxlite.specs.Find.{stands, findFrom}
-use Rattle.saxlite.specs.Names.{prefixLength}
-use Rattle.saxlite.specs.Attributes.{tagAt, attributeAt, rawLengths}
 use Rattle.saxlite.specs.Step.{textAt, pastEnd, skippedTo, closeAt, openWith, openAt, markupAt, stepAt}
-use Rattle.saxlite.proofs.Picking.{pick-by}
-use Rattle.saxlite.proofs.Searching.{stands-within, scan-within, scan-moves, found-from, found-inside}
-use Rattle.saxlite.proofs.Naming.{lost-within}
-use Rattle.saxlite.proofs.Ranges.{different, ending-past, ending-inside, value-lies, values-lie}
 
 -- a step from `at` to `next` with a range of the document
 pub record Within (doc : List ℕ) (at from len next : ℕ) : Type 0 where

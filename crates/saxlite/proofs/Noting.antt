@@ -1,34 +1,29 @@
--- Laws of what is noted of a tag: four names by the element, through the step and the reader.
+-- Laws of what is noted of a tag, through the step and the reader.
 use mathlib.Core.Path.{_≡_, _∙_}
 use mathlib.Core.Bool.{Bool, true, false}
 use mathlib.Core.List.{List}
 use Prim.Native.Nat.{ℕ, _+_}
 use borrow.Author.Needs.{needs}
 use Rattle.texts.specs.Choice.{pick}
-use Rattle.texts.specs.Text.{piece, same}
+use Rattle.texts.specs.Text.{piece}
 use Rattle.texts.specs.Scan.{scan, until}
 use Rattle.classes.specs.Class.{isSpace, isTagNameEnd}
 use Rattle.refusals.specs.declared.Refusal.{Refusal}
-use Rattle.saxlite.specs.declared.scan.Occurrence.{Occurrence}
-use Rattle.saxlite.specs.declared.scan.Occurrence.the-variants.{At, Nowhere}
-use Rattle.saxlite.specs.declared.tag.Found.{Found}
-use Rattle.saxlite.specs.declared.tag.Notes.{Notes}
+use Rattle.tags.specs.declared.scan.Occurrence.{Occurrence}
+use Rattle.tags.specs.declared.scan.Occurrence.the-variants.{At, Nowhere}
+use Rattle.tags.specs.declared.tag.Notes.{Notes}
+use Rattle.tags.specs.Find.{stands}
+use Rattle.tags.specs.Noting.{keysOf, NotedBy}
 use Rattle.saxlite.specs.declared.step.Step.{Step}
 use Rattle.saxlite.specs.declared.step.Step.the-variants.{Text, Open, Close, Skipped, End, Refused}
 use Rattle.saxlite.specs.declared.step.NotedStep.{NotedStep}
 use Rattle.saxlite.specs.declared.reader.Event.the-variants as event
 use Rattle.saxlite.specs.declared.reader.Cursor.{Cursor}
 use Rattle.saxlite.specs.declared.reader.Read.{Read}
-use Rattle.saxlite.specs.Find.{stands}
 use Rattle.saxlite.specs.Step.{pastEnd, closeAt, openAt, stepAt}
 use Rattle.saxlite.specs.Reader.{cursorAt, readStep}
-use Rattle.saxlite.specs.Noting.{foundAt, notedOf, keysOf, NotedBy, NotedOf, NotedAs, NotedIn, NotedAt}
+use Rattle.saxlite.specs.Noting.{NotedOf, NotedAs, NotedIn, NotedAt}
 use Rattle.saxlite.proofs.Reading.{read-owed, read-step}
-
--- ---- four names
-
-pub noted-each : (n : Notes) {a b c d : Found} → a ≡ foundAt (n .first) (n .len1) → b ≡ foundAt (n .second) (n .len2) → c ≡ foundAt (n .third) (n .len3) → d ≡ foundAt (n .fourth) (n .len4) → record { first = a; second = b; third = c; fourth = d } ≡ notedOf n
-noted-each n e f g h = rw (e, f, g, h)
 
 -- ---- steps that open nothing
 

@@ -13,14 +13,14 @@ use Rattle.texts.proofs.Choosing.{by-test}
 use Rattle.classes.specs.Class.{isSpace, isTagNameEnd}
 use Rattle.refusals.specs.declared.Refusal.{Refusal}
 use Rattle.refusals.specs.declared.Refusal.the-variants.{OpenComment, OpenInstruction, OpenDeclaration, NoCloseTagEnd, NoTagName}
-use Rattle.saxlite.specs.declared.scan.Occurrence.the-variants.{At}
-use Rattle.saxlite.specs.declared.tag.Ending.{Ending}
-use Rattle.saxlite.specs.declared.tag.Ending.the-variants.{Ends, Broken}
+use Rattle.tags.specs.declared.scan.Occurrence.the-variants.{At}
+use Rattle.tags.specs.declared.tag.Ending.{Ending}
+use Rattle.tags.specs.declared.tag.Ending.the-variants.{Ends, Broken}
+use Rattle.tags.specs.Find.{findFrom}
+use Rattle.tags.specs.Names.{prefixLength}
+use Rattle.tags.specs.Attributes.{tagAt}
 use Rattle.saxlite.specs.declared.step.Step.{Step}
 use Rattle.saxlite.specs.declared.step.Step.the-variants.{Text, Open, Close, Skipped, End, Refused}
-use Rattle.saxlite.specs.Find.{findFrom}
-use Rattle.saxlite.specs.Names.{prefixLength}
-use Rattle.saxlite.specs.Attributes.{tagAt}
 use Rattle.saxlite.specs.Step.{textAt, pastEnd, skippedTo, closeAt, openWith, openAt, markupAt, stepAt}
 use Rattle.saxlite.specs.Passing.{FoundAt, StepPast}
 

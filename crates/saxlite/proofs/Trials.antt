@@ -2,18 +2,14 @@
 use mathlib.Core.Path.{_≡_, refl}
 use mathlib.Core.Bool.{true, false}
 use mathlib.Core.List.{List, [], _∷_}
-use Prim.Native.Nat.{ℕ}
 use Rattle.texts.specs.Text.{ascii, same, startsWith}
 use Rattle.classes.specs.Class.{isSpace, isTagNameEnd, isAttributeNameEnd}
 use Rattle.refusals.specs.declared.Refusal.the-variants.{OpenComment, NoTagName, NoAttributeName, NoEquals, OpenValue}
-use Rattle.saxlite.specs.declared.tag.Found.{Found}
-use Rattle.saxlite.specs.declared.tag.Found.the-variants.{Value, Absent}
+use Rattle.tags.specs.Find.{findIn}
+use Rattle.tags.specs.Names.{prefixLength, isXmlns}
+use Rattle.tags.specs.Attributes.{quotedAt, valueAt, attributePartAt, tagPartAt, withPart, tagWithin}
 use Rattle.saxlite.specs.declared.step.Step.{Step}
 use Rattle.saxlite.specs.declared.step.Step.the-variants.{Text, Open, Close, Refused}
-use Rattle.saxlite.specs.Find.{findIn}
-use Rattle.saxlite.specs.Entities.{entity, front, decodedPast, decoded}
-use Rattle.saxlite.specs.Names.{prefixLength, isXmlns}
-use Rattle.saxlite.specs.Attributes.{quotedAt, valueAt, attributePartAt, tagPartAt, withPart, tagWithin, lastOf, attributeAt}
 use Rattle.saxlite.specs.Step.{textAt, pastEnd, skippedTo, closeAt, openWith, openAt, markupAt, stepAt}
 
 -- the step at the front of each document
@@ -46,19 +42,3 @@ pub trials :
     ∷ []
 unfolding steps stepAt markupAt openAt openWith closeAt skippedTo pastEnd textAt findIn tagWithin withPart tagPartAt attributePartAt valueAt quotedAt prefixLength isXmlns same startsWith isSpace isTagNameEnd isAttributeNameEnd
 trials = refl
-
--- of equal names the last counts, the prefix is lost, and xmlns is dropped
-pub tag : List ℕ
-tag = ascii "<a x='1' p:x='22' xmlns:y='3' xmlns='4' z=''>"
-
-pub found : List Found
-found = attributeAt tag 2 (ascii "x") ∷ attributeAt tag 2 (ascii "y") ∷ attributeAt tag 2 (ascii "xmlns") ∷ attributeAt tag 2 (ascii "z") ∷ []
-
-pub look-ups : found ≡ Value 14 2 ∷ Absent ∷ Absent ∷ Value 43 0 ∷ []
-unfolding found tag attributeAt lastOf tagWithin withPart tagPartAt attributePartAt valueAt quotedAt prefixLength isXmlns same startsWith isSpace isTagNameEnd isAttributeNameEnd
-look-ups = refl
-
--- the five entities, once; every other '&' stays
-pub entities : decoded (ascii "&lt;&gt;&quot;&apos;&amp; &amp;lt; & &x; &amp") ≡ ascii "<>\"'& &lt; & &x; &amp"
-unfolding decodedPast front entity startsWith
-entities = refl

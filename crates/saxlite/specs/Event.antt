@@ -3,12 +3,12 @@ use mathlib.Core.List.{List}
 use mathlib.Core.Option.{Option, none, some}
 use Prim.Native.Nat.{ℕ}
 use Rattle.texts.specs.Text.{piece}
-use Rattle.saxlite.specs.declared.tag.Found.{Found}
-use Rattle.saxlite.specs.declared.tag.Found.the-variants.{Value, Absent}
+use Rattle.entities.specs.Entities.{decoded}
+use Rattle.tags.specs.declared.tag.Found.{Found}
+use Rattle.tags.specs.declared.tag.Found.the-variants.{Value, Absent}
+use Rattle.tags.specs.Attributes.{attributeAt}
 use Rattle.saxlite.specs.declared.step.Step.{Step}
 use Rattle.saxlite.specs.declared.step.Step.the-variants.{Text, Open, Close, Skipped, End, Refused}
-use Rattle.saxlite.specs.Entities.{decoded}
-use Rattle.saxlite.specs.Attributes.{attributeAt}
 
 -- text, decoded; an open with its local name and its attributes, as a function from a name to the decoded value; a close
 pub data Event : Type 0 where

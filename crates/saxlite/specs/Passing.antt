@@ -5,10 +5,10 @@ use mathlib.Core.List.{List}
 use Prim.Native.Nat.{ℕ, _+_, _≤_, _<_}
 use lib.ListN.{length}
 use Rattle.refusals.specs.declared.Refusal.{Refusal}
-use Rattle.saxlite.specs.declared.scan.Occurrence.the-variants.{At, Nowhere}
+use Rattle.tags.specs.declared.scan.Occurrence.the-variants.{At, Nowhere}
+use Rattle.tags.specs.Find.{findFrom}
 use Rattle.saxlite.specs.declared.step.Step.{Step}
 use Rattle.saxlite.specs.declared.step.Step.the-variants.{Text, Close, Skipped, Refused}
-use Rattle.saxlite.specs.Find.{findFrom}
 use Rattle.saxlite.specs.Step.{stepAt}
 
 -- the step of the reader at i leads to j and changes nothing: it is text and none is collected, or skipped, or a close of no name

@@ -10,15 +10,15 @@ use Rattle.texts.specs.Scan.{scan, until, is}
 use Rattle.classes.specs.Class.{isSpace, isTagNameEnd}
 use Rattle.refusals.specs.declared.Refusal.{Refusal}
 use Rattle.refusals.specs.declared.Refusal.the-variants.{OpenComment, OpenInstruction, OpenDeclaration, NoCloseTagEnd, NoTagName}
-use Rattle.saxlite.specs.declared.scan.Occurrence.{Occurrence}
-use Rattle.saxlite.specs.declared.scan.Occurrence.the-variants.{At, Nowhere}
-use Rattle.saxlite.specs.declared.tag.Ending.{Ending}
-use Rattle.saxlite.specs.declared.tag.Ending.the-variants.{Ends, Broken}
+use Rattle.tags.specs.declared.scan.Occurrence.{Occurrence}
+use Rattle.tags.specs.declared.scan.Occurrence.the-variants.{At, Nowhere}
+use Rattle.tags.specs.declared.tag.Ending.{Ending}
+use Rattle.tags.specs.declared.tag.Ending.the-variants.{Ends, Broken}
+use Rattle.tags.specs.Find.{stands, findFrom}
+use Rattle.tags.specs.Names.{prefixLength}
+use Rattle.tags.specs.Attributes.{tagAt}
 use Rattle.saxlite.specs.declared.step.Step.{Step}
 use Rattle.saxlite.specs.declared.step.Step.the-variants.{Text, Open, Close, Skipped, End, Refused}
-use Rattle.saxlite.specs.Find.{stands, findFrom}
-use Rattle.saxlite.specs.Names.{prefixLength}
-use Rattle.saxlite.specs.Attributes.{tagAt}
 
 -- text runs to the next '<' (60)
 unfoldable pub textAt : List ℕ → ℕ → Step

@@ -1,9 +1,9 @@
 // Past what changes nothing, in one loop: text that nobody collects, comments, instructions, declarations, and closes of no
 // name outside of every element. Each is a step of the reader (specs/Passing.antt), and here a turn of its driver less. This
 // is for speed alone: what is not passed is read. Where markup that is skipped ends, the reader asks here too.
-use crate::scan::Occurrence;
-use crate::scan::byte_from;
-use crate::scan::find;
+use tags::scan::Occurrence;
+use tags::scan::byte_from;
+use tags::scan::find;
 use words::pair_from;
 use words::stands_short;
 use words::three_from;

@@ -3,9 +3,9 @@
 use crate::step::Step;
 use crate::step::step_at;
 use crate::step::step_noting;
-use crate::tag::Notes;
-use crate::tag::nothing;
 use refusals::Refusal;
+use tags::tag::Notes;
+use tags::tag::nothing;
 ghost use mathlib.Core.Path.{_≡_};
 ghost use Rattle.classes.specs.Table.{IsTable};
 ghost use Rattle.saxlite.specs.Reader.{readAt, readStep, atEnd, cursorAt};

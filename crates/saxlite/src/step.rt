@@ -1,18 +1,18 @@
 // One step of the reader.
-use crate::beginning::begin_at;
-use crate::beginning::closing_at;
 use crate::passing::comment_far;
 use crate::passing::instruction_far;
-use crate::scan::byte_from;
-use crate::scan::prefix_len;
-use crate::scan::skip_space;
-use crate::scan::tag_name_end;
-use crate::tag::Ending;
-use crate::tag::Notes;
-use crate::tag::nothing;
-use crate::tag::tag_noting;
 use classes::table;
 use refusals::Refusal;
+use tags::beginning::begin_at;
+use tags::beginning::closing_at;
+use tags::scan::byte_from;
+use tags::scan::prefix_len;
+use tags::scan::skip_space;
+use tags::scan::tag_name_end;
+use tags::tag::Ending;
+use tags::tag::Notes;
+use tags::tag::nothing;
+use tags::tag::tag_noting;
 ghost use mathlib.Core.Path.{_≡_};
 ghost use Prim.Native.Nat.{_+_, _≤_, _<_};
 ghost use lib.ListN.{length};

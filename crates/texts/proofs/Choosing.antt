@@ -17,6 +17,16 @@ pick-yes b p q t = rw (t, pick)
 pub pick-no {ℓ} : {A : Type ℓ} (b : Bool) (p q : A) → b ≡ false → pick b p q ≡ q
 pick-no b p q t = rw (t, pick)
 
+-- what holds of both answers holds of the one picked
+pub pick-by : {X : Type 0} (P : X → Type 0) (b : Bool) {x y : X} → (b ≡ true → P x) → (b ≡ false → P y) → P (pick b x y)
+pick-by P true f g = f refl
+pick-by P false f g = g refl
+
+-- and what relates two pairs of answers relates those picked
+pub pick-both : {X : Type 0} (R : X → X → Type 0) (b : Bool) {x y u v : X} → R x u → R y v → R (pick b x y) (pick b u v)
+pick-both R true f g = f
+pick-both R false f g = g
+
 pub is-true : (b : Bool) → T b → b ≡ true
 is-true true t = refl
 is-true false t = absurd t

@@ -7,10 +7,10 @@ use lib.ListN.{length, take, drop, length-take}
 use lib.Seq.{sets, drop-drop, take-take}
 use Rattle.texts.specs.Text.{piece}
 use Rattle.texts.proofs.Stores.{take-sets, drop-sets, piece-below}
-use Rattle.saxlite.specs.declared.tag.Found.{Found}
-use Rattle.saxlite.specs.Attributes.{attributeAt, rawLength, rawLengths}
+use Rattle.tags.specs.declared.tag.Found.{Found}
+use Rattle.tags.specs.Attributes.{attributeAt, rawLength, rawLengths}
 use Rattle.saxlite.proofs.Moving.{values-fit}
-use Rattle.saxlite.proofs.Ranges.{different}
+use Rattle.tags.proofs.Ranges.{different}
 use lib.Dec.{T}
 use Rattle.xmlschema.specs.Layout.{builderOf, Alike, Kept, Ready, Tagged}
 use Rattle.xmlschema.specs.Taking.{Scratched}

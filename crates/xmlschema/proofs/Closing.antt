@@ -16,7 +16,7 @@ use Rattle.texts.specs.declared.Range.{Range}
 use Rattle.texts.proofs.Stores.{piece-stored, piece-below, take-sets}
 use Rattle.refusals.specs.declared.Refusal.{Refusal}
 use Rattle.refusals.specs.declared.Refusal.the-variants.{WrongClose}
-use Rattle.saxlite.specs.Entities.{decoded}
+use Rattle.entities.specs.Entities.{decoded}
 use Rattle.xmlschema.specs.Schema.{Item, Schema, noItem, itemAt, under, last, positionsFrom, aValue}
 use Rattle.xmlschema.specs.Search.{lastUnder}
 use Rattle.xmlschema.specs.Builder.{Builder, Currents, Outcome, on, refused, withStack, withText, withSchema, withItems, withSecond, givenTo, valueOfEnum, closeValue, closeBy, closed, collect, top, rest, nowComposite, nowEnum, nowMessage, nowGroup}

@@ -14,8 +14,8 @@ use Rattle.texts.specs.Choice.{pick}
 use Rattle.texts.specs.Text.{ascii, piece, same}
 use Rattle.texts.proofs.Stores.{piece-above}
 use Rattle.refusals.specs.declared.Refusal.the-variants.{TooDeep}
-use Rattle.saxlite.specs.declared.tag.Found.{Found}
-use Rattle.saxlite.specs.Attributes.{attributeAt, rawLength}
+use Rattle.tags.specs.declared.tag.Found.{Found}
+use Rattle.tags.specs.Attributes.{attributeAt, rawLength}
 use Rattle.saxlite.specs.Event.{valueIn}
 use Rattle.xmlschema.specs.Schema.{Item, Schema, noItem, itemAt}
 use Rattle.xmlschema.specs.Builder.{Builder, Outcome, on, refused, Attributes, numberIn, textIn, orEmpty, withSchema, openSchema, openType, openRef, openComposite, openEnum, openValue, openMessage, openGroup, openField, openBy, opened, top, withStack}

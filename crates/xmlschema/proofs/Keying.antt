@@ -6,10 +6,10 @@ use Rattle.texts.specs.Choice.{pick}
 use Rattle.texts.specs.Text.{ascii, piece, same}
 use Rattle.texts.proofs.Choosing.{by-test, pick-yes, pick-no}
 use Rattle.texts.proofs.Comparing.{same-equal}
-use Rattle.saxlite.specs.declared.tag.Notes.{Notes}
-use Rattle.saxlite.specs.declared.tag.Noted.{Noted}
-use Rattle.saxlite.specs.Attributes.{attributeAt}
-use Rattle.saxlite.specs.Noting.{Keys, schemaKeys, typeKeys, enumKeys, fieldKeys, keysOf, notedOf, NotedBy}
+use Rattle.tags.specs.declared.tag.Notes.{Notes}
+use Rattle.tags.specs.declared.tag.Noted.{Noted}
+use Rattle.tags.specs.Attributes.{attributeAt}
+use Rattle.tags.specs.Noting.{Keys, schemaKeys, typeKeys, enumKeys, fieldKeys, keysOf, notedOf, NotedBy}
 use Rattle.elements.specs.Elements.{elementOf, otherElementOf}
 use Rattle.xmlschema.specs.Taking.{keysFor}
 use Rattle.elements.specs.declared.Element.{Element}

@@ -12,11 +12,11 @@ use Rattle.texts.specs.Choice.{pick, _and_}
 use Rattle.texts.specs.Text.{ascii, piece, same}
 use Rattle.refusals.specs.declared.Refusal.{Refusal}
 use Rattle.refusals.specs.declared.Refusal.the-variants.{BadNumber, MisplacedField, TooDeep}
-use Rattle.saxlite.specs.declared.tag.Found.{Found}
-use Rattle.saxlite.specs.declared.tag.Noted.{Noted}
-use Rattle.saxlite.specs.Attributes.{attributeAt, rawLength, rawLengths}
+use Rattle.tags.specs.declared.tag.Found.{Found}
+use Rattle.tags.specs.declared.tag.Noted.{Noted}
+use Rattle.tags.specs.Attributes.{attributeAt, rawLength, rawLengths}
 use Rattle.saxlite.specs.Event.{valueIn}
-use Rattle.saxlite.proofs.Ranges.{different}
+use Rattle.tags.proofs.Ranges.{different}
 use Rattle.xmlschema.specs.Schema.{Item, Schema, itemAt, aType, aMember, aRef, aComposite, anEnum, aValue, aMessage, aGroup, aField}
 use Rattle.xmlschema.specs.Builder.{Builder, Outcome, on, refused, added, andThen, plainItem, typeItem, textIn, orEmpty, openSchema, openType, openRef, openComposite, openEnum, openValue, openMessage, openGroup, openField, openBy, opened, top, Attributes, numberIn, nowComposite, nowEnum, nowMessage, nowGroup, withText, nextPosition}
 use Rattle.xmlschema.specs.Whole.{attributesIn}

@@ -24,7 +24,7 @@ use Rattle.saxlite.specs.declared.reader.Event.{Event}
 use Rattle.saxlite.specs.declared.reader.Event.the-variants.{Text, Open, Close, Skipped, End, Refused}
 use Rattle.saxlite.specs.declared.reader.Cursor.{Cursor}
 use Rattle.saxlite.specs.Reader.{readAt, cursorAt, atEnd}
-use Rattle.saxlite.specs.Entities.{decoded}
+use Rattle.entities.specs.Entities.{decoded}
 use Rattle.xmlschema.specs.Schema.{Item, Schema, noItem, itemAt, positionsFrom, under, last, aValue, aType, aMember, aRef, aComposite, anEnum, aMessage, aGroup, aField}
 use Rattle.xmlschema.specs.Builder.{Builder, Outcome, on, refused, Attributes, textIn, numberIn, withStack, withText, withSchema, withItems, withSecond, nowComposite, nowEnum, nowMessage, nowGroup, nextPosition, added, andThen, withNumber, typeItem, plainItem, openSchema, memberTo, openType, refTo, openRef, openComposite, openEnum, valueTo, openValue, openMessage, groupTo, openGroup, fieldUnder, fieldIn, fieldTo, openField, openBy, opened, top, rest, givenTo, valueOfEnum, closeValue, closeBy, closed, collect}
 use Rattle.xmlschema.specs.Whole.{accepted, refusedBy, attributesIn, step, ending, run, empty}

@@ -6,7 +6,7 @@ use Rattle.texts.specs.Text.{piece}
 use Rattle.refusals.specs.declared.Refusal.{Refusal}
 use Rattle.saxlite.specs.declared.reader.Event.{Event}
 use Rattle.saxlite.specs.declared.reader.Event.the-variants.{Text, Open, Close, Skipped, End, Refused}
-use Rattle.saxlite.specs.Entities.{decoded}
+use Rattle.entities.specs.Entities.{decoded}
 use Rattle.xmlschema.specs.Builder.{Builder, on, opened, closed, collect}
 use Rattle.xmlschema.specs.Whole.{step, attributesIn}
 use Rattle.xmlschema.specs.Layout.{builderOf, Kept, Ready, After}

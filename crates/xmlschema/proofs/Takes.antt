@@ -15,14 +15,14 @@ use Rattle.texts.proofs.Choosing.{by-test, both-true}
 use Rattle.texts.proofs.Scanning.{count-yes}
 use Rattle.texts.specs.Text.{piece}
 use Rattle.texts.proofs.Stores.{piece-stored, piece-above}
-use Rattle.saxlite.specs.declared.tag.Found.{Found}
-use Rattle.saxlite.specs.declared.tag.Found.the-variants.{Value, Absent}
-use Rattle.saxlite.specs.declared.tag.Noted.{Noted}
-use Rattle.saxlite.specs.Entities.{decoded}
-use Rattle.saxlite.specs.Attributes.{rawLength}
+use Rattle.tags.specs.declared.tag.Found.{Found}
+use Rattle.tags.specs.declared.tag.Found.the-variants.{Value, Absent}
+use Rattle.tags.specs.declared.tag.Noted.{Noted}
+use Rattle.entities.specs.Entities.{decoded}
+use Rattle.tags.specs.Attributes.{rawLength}
 use Rattle.saxlite.specs.Event.{valueIn}
-use Rattle.saxlite.proofs.Decoding.{decoded-length}
-use Rattle.saxlite.proofs.Copying.{plain-decoded}
+use Rattle.entities.proofs.Decoding.{decoded-length}
+use Rattle.entities.proofs.Copying.{plain-decoded}
 use Rattle.xmlschema.specs.Builder.{orEmpty, isGiven, plainItem}
 use Rattle.xmlschema.specs.Store.{itemOf}
 use Rattle.xmlschema.specs.Layout.{Alike, Steady}

@@ -4,11 +4,11 @@ use mathlib.Core.List.{List}
 use Prim.Native.Nat.{ℕ, _+_, _≤_}
 use lib.ListN.{length}
 use Rattle.texts.specs.Text.{piece}
-use Rattle.saxlite.specs.declared.tag.Found.{Found}
-use Rattle.saxlite.specs.declared.tag.Noted.{Noted}
-use Rattle.saxlite.specs.Attributes.{rawLength}
+use Rattle.tags.specs.declared.tag.Found.{Found}
+use Rattle.tags.specs.declared.tag.Noted.{Noted}
+use Rattle.tags.specs.Attributes.{rawLength}
 use Rattle.saxlite.specs.Event.{valueIn}
-use Rattle.saxlite.specs.Noting.{Keys, schemaKeys, typeKeys, enumKeys, fieldKeys}
+use Rattle.tags.specs.Noting.{Keys, schemaKeys, typeKeys, enumKeys, fieldKeys}
 use Rattle.xmlschema.specs.Schema.{Item}
 use Rattle.numbers.specs.Numbers.{numberOf, parsed}
 use Rattle.numbers.specs.declared.Number.{Number}

@@ -14,8 +14,8 @@ use Rattle.saxlite.specs.declared.reader.Event.{Event}
 use Rattle.saxlite.specs.declared.reader.Event.the-variants.{Text, Open, Close, Skipped, End, Refused}
 use Rattle.saxlite.specs.declared.reader.Cursor.{Cursor}
 use Rattle.saxlite.specs.Reader.{readAt, cursorAt, atEnd}
-use Rattle.saxlite.specs.Entities.{decoded}
-use Rattle.saxlite.specs.Attributes.{attributeAt}
+use Rattle.entities.specs.Entities.{decoded}
+use Rattle.tags.specs.Attributes.{attributeAt}
 use Rattle.saxlite.specs.Event.{valueIn}
 use Rattle.xmlschema.specs.Schema.{Schema}
 use Rattle.xmlschema.specs.Builder.{Builder, Currents, Attributes, Outcome, on, refused, opened, closed, collect}

@@ -21,7 +21,7 @@ use saxlite::reader::Event;
 use saxlite::reader::Reader;
 use saxlite::reader::at_end;
 use saxlite::reader::next;
-use saxlite::tag::Notes;
+use tags::tag::Notes;
 use texts::ascii_end;
 ghost use mathlib.Core.Path.{_≡_};
 ghost use Prim.Native.Nat.{_≤_};

@@ -1,13 +1,13 @@
 // Attribute values taken into the text buffer, from its top downwards; numbers read on the way.
 use crate::items::Entry;
+use entities::decode_room;
 use numbers::Number;
 use numbers::digit_at;
 use numbers::number_of;
-use saxlite::entities::decode_room;
-use saxlite::tag::Found;
-use saxlite::tag::Noted;
-use saxlite::tag::Notes;
-use saxlite::tag::noted_of;
+use tags::tag::Found;
+use tags::tag::Noted;
+use tags::tag::Notes;
+use tags::tag::noted_of;
 use texts::part;
 ghost use mathlib.Core.Path.{_≡_};
 ghost use mathlib.Core.List.{List, []};
@@ -15,10 +15,10 @@ ghost use Prim.Native.Nat.{ℕ, _+_, _≤_};
 ghost use lib.Dec.{eqb};
 ghost use lib.ListN.{length};
 ghost use Rattle.texts.specs.Text.{ascii};
-ghost use Rattle.saxlite.specs.Attributes.{attributeAt, rawLength};
-ghost use Rattle.saxlite.specs.declared.tag.Found.the-variants.{Value};
+ghost use Rattle.tags.specs.Attributes.{attributeAt, rawLength};
+ghost use Rattle.tags.specs.declared.tag.Found.the-variants.{Value};
 ghost use Rattle.saxlite.specs.Event.{valueIn};
-ghost use Rattle.saxlite.specs.Noting.{NotedBy, schemaKeys, typeKeys, enumKeys, fieldKeys};
+ghost use Rattle.tags.specs.Noting.{NotedBy, schemaKeys, typeKeys, enumKeys, fieldKeys};
 ghost use Rattle.xmlschema.specs.Builder.{plainItem, isGiven, orEmpty};
 ghost use Rattle.xmlschema.specs.Taking.{TakenAt, ReadAt, Made, typeItemOf, typeLength};
 

@@ -3,7 +3,7 @@ use Rattle.saxlite.proofs.passing.declaration_end.Statement.{statement}
 use Rattle.saxlite.proofs.passing.declaration_end.Tie as tie
 use Rattle.saxlite.proofs.passing.declaration_end.Reads as reads
 use Rattle.saxlite.proofs.passing.declaration_end.Lts as lts
-use Rattle.saxlite.proofs.scan.byte_from.Reads as byte-from-reads
+use Rattle.tags.proofs.scan.byte_from.Reads as byte-from-reads
 
 -- src/passing.rt:102:12
 shared-slice-read-if2 : tie.Need-shared-slice-read-if2

@@ -3,7 +3,7 @@ use Rattle.saxlite.proofs.passing.found.Statement.{statement}
 use Rattle.saxlite.proofs.passing.found.Tie as tie
 use Rattle.saxlite.proofs.passing.found.Reads as reads
 use Rattle.saxlite.proofs.passing.found.Lts as lts
-use Rattle.saxlite.proofs.scan.find.Reads as find-reads
+use Rattle.tags.proofs.scan.find.Reads as find-reads
 
 -- src/passing.rt:21:9
 find-requires : tie.Need-find-requires

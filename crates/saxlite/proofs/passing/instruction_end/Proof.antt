@@ -1,7 +1,7 @@
 use Prim.Native.Nat.{_+_, _-_, _≤_}
 use lib.ListN.{length}
 use Rattle.texts.specs.Text.{ascii}
-use Rattle.saxlite.proofs.Searching.{Searching}
+use Rattle.tags.proofs.Searching.{Searching}
 use Rattle.saxlite.proofs.Idling.{passing}
 use Rattle.saxlite.proofs.passing.instruction_end.Statement.{statement}
 use Rattle.saxlite.proofs.passing.instruction_end.Tie as tie

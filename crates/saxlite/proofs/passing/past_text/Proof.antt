@@ -3,7 +3,7 @@ use Rattle.saxlite.proofs.passing.past_text.Statement.{statement}
 use Rattle.saxlite.proofs.passing.past_text.Tie as tie
 use Rattle.saxlite.proofs.passing.past_text.Reads as reads
 use Rattle.saxlite.proofs.passing.past_text.Lts as lts
-use Rattle.saxlite.proofs.scan.byte_from.Reads as byte-from-reads
+use Rattle.tags.proofs.scan.byte_from.Reads as byte-from-reads
 
 -- src/passing.rt:151:9
 returns : tie.Need-returns

@@ -6,7 +6,7 @@ use Rattle.saxlite.proofs.reader.read_noting.Lts as lts
 use Rattle.saxlite.proofs.reader.cursor_at.Reads as cursor-at-reads
 use Rattle.saxlite.proofs.reader.read_step.Reads as read-step-reads
 use Rattle.saxlite.proofs.step.step_noting.Reads as step-noting-reads
-use Rattle.saxlite.proofs.tag.nothing.Reads as nothing-reads
+use Rattle.tags.proofs.tag.nothing.Reads as nothing-reads
 
 -- src/reader.rt:140:21
 cursor-at-requires : tie.Need-cursor-at-requires

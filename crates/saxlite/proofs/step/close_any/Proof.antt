@@ -3,9 +3,9 @@ use Rattle.saxlite.proofs.step.close_any.Statement.{statement}
 use Rattle.saxlite.proofs.step.close_any.Tie as tie
 use Rattle.saxlite.proofs.step.close_any.Reads as reads
 use Rattle.saxlite.proofs.step.close_any.Lts as lts
-use Rattle.saxlite.proofs.scan.prefix_len.Reads as prefix-len-reads
-use Rattle.saxlite.proofs.scan.skip_space.Reads as skip-space-reads
-use Rattle.saxlite.proofs.scan.tag_name_end.Reads as tag-name-end-reads
+use Rattle.tags.proofs.scan.prefix_len.Reads as prefix-len-reads
+use Rattle.tags.proofs.scan.skip_space.Reads as skip-space-reads
+use Rattle.tags.proofs.scan.tag_name_end.Reads as tag-name-end-reads
 use Rattle.texts.proofs.part.Reads as part-reads
 use Rattle.texts.proofs.starts_with.Reads as starts-with-reads
 

@@ -1,5 +1,5 @@
 use Rattle.texts.specs.Text.{ascii}
-use Rattle.saxlite.proofs.Searching.{stands-on}
+use Rattle.tags.proofs.Searching.{stands-on}
 use Rattle.saxlite.proofs.Stepping.{past-ends}
 use Rattle.saxlite.proofs.Idling.{scan-found}
 use Rattle.saxlite.proofs.Laws.{laws}
@@ -8,7 +8,7 @@ use Rattle.saxlite.proofs.step.markup_at.Tie as tie
 use Rattle.saxlite.proofs.step.markup_at.Reads as reads
 use Rattle.saxlite.proofs.step.markup_at.Lts as lts
 use Rattle.saxlite.proofs.passing.comment_far.Reads as comment-far-reads
-use Rattle.saxlite.proofs.scan.byte_from.Reads as byte-from-reads
+use Rattle.tags.proofs.scan.byte_from.Reads as byte-from-reads
 use Rattle.saxlite.proofs.passing.instruction_far.Reads as instruction-far-reads
 use Rattle.saxlite.proofs.step.bare.Reads as bare-reads
 use Rattle.saxlite.proofs.step.close_at.Reads as close-at-reads

@@ -3,9 +3,9 @@ use Rattle.saxlite.proofs.step.open_at.Statement.{statement}
 use Rattle.saxlite.proofs.step.open_at.Tie as tie
 use Rattle.saxlite.proofs.step.open_at.Reads as reads
 use Rattle.saxlite.proofs.step.open_at.Lts as lts
-use Rattle.saxlite.proofs.beginning.begin_at.Reads as begin-at-reads
+use Rattle.tags.proofs.beginning.begin_at.Reads as begin-at-reads
 use Rattle.saxlite.proofs.step.bare.Reads as bare-reads
-use Rattle.saxlite.proofs.tag.tag_noting.Reads as tag-noting-reads
+use Rattle.tags.proofs.tag.tag_noting.Reads as tag-noting-reads
 
 -- src/step.rt:112:16
 add-name : tie.Need-add-name

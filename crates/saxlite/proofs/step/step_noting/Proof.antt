@@ -3,7 +3,7 @@ use Rattle.saxlite.proofs.step.step_noting.Statement.{statement}
 use Rattle.saxlite.proofs.step.step_noting.Tie as tie
 use Rattle.saxlite.proofs.step.step_noting.Reads as reads
 use Rattle.saxlite.proofs.step.step_noting.Lts as lts
-use Rattle.saxlite.proofs.scan.byte_from.Reads as byte-from-reads
+use Rattle.tags.proofs.scan.byte_from.Reads as byte-from-reads
 use Rattle.saxlite.proofs.step.bare.Reads as bare-reads
 use Rattle.saxlite.proofs.step.markup_at.Reads as markup-at-reads
 use Rattle.texts.proofs.starts_with.Reads as starts-with-reads

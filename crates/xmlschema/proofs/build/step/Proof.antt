@@ -42,10 +42,10 @@ use denote.Triple.Table.{entered, cited}
 use denote.Triple.Walked.{says, needs, Stays, stay-ref, stay-none, stay-none-slice, gave-slice, walkOf, goes-ref, goes-none, goes-none-slice, goes-gave-slice, Walks, ends-at, walked, walk-meets}
 use denote.Exit.{yes}
 use Rattle.saxlite.specs.declared.reader.Event.{Event}
-use Rattle.saxlite.specs.declared.tag.Notes.{Notes}
+use Rattle.tags.specs.declared.tag.Notes.{Notes}
 use Rattle.saxlite.specs.Noting.{NotedIn}
-use Rattle.saxlite.proofs.tag.Notes as N
-use Rattle.saxlite.proofs.tag.Notes.Laws as N′
+use Rattle.tags.proofs.tag.Notes as N
+use Rattle.tags.proofs.tag.Notes.Laws as N′
 use Rattle.saxlite.proofs.reader.Event as E
 use Rattle.saxlite.proofs.reader.Event.Laws as E′
 use Rattle.xmlschema.specs.Whole.{step}

@@ -59,10 +59,10 @@ use Rattle.saxlite.proofs.reader.Cursor as K
 use Rattle.saxlite.proofs.reader.Cursor.Laws as K′
 use Rattle.saxlite.proofs.reader.Placed as P
 use Rattle.saxlite.proofs.reader.Placed.Laws as P′
-use Rattle.saxlite.specs.declared.tag.Notes.{Notes}
+use Rattle.tags.specs.declared.tag.Notes.{Notes}
 use Rattle.saxlite.specs.Noting.{NotedIn}
-use Rattle.saxlite.proofs.tag.Notes as N
-use Rattle.saxlite.proofs.tag.Notes.Laws as N′
+use Rattle.tags.proofs.tag.Notes as N
+use Rattle.tags.proofs.tag.Notes.Laws as N′
 use Rattle.saxlite.proofs.reader.Reader as R
 use Rattle.saxlite.proofs.reader.Reader.Laws as R′
 use Rattle.saxlite.proofs.reader.next as nx

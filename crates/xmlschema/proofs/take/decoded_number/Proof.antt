@@ -4,7 +4,7 @@ use Rattle.xmlschema.proofs.take.decoded_number.Tie as tie
 use Rattle.xmlschema.proofs.take.decoded_number.Reads as reads
 use Rattle.xmlschema.proofs.take.decoded_number.Lts as lts
 use Rattle.numbers.proofs.number_of.Reads as number-of-reads
-use Rattle.saxlite.proofs.entities.decode_room.Reads as decode-room-reads
+use Rattle.entities.proofs.decode_room.Reads as decode-room-reads
 use Rattle.texts.proofs.part.Reads as part-reads
 
 -- src/take.rt:88:9

@@ -1,11 +1,11 @@
-use Rattle.saxlite.specs.Noting.{enumKeys}
+use Rattle.tags.specs.Noting.{enumKeys}
 use Rattle.xmlschema.proofs.Keying.{first-said, second-said}
 use Rattle.xmlschema.proofs.Laws.{taking}
 use Rattle.xmlschema.proofs.take.enum_attributes.Statement.{statement}
 use Rattle.xmlschema.proofs.take.enum_attributes.Tie as tie
 use Rattle.xmlschema.proofs.take.enum_attributes.Reads as reads
 use Rattle.xmlschema.proofs.take.enum_attributes.Lts as lts
-use Rattle.saxlite.proofs.tag.noted_of.Reads as noted-of-reads
+use Rattle.tags.proofs.tag.noted_of.Reads as noted-of-reads
 
 -- src/take.rt:47:5
 noted-of-requires : tie.Need-noted-of-requires

@@ -1,11 +1,11 @@
-use Rattle.saxlite.specs.Noting.{fieldKeys}
+use Rattle.tags.specs.Noting.{fieldKeys}
 use Rattle.xmlschema.proofs.Keying.{first-said, second-said, third-said}
 use Rattle.xmlschema.proofs.Laws.{taking}
 use Rattle.xmlschema.proofs.take.field_attributes.Statement.{statement}
 use Rattle.xmlschema.proofs.take.field_attributes.Tie as tie
 use Rattle.xmlschema.proofs.take.field_attributes.Reads as reads
 use Rattle.xmlschema.proofs.take.field_attributes.Lts as lts
-use Rattle.saxlite.proofs.tag.noted_of.Reads as noted-of-reads
+use Rattle.tags.proofs.tag.noted_of.Reads as noted-of-reads
 
 -- src/take.rt:55:5
 noted-of-requires : tie.Need-noted-of-requires

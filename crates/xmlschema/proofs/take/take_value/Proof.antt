@@ -3,7 +3,7 @@ use Rattle.xmlschema.proofs.take.take_value.Statement.{statement}
 use Rattle.xmlschema.proofs.take.take_value.Tie as tie
 use Rattle.xmlschema.proofs.take.take_value.Reads as reads
 use Rattle.xmlschema.proofs.take.take_value.Lts as lts
-use Rattle.saxlite.proofs.entities.decode_room.Reads as decode-room-reads
+use Rattle.entities.proofs.decode_room.Reads as decode-room-reads
 
 -- src/take.rt:72:26
 enum-told : tie.Need-enum-told

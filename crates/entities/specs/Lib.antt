@@ -1,0 +1,3 @@
+-- 01, "Reading markup": the entities.
+pub mod Entities
+pub mod Copying

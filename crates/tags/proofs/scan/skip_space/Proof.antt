@@ -1,0 +1,47 @@
+use Rattle.tags.proofs.Striding.{striding}
+use Rattle.tags.proofs.scan.skip_space.Statement.{statement}
+use Rattle.tags.proofs.scan.skip_space.Tie as tie
+use Rattle.tags.proofs.scan.skip_space.Reads as reads
+use Rattle.tags.proofs.scan.skip_space.Lts as lts
+use Rattle.classes.proofs.is_space_in.Reads as is-space-in-reads
+use Rattle.tags.proofs.scan.skip_space_fours.Reads as skip-space-fours-reads
+
+-- src/scan.rt:64:9
+returns : tie.Need-returns
+returns c = search striding
+
+-- src/scan.rt:66:23
+shared-slice-read-is-space-in : tie.Need-shared-slice-read-is-space-in
+shared-slice-read-is-space-in c = search striding
+
+-- src/scan.rt:66:8
+is-space-in-requires : tie.Need-is-space-in-requires
+is-space-in-requires c κs = search striding
+
+-- src/scan.rt:67:38
+add-skip-space-fours : tie.Need-add-skip-space-fours
+add-skip-space-fours c = search striding
+
+-- src/scan.rt:67:9
+skip-space-fours-requires : tie.Need-skip-space-fours-requires
+skip-space-fours-requires c κs = search striding
+
+-- src/scan.rt:67:9
+returns-2 : tie.Need-returns-2
+returns-2 c = search striding
+
+-- src/scan.rt:59:1
+returns-3 : tie.Need-returns-3
+returns-3 c = search striding
+
+pub skip-space-spec : {M : Type 1} → statement M
+skip-space-spec =
+    tie.close
+    (tie.spec
+    returns
+    shared-slice-read-is-space-in
+    is-space-in-requires
+    add-skip-space-fours
+    skip-space-fours-requires
+    returns-2
+    returns-3)
