@@ -7,11 +7,11 @@ use Prim.Native.Nat.{ℕ, _+_, _*_, _-_, _≤_, _<_}
 use native.Mathlib.Omega.{arith}
 use lib.ListN.{length, getD, set, length-set, replicate, length-replicate, getD-replicate, List·getD-eq-default}
 use lib.Seq.{getD-set-same, getD-set-other}
-use Rattle.xmlschema.proofs.Records.{by-less}
-use Rattle.xmlschema.specs.Schema.{Schema, itemAt, lastNamed, aType, aComposite, anEnum}
-use Rattle.xmlschema.specs.Store.{itemOf, schemaOf}
-use Rattle.xmlschema.specs.declared.items.Entry.{Entry}
-use Rattle.xmlschema.specs.declared.items.Model.{Model}
+use Rattle.model.proofs.Records.{by-less}
+use Rattle.model.specs.Schema.{Schema, itemAt, lastNamed, aType, aComposite, anEnum}
+use Rattle.model.specs.Store.{itemOf, schemaOf}
+use Rattle.model.specs.declared.Entry.{Entry}
+use Rattle.model.specs.declared.Model.{Model}
 use Rattle.ordered.specs.Ordered.{declares, numbered}
 use Rattle.ordered.proofs.Reading.{kind-is, owner-is, name-is, second-is}
 use Rattle.index.specs.Declarations.{declaredBy, declarationOf, numberOf}

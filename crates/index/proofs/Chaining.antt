@@ -12,8 +12,8 @@ use lib.Seq.{getD-set-other}
 use borrow.Author.Tests.{eqb-true, eq-eqb}
 use Rattle.texts.specs.Choice.{_and_}
 use Rattle.texts.proofs.Choosing.{by-test, both-true, is-true}
-use Rattle.xmlschema.specs.Schema.{Item, Schema, itemAt, positionsFrom, last}
-use Rattle.xmlschema.proofs.Records.{by-less}
+use Rattle.model.specs.Schema.{Item, Schema, itemAt, positionsFrom, last}
+use Rattle.model.proofs.Records.{by-less}
 use Rattle.ordered.specs.Ordered.{declares, lastBy}
 use Rattle.ordered.proofs.Lasts.{last-yes, last-no}
 use Rattle.ordered.proofs.Numbering.{by-equal}

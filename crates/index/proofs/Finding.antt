@@ -6,13 +6,13 @@ use mathlib.Core.List.{List}
 use Prim.Native.Nat.{ℕ, _+_, _*_, _-_, _≤_, _<_}
 use native.Mathlib.Omega.{arith}
 use lib.ListN.{length, getD, List·getD-eq-default}
-use Rattle.xmlschema.specs.Schema.{Schema, itemAt, noItem, nextUnder, lastNamed, aType, aComposite, anEnum}
-use Rattle.xmlschema.proofs.Records.{by-less}
-use Rattle.xmlschema.specs.Store.{itemOf, schemaOf, found}
-use Rattle.xmlschema.specs.declared.items.Entry.{Entry}
-use Rattle.xmlschema.specs.declared.items.Model.{Model}
-use Rattle.xmlschema.specs.declared.items.Position.{Position}
-use Rattle.xmlschema.specs.declared.items.Position.the-variants.{At, Nothing}
+use Rattle.model.specs.Schema.{Schema, itemAt, noItem, nextUnder, lastNamed, aType, aComposite, anEnum}
+use Rattle.model.proofs.Records.{by-less}
+use Rattle.model.specs.Store.{itemOf, schemaOf, found}
+use Rattle.model.specs.declared.Entry.{Entry}
+use Rattle.model.specs.declared.Model.{Model}
+use Rattle.model.specs.declared.Position.{Position}
+use Rattle.model.specs.declared.Position.the-variants.{At, Nothing}
 use Rattle.index.specs.Declarations.{declarationOf, numberOf}
 use Rattle.index.specs.declared.Declaration.{Declaration}
 use Rattle.index.specs.declared.Declaration.the-variants as declaration

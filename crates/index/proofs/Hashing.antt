@@ -10,8 +10,8 @@ use lib.ListN.{length, getD}
 use borrow.Author.Tests.{eq-eqb, ne-eqb, lt-ltb, le-ltb}
 use Rattle.texts.specs.Choice.{pick}
 use Rattle.texts.specs.Text.{piece}
-use Rattle.xmlschema.specs.Schema.{Schema}
-use Rattle.xmlschema.proofs.Records.{by-less}
+use Rattle.model.specs.Schema.{Schema}
+use Rattle.model.proofs.Records.{by-less}
 use Rattle.words.specs.Word.{wordOf, IsWord, IsHalf}
 use Rattle.index.specs.Index.{shortWord, mix, wordsFrom, longWord, narrowed, hash, HashOf, maskOf, place, HeadOf}
 

@@ -12,9 +12,9 @@ use lib.Seq.{drop-cons}
 use borrow.Author.Tests.{eqb-true, eq-eqb}
 use Rattle.texts.specs.Choice.{pick, _and_}
 use Rattle.texts.proofs.Choosing.{by-test, both-true}
-use Rattle.xmlschema.specs.Schema.{Item, Schema, itemAt, noItem, positionsFrom, first, nextUnder}
-use Rattle.xmlschema.proofs.Records.{by-less}
-use Rattle.xmlschema.proofs.Searching.{ownedSo, first-yes, first-no}
+use Rattle.model.specs.Schema.{Item, Schema, itemAt, noItem, positionsFrom, first, nextUnder}
+use Rattle.model.proofs.Records.{by-less}
+use Rattle.model.proofs.Searching.{ownedSo, first-yes, first-no}
 use Rattle.ordered.proofs.Numbering.{by-equal}
 use Rattle.index.specs.Index.{code, fronted, Linked}
 use Rattle.index.proofs.Fronting.{fronted-head, fronted-at, fronted-other}

@@ -13,11 +13,11 @@ use Rattle.texts.specs.Choice.{pick, _and_}
 use Rattle.texts.specs.Text.{same}
 use Rattle.texts.proofs.Choosing.{by-test, both-true}
 use Rattle.texts.proofs.Comparing.{same-equal}
-use Rattle.xmlschema.specs.Schema.{Item, Schema, itemAt, lastNamed, aType, aComposite, anEnum}
-use Rattle.xmlschema.proofs.Searching.{namedSo}
-use Rattle.xmlschema.specs.Store.{itemOf, schemaOf}
-use Rattle.xmlschema.specs.declared.items.Entry.{Entry}
-use Rattle.xmlschema.specs.declared.items.Model.{Model}
+use Rattle.model.specs.Schema.{Item, Schema, itemAt, lastNamed, aType, aComposite, anEnum}
+use Rattle.model.proofs.Searching.{namedSo}
+use Rattle.model.specs.Store.{itemOf, schemaOf}
+use Rattle.model.specs.declared.Entry.{Entry}
+use Rattle.model.specs.declared.Model.{Model}
 use Rattle.ordered.specs.Ordered.{declares, lastBy}
 use Rattle.ordered.proofs.Reading.{kind-is, name-is}
 use Rattle.ordered.proofs.Lasts.{last-step}

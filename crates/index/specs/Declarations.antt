@@ -5,7 +5,7 @@ use Prim.Native.Nat.{ℕ, _+_}
 use lib.Dec.{eqb, ltb}
 use Rattle.texts.specs.Choice.{pick}
 use Rattle.texts.specs.Text.{same}
-use Rattle.xmlschema.specs.Schema.{Item, Schema, lastNamed, aType, aComposite, anEnum}
+use Rattle.model.specs.Schema.{Item, Schema, lastNamed, aType, aComposite, anEnum}
 use Rattle.index.specs.declared.Declaration.{Declaration}
 use Rattle.index.specs.declared.Declaration.the-variants.{Named, Typed, Nothing}
 

@@ -13,7 +13,7 @@ use lib.ListN.{length, getD, take, set}
 use Rattle.texts.specs.Choice.{pick, _and_}
 use Rattle.texts.specs.Text.{piece}
 use Rattle.words.specs.Word.{wordOf}
-use Rattle.xmlschema.specs.Schema.{Item, Schema, itemAt, positionsFrom, last, nextUnder, aField}
+use Rattle.model.specs.Schema.{Item, Schema, itemAt, positionsFrom, last, nextUnder, aField}
 use Rattle.ordered.specs.Ordered.{declares}
 use Rattle.index.specs.Declarations.{declarationOf, numberOf}
 

@@ -4,6 +4,18 @@
 // promises, and `declared` what its `last_named` says of a field's type name, without walking all items. Where a chain
 // is long, as names that collide make it, the names in order (crate ordered) answer, so no name is compared with all.
 // Nothing is asked of the model: where it has more than 1,024 items, which no document gives, the model's searches answer.
+use model::COMPOSITE;
+use model::ENUM;
+use model::FIELD;
+use model::Model;
+use model::Position;
+use model::TYPE;
+use model::count;
+use model::item;
+use model::last_named;
+use model::name_of;
+use model::next_under;
+use model::second_of;
 use ordered::SIZE as NAMES;
 use ordered::is_declaring;
 use ordered::number_of;
@@ -11,26 +23,14 @@ use ordered::put_ordered;
 use words::half_at;
 use words::same_name;
 use words::word_at;
-use xmlschema::items::COMPOSITE;
-use xmlschema::items::ENUM;
-use xmlschema::items::FIELD;
-use xmlschema::items::Model;
-use xmlschema::items::Position;
-use xmlschema::items::TYPE;
-use xmlschema::items::count;
-use xmlschema::items::item;
-use xmlschema::items::last_named;
-use xmlschema::items::name_of;
-use xmlschema::items::next_under;
-use xmlschema::items::second_of;
 ghost use mathlib.Core.Path.{_≡_};
 ghost use mathlib.Core.Bool.{true};
 ghost use mathlib.Core.Option.{Option};
 ghost use Prim.Native.Nat.{ℕ, _+_, _≤_, _<_};
 ghost use lib.Bits.{bitAnd};
 ghost use lib.ListN.{length, getD, set};
-ghost use Rattle.xmlschema.specs.Schema.{itemAt, nextUnder, aField};
-ghost use Rattle.xmlschema.specs.Store.{schemaOf, found};
+ghost use Rattle.model.specs.Schema.{itemAt, nextUnder, aField};
+ghost use Rattle.model.specs.Store.{schemaOf, found};
 ghost use Rattle.ordered.specs.Ordered.{Ordered};
 ghost use Rattle.index.specs.Index.{code, fronted, shortWord, mix, longWord, narrowed, HashOf, maskOf, HeadOf, Chained, Blank, Naming, Settling, Indexed};
 ghost use Rattle.index.specs.Declarations.{declarationOf, numberOf, keptBy};

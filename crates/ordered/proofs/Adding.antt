@@ -9,11 +9,11 @@ use lib.ListN.{length, getD, set, length-set}
 use lib.Seq.{getD-set-same, getD-set-other}
 use borrow.Author.Tests.{eq-eqb, ne-eqb}
 use Rattle.texts.specs.Text.{same}
-use Rattle.xmlschema.specs.Schema.{Schema, itemAt, lastNamed, aType, aComposite, anEnum}
-use Rattle.xmlschema.specs.Store.{itemOf, schemaOf}
-use Rattle.xmlschema.specs.declared.items.Entry.{Entry}
-use Rattle.xmlschema.specs.declared.items.Model.{Model}
-use Rattle.xmlschema.proofs.Records.{by-less}
+use Rattle.model.specs.Schema.{Schema, itemAt, lastNamed, aType, aComposite, anEnum}
+use Rattle.model.specs.Store.{itemOf, schemaOf}
+use Rattle.model.specs.declared.Entry.{Entry}
+use Rattle.model.specs.declared.Model.{Model}
+use Rattle.model.proofs.Records.{by-less}
 use Rattle.ordered.specs.declared.Order.{Order}
 use Rattle.ordered.specs.declared.Order.the-variants.{Less, Same, Greater}
 use Rattle.ordered.specs.declared.Place.{Place}

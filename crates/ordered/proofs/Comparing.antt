@@ -10,7 +10,7 @@ use borrow.Author.Tests.{eq-eqb, ne-eqb, lt-ltb, le-ltb}
 use Rattle.texts.specs.Text.{piece}
 use Rattle.words.specs.Word.{IsWord}
 use Rattle.words.proofs.Digits.{word-tells}
-use Rattle.xmlschema.proofs.Records.{by-less}
+use Rattle.model.proofs.Records.{by-less}
 use Rattle.ordered.specs.declared.Order.{Order}
 use Rattle.ordered.specs.declared.Order.the-variants.{Less, Same, Greater}
 use Rattle.ordered.specs.Ordered.{order}

@@ -5,7 +5,7 @@ use Prim.Native.Nat.{ℕ, _+_, _-_, _≤_, _<_}
 use native.Mathlib.Omega.{arith}
 use lib.ListN.{length, getD, set, length-set}
 use lib.Seq.{getD-set-same, getD-set-other}
-use Rattle.xmlschema.proofs.Records.{by-less}
+use Rattle.model.proofs.Records.{by-less}
 use Rattle.ordered.specs.Ordered.{Inserted}
 
 -- those from j on have moved up

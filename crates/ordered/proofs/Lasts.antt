@@ -10,8 +10,8 @@ use lib.ListN.{length, take}
 use lib.Seq.{take-suc, length-take-le}
 use Rattle.texts.specs.Choice.{pick}
 use Rattle.texts.proofs.Choosing.{by-test}
-use Rattle.xmlschema.specs.Schema.{Item, Schema, itemAt, noItem, positionsFrom}
-use Rattle.xmlschema.proofs.Searching.{last-snoc, positions-snoc, append-none}
+use Rattle.model.specs.Schema.{Item, Schema, itemAt, noItem, positionsFrom}
+use Rattle.model.proofs.Searching.{last-snoc, positions-snoc, append-none}
 use Rattle.ordered.specs.Ordered.{lastBy}
 
 module _ (p : Item → Bool) (s : Schema) (n : ℕ) (h : n < length (s .items)) where

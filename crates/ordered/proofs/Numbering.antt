@@ -13,8 +13,8 @@ use Rattle.texts.specs.Choice.{pick, _and_, _or_}
 use Rattle.texts.specs.Text.{same}
 use Rattle.texts.proofs.Choosing.{by-test}
 use Rattle.texts.proofs.Comparing.{same-equal, equal-same}
-use Rattle.xmlschema.specs.Schema.{Schema, itemAt, positionsFrom, last, lastNamed, aType, aComposite, anEnum}
-use Rattle.xmlschema.proofs.Searching.{namedSo}
+use Rattle.model.specs.Schema.{Schema, itemAt, positionsFrom, last, lastNamed, aType, aComposite, anEnum}
+use Rattle.model.proofs.Searching.{namedSo}
 use Rattle.ordered.specs.Ordered.{declares, numbered, lastBy, numberIn, worth}
 use Rattle.ordered.proofs.Lasts.{last-step}
 

@@ -4,11 +4,11 @@ use mathlib.Core.List.{List}
 use Prim.Native.Nat.{ℕ, _+_, _≤_, _<_}
 use native.Mathlib.Omega.{arith}
 use lib.ListN.{getD}
-use Rattle.xmlschema.proofs.Records.{by-less}
-use Rattle.xmlschema.specs.Schema.{Schema, itemAt}
-use Rattle.xmlschema.specs.Store.{itemOf, schemaOf}
-use Rattle.xmlschema.specs.declared.items.Entry.{Entry}
-use Rattle.xmlschema.specs.declared.items.Model.{Model}
+use Rattle.model.proofs.Records.{by-less}
+use Rattle.model.specs.Schema.{Schema, itemAt}
+use Rattle.model.specs.Store.{itemOf, schemaOf}
+use Rattle.model.specs.declared.Entry.{Entry}
+use Rattle.model.specs.declared.Model.{Model}
 use Rattle.ordered.specs.declared.Order.{Order}
 use Rattle.ordered.specs.declared.Order.the-variants.{Less, Same, Greater}
 use Rattle.ordered.specs.declared.Place.{Place}

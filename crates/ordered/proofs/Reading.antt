@@ -2,10 +2,10 @@
 use mathlib.Core.Path.{_≡_, ap, _∙_}
 use mathlib.Core.List.{List}
 use Prim.Native.Nat.{ℕ}
-use Rattle.xmlschema.specs.Schema.{Item, itemAt}
-use Rattle.xmlschema.specs.Store.{itemOf, schemaOf}
-use Rattle.xmlschema.specs.declared.items.Entry.{Entry}
-use Rattle.xmlschema.specs.declared.items.Model.{Model}
+use Rattle.model.specs.Schema.{Item, itemAt}
+use Rattle.model.specs.Store.{itemOf, schemaOf}
+use Rattle.model.specs.declared.Entry.{Entry}
+use Rattle.model.specs.declared.Model.{Model}
 
 module _ (m : Model) (rec : List ℕ) (i : ℕ) (e : Entry) (f : (t : List ℕ) → itemOf t e ≡ itemAt (schemaOf m rec t) i) (text : List ℕ) where
   pub kind-is : e .kind ≡ itemAt (schemaOf m rec text) i .kind

@@ -9,7 +9,7 @@ use lib.Dec.{eqb, ltb}
 use lib.ListN.{length, getD, take}
 use Rattle.texts.specs.Choice.{pick, _and_, _or_}
 use Rattle.texts.specs.Text.{same}
-use Rattle.xmlschema.specs.Schema.{Item, Schema, itemAt, positionsFrom, last, aType, aComposite, anEnum}
+use Rattle.model.specs.Schema.{Item, Schema, itemAt, positionsFrom, last, aType, aComposite, anEnum}
 use Rattle.ordered.specs.declared.Order.{Order}
 use Rattle.ordered.specs.declared.Order.the-variants.{Less, Same, Greater}
 use Rattle.ordered.specs.declared.Place.{Place}

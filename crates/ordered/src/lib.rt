@@ -3,19 +3,19 @@
 // `put_ordered` fills a lent array from any model of at most 1,024 items, and `number_of` promises of a name what
 // the model's `last_named` says of enums, composites and types. A search compares ten names at most, whatever the names
 // are. Beside these stands what they share with the searches by a hash: which kinds declare.
+use model::COMPOSITE;
+use model::ENUM;
+use model::Model;
+use model::TYPE;
+use model::count;
+use model::item;
+use model::name_of;
 use words::word_at;
-use xmlschema::items::COMPOSITE;
-use xmlschema::items::ENUM;
-use xmlschema::items::Model;
-use xmlschema::items::TYPE;
-use xmlschema::items::count;
-use xmlschema::items::item;
-use xmlschema::items::name_of;
 ghost use mathlib.Core.Path.{_≡_};
 ghost use Prim.Native.Nat.{_+_, _<_, _≤_};
 ghost use lib.ListN.{length, drop, set};
-ghost use Rattle.xmlschema.specs.Schema.{lastNamed, anEnum, aComposite, aType};
-ghost use Rattle.xmlschema.specs.Store.{schemaOf};
+ghost use Rattle.model.specs.Schema.{lastNamed, anEnum, aComposite, aType};
+ghost use Rattle.model.specs.Store.{schemaOf};
 ghost use Rattle.ordered.specs.Ordered.{order, declares, numbered, Rising, Placed, Inserted, Ordered, Meeting};
 
 // How many names there may be.

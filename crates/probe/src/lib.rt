@@ -1,4 +1,4 @@
-// A library for tests alone: the events of a document, and its model (model.rt), as bytes that two
+// A library for tests alone: the events of a document, and its model (dump.rt), as bytes that two
 // readers can be compared by.
 //
 // `events` reads a document with saxlite's reader from its first byte on. What it writes is a list of
@@ -10,7 +10,7 @@
 //
 // The value is the one that `tags::tag::attribute` finds under the name. Nothing here is part of
 // the product; no contract is given beyond safety and termination.
-pub mod model;
+pub mod dump;
 
 use entities::Decoded;
 use entities::decode;
@@ -302,7 +302,7 @@ pub extern "C" fn probe_schema(
     place: &mut usize,
     n: &mut usize,
 ) -> u32 {
-    let reading = model::schema(document, records, text, output);
+    let reading = dump::schema(document, records, text, output);
     *offset = reading.offset;
     *place = reading.place;
     *n = reading.n;

@@ -4,10 +4,10 @@
 // tested here; `tests/run record` makes it again (tests/README.md). A line of input is the length of
 // a document in four hex digits, a space, and the document in hex. A line of the answer is number,
 // offset, place and n in decimal, then the n bytes of the model in hex, in the form that
-// crates/probe/src/model.rt describes: the whole model, or nothing after a refusal.
+// crates/probe/src/dump.rt describes: the whole model, or nothing after a refusal.
 use libc::STDIN_FILENO;
 use probe::Reading;
-use probe::model::schema;
+use probe::dump::schema;
 use replaying::hex_number;
 use replaying::put_unhexed;
 use replaying::write_hexed;

@@ -17,7 +17,7 @@ use Rattle.refusals.specs.declared.Answer.the-variants.{Accepted, Refused}
 use Rattle.refusals.specs.declared.Refusal.{Refusal}
 use Rattle.refusals.specs.declared.Refusal.the-variants.{NoRoom}
 use Rattle.printing.specs.Output.{finished, outputAfter}
-use Rattle.xmlschema.specs.Schema.{Schema}
+use Rattle.model.specs.Schema.{Schema}
 use Rattle.xmlschema.specs.Whole.{accepted, answerOf}
 use Rattle.xmltoproto.specs.Source.{source}
 use Rattle.xmltoproto.specs.Arrays.{arrayRefusal}

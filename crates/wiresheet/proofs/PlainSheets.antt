@@ -17,7 +17,7 @@ use Rattle.texts.proofs.Comparing.{same-equal}
 use Rattle.classes.specs.Class.{isUpper, isLower}
 use Rattle.charsets.specs.Charset.{compatible}
 use Rattle.numbers.specs.Numbers.{isDigit}
-use Rattle.xmlschema.specs.Schema.{Item, Schema, noItem, itemAt, positionsFrom, allOf, under, last, lastNamed, aType, aComposite, anEnum, aValue, aMember, aRef, aMessage, aField, aGroup}
+use Rattle.model.specs.Schema.{Item, Schema, noItem, itemAt, positionsFrom, allOf, under, last, lastNamed, aType, aComposite, anEnum, aValue, aMember, aRef, aMessage, aField, aGroup}
 use Rattle.xmltoproto.specs.Types.{Form, formOf, builtIn, isChar, isRaw, builtIns, typed, unknown, isDeclared, typeOr, meaning}
 use Rattle.xmltoproto.specs.Composites.{isPrinted, printedComposites}
 use Rattle.wiresheet.specs.Plain.{isLetter, isNameByte, isIdentifier, reserved, Named, Unreserved, PlainValue, PlainEnum, PlainMember, PlainRef, PlainComposite, Resolves, PlainField, PlainGroup, PlainMessage, Plain}

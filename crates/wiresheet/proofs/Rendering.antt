@@ -11,7 +11,7 @@ use Rattle.texts.proofs.Choosing.{by-test}
 use Rattle.printing.specs.Decimal.{decimal}
 use Rattle.names.specs.Conversions.{prefixOf}
 use Rattle.charsets.specs.Charset.{compatible}
-use Rattle.xmlschema.specs.Schema.{Item, Schema, itemAt, allOf, under, aMember, aRef, anEnum, aValue, aMessage, aGroup, aField}
+use Rattle.model.specs.Schema.{Item, Schema, itemAt, allOf, under, aMember, aRef, anEnum, aValue, aMessage, aGroup, aField}
 use Rattle.xmltoproto.specs.Types.{Form, formOf, isChar, isRaw, Proto, asNamed, ofLength, noteOn, asPrimitive, protoOf, Meaning, declared, typed, unknown, meaning, protoBy}
 use Rattle.xmltoproto.specs.Composites.{printedComposites}
 use Rattle.xmltoproto.specs.Source.{packageLine, header, valueText, enumText, line, memberText, refText, partTexts, compositeText, fieldText, groupText, messageText, source}

@@ -9,7 +9,7 @@ use Rattle.printing.specs.Decimal.{decimal}
 use Rattle.printing.specs.Printed.{Printed}
 use Rattle.names.specs.Conversions.{camelToSnake, camelToScreamingSnake, singularPascal}
 use Rattle.charsets.specs.Charset.{compatible}
-use Rattle.xmlschema.specs.Schema.{Item, Schema, itemAt, allOf, under, aMember, aRef, anEnum, aValue, aMessage, aGroup, aField}
+use Rattle.model.specs.Schema.{Item, Schema, itemAt, allOf, under, aMember, aRef, anEnum, aValue, aMessage, aGroup, aField}
 use Rattle.xmltoproto.specs.Types.{Form, formOf, builtIn, chars, isChar, isByte, isRaw, Meaning, meaning}
 use Rattle.xmltoproto.specs.Composites.{printedComposites}
 use Rattle.xmltoproto.specs.Shapes.{form, meaningIn}

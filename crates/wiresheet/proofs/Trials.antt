@@ -10,7 +10,7 @@ use Rattle.names.specs.Letters.{lowered, raised}
 use Rattle.names.specs.Conversions.{camelToSnake, snakeAt, breaksSnake, camelToScreamingSnake, screamingAt, breaksScreaming, endsInIes, endsInS, singular, capitalized, singularPascal}
 use Rattle.charsets.specs.Charset.{isPunctuation, cleaned, compatible}
 use Rattle.numbers.specs.Numbers.{isDigit}
-use Rattle.xmlschema.specs.Schema.{positionsFrom, allOf, under, last, lastNamed}
+use Rattle.model.specs.Schema.{positionsFrom, allOf, under, last, lastNamed}
 use Rattle.xmltoproto.specs.Types.{formOf, builtIn, isChar, chars, isByte, isRaw, isDeclared, meaning}
 use Rattle.xmltoproto.specs.Composites.{isPrinted, printedComposites}
 use Rattle.wiresheet.specs.Plain.{isLetter, isNameByte, isIdentifier, isDotted, isPackage, isDigits, isInteger, Plain}

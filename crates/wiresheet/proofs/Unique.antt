@@ -1,6 +1,6 @@
 -- Demand 3: two plain, accepted schemas have the same source, byte for byte, exactly when their wire sheets are equal.
 use mathlib.Core.Path.{_≡_, ap, sym, _∙_}
-use Rattle.xmlschema.specs.Schema.{Schema}
+use Rattle.model.specs.Schema.{Schema}
 use Rattle.xmltoproto.specs.Source.{source}
 use Rattle.xmltoproto.specs.Arrays.{Accepted}
 use Rattle.wiresheet.specs.Plain.{Plain}

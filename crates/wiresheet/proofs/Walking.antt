@@ -3,11 +3,11 @@ use mathlib.Core.Path.{_≡_}
 use mathlib.Core.List.{List}
 use Prim.Native.Nat.{ℕ, _≤_, _<_}
 use lib.ListN.{length}
-use Rattle.xmlschema.specs.Schema.{nextUnder}
-use Rattle.xmlschema.specs.Store.{schemaOf, found}
-use Rattle.xmlschema.specs.declared.items.Model.{Model}
-use Rattle.xmlschema.specs.declared.items.Position.{Position}
-use Rattle.xmlschema.specs.declared.items.Position.the-variants.{At, Nothing}
+use Rattle.model.specs.Schema.{nextUnder}
+use Rattle.model.specs.Store.{schemaOf, found}
+use Rattle.model.specs.declared.Model.{Model}
+use Rattle.model.specs.declared.Position.{Position}
+use Rattle.model.specs.declared.Position.the-variants.{At, Nothing}
 use Rattle.xmltoproto.proofs.Walking.{underOwner, Next, Last, next-child, last-child, child-within}
 
 module _ (m : Model) (rec text : List ℕ) (kind from : ℕ) {r : Position} where

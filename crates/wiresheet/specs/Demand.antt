@@ -6,7 +6,7 @@ use mathlib.Core.List.{List}
 use Prim.Native.Nat.{ℕ}
 use Rattle.refusals.specs.declared.Answer.{Answer}
 use Rattle.refusals.specs.declared.Answer.the-variants.{Accepted}
-use Rattle.xmlschema.specs.Schema.{Schema}
+use Rattle.model.specs.Schema.{Schema}
 use Rattle.xmlschema.specs.Whole.{Whole, accepted}
 use Rattle.xmltoproto.specs.Generate.{generated}
 use Rattle.wiresheet.specs.Plain.{Plain}

@@ -8,7 +8,7 @@ use Rattle.texts.specs.Text.{ascii}
 use Rattle.texts.specs.Lists.{isEmpty, all, Every, among}
 use Rattle.classes.specs.Class.{isUpper, isLower}
 use Rattle.numbers.specs.Numbers.{isDigit}
-use Rattle.xmlschema.specs.Schema.{Item, Schema, itemAt, allOf, under, aMember, aRef, aComposite, anEnum, aValue, aMessage, aGroup, aField}
+use Rattle.model.specs.Schema.{Item, Schema, itemAt, allOf, under, aMember, aRef, aComposite, anEnum, aValue, aMessage, aGroup, aField}
 use Rattle.xmltoproto.specs.Types.{Meaning, declared, typed, unknown, builtIns, isDeclared, meaning}
 use Rattle.xmltoproto.specs.Composites.{printedComposites}
 

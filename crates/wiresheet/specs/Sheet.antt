@@ -7,7 +7,7 @@ use Rattle.texts.specs.Lists.{each}
 use Rattle.printing.specs.Decimal.{decimal}
 use Rattle.names.specs.Conversions.{camelToSnake, camelToScreamingSnake, singularPascal}
 use Rattle.charsets.specs.Charset.{compatible}
-use Rattle.xmlschema.specs.Schema.{Item, Schema, itemAt, allOf, under, aMember, aRef, anEnum, aValue, aMessage, aGroup, aField}
+use Rattle.model.specs.Schema.{Item, Schema, itemAt, allOf, under, aMember, aRef, anEnum, aValue, aMessage, aGroup, aField}
 use Rattle.xmltoproto.specs.Types.{Form, formOf, isChar, isRaw, chars, Meaning, declared, typed, unknown, meaning}
 use Rattle.xmltoproto.specs.Composites.{printedComposites}
 

@@ -4,7 +4,7 @@ use Prim.Native.Nat.{ℕ}
 use Rattle.texts.specs.Text.{ascii}
 use Rattle.printing.specs.Decimal.{decimal}
 use Rattle.names.specs.Conversions.{camelToSnake, singularPascal}
-use Rattle.xmlschema.specs.Schema.{Schema, itemAt}
+use Rattle.model.specs.Schema.{Schema, itemAt}
 use Rattle.wiresheet.specs.Sheet.{Value, Part, shown, kindShown}
 
 unfoldable pub valueShown : Value → List ℕ

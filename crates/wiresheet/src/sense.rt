@@ -1,11 +1,11 @@
 // What a field's type name stands for, by the model's own searches.
 use index::Declaration;
 use index::declaration_in;
-use xmlschema::items::Model;
+use model::Model;
 use xmltoproto::types::Sense;
 use xmltoproto::types::is_built_in;
 ghost use mathlib.Core.Path.{_≡_};
-ghost use Rattle.xmlschema.specs.Store.{schemaOf};
+ghost use Rattle.model.specs.Store.{schemaOf};
 ghost use Rattle.xmltoproto.specs.Types.{meaning};
 ghost use Rattle.xmltoproto.specs.Shapes.{meaningIn};
 

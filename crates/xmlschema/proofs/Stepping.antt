@@ -7,15 +7,15 @@ use Rattle.refusals.specs.declared.Refusal.{Refusal}
 use Rattle.saxlite.specs.declared.reader.Event.{Event}
 use Rattle.saxlite.specs.declared.reader.Event.the-variants.{Text, Open, Close, Skipped, End, Refused}
 use Rattle.entities.specs.Entities.{decoded}
-use Rattle.xmlschema.specs.Builder.{Builder, on, opened, closed, collect}
-use Rattle.xmlschema.specs.Whole.{step, attributesIn}
-use Rattle.xmlschema.specs.Layout.{builderOf, Kept, Ready, After}
+use Rattle.builder.specs.Builder.{Builder, on, opened, closed, collect, attributesIn}
+use Rattle.xmlschema.specs.Whole.{step}
+use Rattle.builder.specs.Layout.{builderOf, Kept, Ready, After}
 use Rattle.xmlschema.specs.Driving.{takes, Inside}
-use Rattle.xmlschema.specs.declared.state.Limits.{Limits}
-use Rattle.xmlschema.specs.declared.state.State.{State}
-use Rattle.xmlschema.specs.declared.state.Stepped.{Stepped}
-use Rattle.xmlschema.specs.declared.state.Verdict.the-variants as verdict
-use Rattle.xmlschema.proofs.Adding.{after-refused, after-same}
+use Rattle.builder.specs.declared.state.Limits.{Limits}
+use Rattle.builder.specs.declared.state.State.{State}
+use Rattle.builder.specs.declared.state.Stepped.{Stepped}
+use Rattle.builder.specs.declared.state.Verdict.the-variants as verdict
+use Rattle.builder.proofs.Adding.{after-refused, after-same}
 
 module _ (l : Limits) (doc : List ℕ) (place : ℕ) (ev : Event) (b : Builder) {s : State} {rec text : List ℕ} {r : Stepped} where
   pub step-text : {from len : ℕ} → ev ≡ Text from len → After (on (collect (decoded (piece doc from len)) b)) s len doc r rec text → After (step l doc place ev b) s (takes ev) doc r rec text

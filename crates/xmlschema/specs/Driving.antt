@@ -10,13 +10,13 @@ use Rattle.saxlite.specs.declared.reader.Event.{Event}
 use Rattle.saxlite.specs.declared.reader.Event.the-variants.{Text, Open, Close, Skipped, End, Refused}
 use Rattle.saxlite.specs.declared.reader.Cursor.{Cursor}
 use Rattle.saxlite.specs.Passing.{Idle}
-use Rattle.xmlschema.specs.Store.{schemaOf}
+use Rattle.model.specs.Store.{schemaOf}
 use Rattle.xmlschema.specs.Whole.{Whole, accepted, refusedBy, answerOf}
 use Rattle.texts.specs.Text.{piece, same}
 use Rattle.elements.specs.Leaf.{IsLeaf}
-use Rattle.xmlschema.specs.Builder.{top}
-use Rattle.xmlschema.specs.Layout.{Tagged, stackOf, higher}
-use Rattle.xmlschema.specs.declared.state.State.{State}
+use Rattle.builder.specs.Builder.{top}
+use Rattle.builder.specs.Layout.{Tagged, stackOf, higher}
+use Rattle.builder.specs.declared.state.State.{State}
 use Rattle.xmlschema.specs.declared.build.Mark.{Mark}
 use Rattle.xmlschema.specs.declared.build.Reached.{Reached}
 use Rattle.xmlschema.specs.declared.build.Schema.{Schema}

@@ -15,15 +15,9 @@ use Rattle.saxlite.specs.declared.reader.Event.the-variants.{Text, Open, Close,
 use Rattle.saxlite.specs.declared.reader.Cursor.{Cursor}
 use Rattle.saxlite.specs.Reader.{readAt, cursorAt, atEnd}
 use Rattle.entities.specs.Entities.{decoded}
-use Rattle.tags.specs.Attributes.{attributeAt}
-use Rattle.saxlite.specs.Event.{valueIn}
-use Rattle.xmlschema.specs.Schema.{Schema}
-use Rattle.xmlschema.specs.Builder.{Builder, Currents, Attributes, Outcome, on, refused, opened, closed, collect}
-use Rattle.xmlschema.specs.declared.state.Limits.{Limits}
-
--- the attributes of the tag whose attributes begin at a place
-abbrev pub attributesIn : List ℕ → ℕ → Attributes
-attributesIn doc attributes key = valueIn doc (attributeAt doc attributes key)
+use Rattle.model.specs.Schema.{Schema}
+use Rattle.builder.specs.Builder.{Builder, Currents, Outcome, on, refused, attributesIn, opened, closed, collect}
+use Rattle.builder.specs.declared.state.Limits.{Limits}
 
 -- what an event, read at a place, makes of the builder
 abbrev pub step : Limits → List ℕ → ℕ → Event → Builder → Outcome

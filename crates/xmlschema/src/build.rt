@@ -1,18 +1,18 @@
 // Reads a whole document into the two lent buffers.
-use crate::close::on_close;
-use crate::close::on_text;
-use crate::items::Head;
-use crate::items::Model;
-use crate::open::on_open;
-use crate::stack::is_top;
-use crate::stack::pop;
-use crate::state::Current;
-use crate::state::Limits;
-use crate::state::Place;
-use crate::state::State;
-use crate::state::Stepped;
-use crate::state::Verdict;
+use builder::close::on_close;
+use builder::close::on_text;
+use builder::open::on_open;
+use builder::stack::is_top;
+use builder::stack::pop;
+use builder::state::Current;
+use builder::state::Limits;
+use builder::state::Place;
+use builder::state::State;
+use builder::state::Stepped;
+use builder::state::Verdict;
 use elements::is_leaf_at;
+use model::Head;
+use model::Model;
 use refusals::Refusal;
 use saxlite::passing::past_between;
 use saxlite::passing::past_idle;
@@ -30,7 +30,7 @@ ghost use Rattle.classes.specs.Table.{IsTable};
 ghost use Rattle.saxlite.specs.Reader.{readAt, atEnd};
 ghost use Rattle.saxlite.specs.Noting.{NotedIn};
 ghost use Rattle.xmlschema.specs.Whole.{step as stepOf, reading};
-ghost use Rattle.xmlschema.specs.Layout.{builderOf, Ready, After};
+ghost use Rattle.builder.specs.Layout.{builderOf, Ready, After};
 ghost use Rattle.xmlschema.specs.Driving.{takes, Inside, first, cursorOf, Passes, Shuts, shown, ReadInto};
 
 // 01's limits.
@@ -358,7 +358,7 @@ fn first_state() -> State
 }
 
 // The whole document: 1, 2, 10, then 11 to 35 as it is read, then 31. Where it is accepted, the two
-// buffers hold the model that the accessors of `items` show; where one is too short, nothing is
+// buffers hold the model that the accessors of `model` show; where one is too short, nothing is
 // written to either.
 pub fn read_schema(doc: &[u8], rec: &mut [u32], text: &mut [u8]) -> Schema
     ensures { λ r. ⌜ ReadInto (now (doc .entry)) (now (rec .entry)) (now (text .entry)) r (now (rec .exit)) (now (text .exit)) ⌝ }

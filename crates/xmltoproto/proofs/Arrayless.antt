@@ -10,8 +10,8 @@ use lib.ListN.{length, List·getD-eq-default}
 use borrow.Author.Tests.{eqb-true, eqb-false}
 use Rattle.texts.specs.Lists.{any, among}
 use Rattle.texts.proofs.Choosing.{by-test}
-use Rattle.xmlschema.proofs.Records.{by-less}
-use Rattle.xmlschema.specs.Schema.{Schema, itemAt, noItem, allOf, under, lastNamed, aType, aMember, aComposite, aMessage, aGroup, aField}
+use Rattle.model.proofs.Records.{by-less}
+use Rattle.model.specs.Schema.{Schema, itemAt, noItem, allOf, under, lastNamed, aType, aMember, aComposite, aMessage, aGroup, aField}
 use Rattle.xmltoproto.specs.Types.{formOf, builtIn, builtIns, isArray, isDeclared, typeOr, meaning}
 use Rattle.xmltoproto.specs.Composites.{isPrinted}
 use Rattle.xmltoproto.specs.Arrays.{firstFrom, refusedComposite, isArrayType, holdsArray, refusedMessage, arrayRefusal}

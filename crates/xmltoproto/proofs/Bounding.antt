@@ -11,7 +11,7 @@ use Rattle.texts.specs.Choice.{pick, _and_}
 use Rattle.texts.specs.Text.{ascii}
 use Rattle.texts.specs.Lists.{isEmpty, each, numbered}
 use Rattle.printing.specs.Decimal.{decimal}
-use Rattle.xmlschema.specs.Schema.{Item, Schema, itemAt, positionsFrom, allOf, under, aMember, aRef, aComposite, anEnum, aValue, aMessage, aGroup, aField}
+use Rattle.model.specs.Schema.{Item, Schema, itemAt, positionsFrom, allOf, under, aMember, aRef, aComposite, anEnum, aValue, aMessage, aGroup, aField}
 use Rattle.xmltoproto.specs.Composites.{isPrinted, printedComposites}
 use Rattle.xmltoproto.specs.Source.{packageLine, header, valueText, enumText, memberText, refText, partTexts, compositeText, fieldText, groupText, messageText, source}
 use Rattle.xmltoproto.specs.Bound.{enumMost, valueMost, compositeMost, memberMost, refMost, messageMost, groupMost, fieldMost, share}

@@ -8,12 +8,12 @@ use Rattle.refusals.specs.declared.Answer.{Answer}
 use Rattle.refusals.specs.declared.Answer.the-variants.{Refused}
 use Rattle.refusals.specs.declared.Refusal.{Refusal}
 use Rattle.printing.specs.Output.{outputAfter}
-use Rattle.xmlschema.specs.Store.{schemaOf}
+use Rattle.model.specs.Store.{schemaOf}
 use Rattle.xmlschema.specs.Whole.{accepted, refusedBy, answerOf}
 use Rattle.xmlschema.specs.Driving.{shown, ReadInto}
 use Rattle.xmlschema.specs.declared.build.Schema.{Schema as Read}
 use Rattle.xmlschema.specs.declared.build.Schema.the-variants as read
-use Rattle.xmlschema.specs.declared.items.Model.{Model}
+use Rattle.model.specs.declared.Model.{Model}
 use Rattle.xmltoproto.specs.Generate.{Generated}
 use Rattle.xmltoproto.specs.Convert.{converted, sourceIn, Converts}
 

@@ -16,10 +16,10 @@ use Rattle.printing.proofs.Decimals.{decimal-one}
 use Rattle.index.specs.Declarations.{declarationOf}
 use Rattle.index.specs.declared.Declaration.{Declaration}
 use Rattle.index.specs.declared.Declaration.the-variants.{Named, Typed, Nothing}
-use Rattle.xmlschema.specs.Schema.{Item, Schema, itemAt}
-use Rattle.xmlschema.specs.Store.{itemOf, schemaOf}
-use Rattle.xmlschema.specs.declared.items.Entry.{Entry}
-use Rattle.xmlschema.specs.declared.items.Model.{Model}
+use Rattle.model.specs.Schema.{Item, Schema, itemAt}
+use Rattle.model.specs.Store.{itemOf, schemaOf}
+use Rattle.model.specs.declared.Entry.{Entry}
+use Rattle.model.specs.declared.Model.{Model}
 use Rattle.xmltoproto.specs.Types.{formOf, builtIn}
 use Rattle.xmltoproto.specs.Source.{source}
 use Rattle.xmltoproto.specs.Bound.{namedMost, noteMost, valueMost, memberMost, fieldBy, fieldMost, share, Sized, Covers, CoversLine}

@@ -17,7 +17,7 @@ use Rattle.printing.specs.Output.{finished, outputAfter}
 use Rattle.printing.proofs.Sequencing.{first-part}
 use Rattle.printing.proofs.Passing.{past-skipped}
 use Rattle.printing.proofs.Finishing.{no-room, wrote, wrote-output}
-use Rattle.xmlschema.specs.Schema.{Schema}
+use Rattle.model.specs.Schema.{Schema}
 use Rattle.xmltoproto.specs.Source.{source}
 use Rattle.xmltoproto.specs.Arrays.{arrayRefusal}
 use Rattle.xmltoproto.specs.Refusing.{refusing}

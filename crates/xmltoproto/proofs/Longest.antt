@@ -18,7 +18,7 @@ use Rattle.names.specs.Conversions.{camelToSnake}
 use Rattle.index.specs.Declarations.{declarationOf}
 use Rattle.index.specs.declared.Declaration.{Declaration}
 use Rattle.index.specs.declared.Declaration.the-variants.{Named, Typed, Nothing}
-use Rattle.xmlschema.specs.Schema.{Item, Schema, itemAt}
+use Rattle.model.specs.Schema.{Item, Schema, itemAt}
 use Rattle.xmltoproto.specs.Types.{Form, Proto, formOf, builtIns, builtIn, isChar, chars, isRaw, asNamed, ofLength, noteOn, narrow, asPrimitive, protoOf, protoBy}
 use Rattle.xmltoproto.specs.Source.{valueText, noteLine, bracketed, line, memberText, refText, fieldText}
 use Rattle.xmltoproto.specs.Bound.{namedMost, noteMost, typedMost, valueMost, memberMost, refMost, fieldBy, fieldMost}

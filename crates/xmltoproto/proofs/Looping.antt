@@ -11,9 +11,9 @@ use Rattle.texts.specs.Choice.{pick, _or_}
 use Rattle.texts.specs.Lists.{each, numbered, any}
 use Rattle.texts.proofs.Choosing.{both-true}
 use Rattle.printing.specs.Printed.{Printed}
-use Rattle.xmlschema.specs.Schema.{Item, Schema, positionsFrom, allOf, under, aMember, aRef}
-use Rattle.xmlschema.specs.Store.{found}
-use Rattle.xmlschema.specs.declared.items.Position.the-variants.{At, Nothing}
+use Rattle.model.specs.Schema.{Item, Schema, positionsFrom, allOf, under, aMember, aRef}
+use Rattle.model.specs.Store.{found}
+use Rattle.model.specs.declared.Position.the-variants.{At, Nothing}
 use Rattle.xmltoproto.specs.Arrays.{firstFrom}
 use Rattle.xmltoproto.specs.Parts.{Members}
 use Rattle.printing.proofs.Going.{Going, going-start, going-on, going-end}

@@ -10,7 +10,7 @@ use borrow.Author.Tests.{eq-eqb, ne-eqb, eqb-true, eqb-false}
 use Rattle.texts.specs.Choice.{pick, _and_}
 use Rattle.texts.specs.Lists.{each, numbered}
 use Rattle.texts.proofs.Choosing.{by-test}
-use Rattle.xmlschema.specs.Schema.{Item, Schema, noItem, itemAt, positionsFrom}
+use Rattle.model.specs.Schema.{Item, Schema, noItem, itemAt, positionsFrom}
 
 -- ---- sums over the places below n
 

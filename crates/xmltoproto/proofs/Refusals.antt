@@ -8,10 +8,10 @@ use native.Mathlib.Omega.{arith}
 use borrow.Author.Tests.{le-ltb}
 use Rattle.refusals.specs.declared.Refusal.the-variants.{ArrayInComposite, ArrayInMessage}
 use Rattle.texts.specs.Lists.{any}
-use Rattle.xmlschema.specs.Schema.{Item, Schema, itemAt, allOf, under, aMember, aComposite, aMessage, aGroup, aField}
-use Rattle.xmlschema.specs.Store.{found}
-use Rattle.xmlschema.specs.declared.items.Position.{Position}
-use Rattle.xmlschema.specs.declared.items.Position.the-variants.{At, Nothing}
+use Rattle.model.specs.Schema.{Item, Schema, itemAt, allOf, under, aMember, aComposite, aMessage, aGroup, aField}
+use Rattle.model.specs.Store.{found}
+use Rattle.model.specs.declared.Position.{Position}
+use Rattle.model.specs.declared.Position.the-variants.{At, Nothing}
 use Rattle.xmltoproto.specs.Types.{formOf, builtIn, isChar, isByte, isArray, meaning}
 use Rattle.xmltoproto.specs.Composites.{isPrinted}
 use Rattle.xmltoproto.specs.Arrays.{firstFrom, refusedComposite, isArrayType, holdsArray, refusedMessage, firstOf, arrayRefusal}

@@ -16,7 +16,7 @@ use Rattle.printing.specs.Standing.{Standing}
 use Rattle.printing.proofs.Sequencing.{blank, _▸_}
 use Rattle.printing.proofs.Again.{standing-within}
 use Rattle.names.specs.Conversions.{camelToSnake, camelToScreamingSnake, prefixOf, singularPascal}
-use Rattle.xmlschema.specs.Schema.{Item, Schema, noItem, itemAt, positionsFrom, allOf, under, aMember, aRef, aComposite, aValue, aGroup, aField}
+use Rattle.model.specs.Schema.{Item, Schema, noItem, itemAt, positionsFrom, allOf, under, aMember, aRef, aComposite, aValue, aGroup, aField}
 use Rattle.xmltoproto.specs.Types.{formOf, builtIn, asNamed, protoOf, protoBy, Meaning, meaning}
 use Rattle.xmltoproto.specs.Composites.{isPrinted, printedComposites}
 use Rattle.xmltoproto.specs.Source.{packageLine, header, valueText, enumText, line, memberText, refText, partTexts, compositeText, fieldText, groupText, messageText}

@@ -16,7 +16,7 @@ use Rattle.names.specs.Conversions.{camelToSnake, snakeAt, breaksSnake, camelTo
 use Rattle.refusals.specs.declared.Refusal.the-variants.{ArrayInComposite, ArrayInMessage}
 use Rattle.escaping.specs.Escape.{hex, escaped, quoted}
 use Rattle.charsets.specs.Charset.{isPunctuation, cleaned, compatible}
-use Rattle.xmlschema.specs.Schema.{Item, Schema, positionsFrom, allOf, under, last, lastNamed, aType, aMember, aRef, aComposite, anEnum, aValue, aMessage, aGroup, aField}
+use Rattle.model.specs.Schema.{Item, Schema, positionsFrom, allOf, under, last, lastNamed, aType, aMember, aRef, aComposite, anEnum, aValue, aMessage, aGroup, aField}
 use Rattle.xmltoproto.specs.Types.{formOf, builtIn, isChar, chars, isByte, isRaw, isArray, asNamed, ofLength, noteOn, narrow, asPrimitive, protoOf, isDeclared, meaning}
 use Rattle.xmltoproto.specs.Composites.{isPrinted, printedComposites}
 use Rattle.xmltoproto.specs.Source.{packageLine, header, valueText, enumText, noteLine, bracketed, line, memberText, refText, partTexts, compositeText, fieldText, groupText, messageText, source}

@@ -11,7 +11,7 @@ use Rattle.texts.specs.Text.{ascii, same}
 use Rattle.texts.specs.Lists.{isSome, among}
 use Rattle.texts.proofs.Among.{among-append}
 use Rattle.charsets.specs.Charset.{compatible}
-use Rattle.xmlschema.specs.Schema.{Schema, itemAt, lastNamed, aType, aComposite, anEnum}
+use Rattle.model.specs.Schema.{Schema, itemAt, lastNamed, aType, aComposite, anEnum}
 use Rattle.index.specs.Declarations.{declaredBy, declarationOf}
 use Rattle.index.specs.declared.Declaration.{Declaration}
 use Rattle.index.specs.declared.Declaration.the-variants as declaration

@@ -5,10 +5,10 @@ use Prim.Native.Nat.{ℕ}
 use lib.Dec.{eqb}
 use borrow.Author.Tests.{eq-eqb, ne-eqb}
 use Rattle.texts.specs.Choice.{pick}
-use Rattle.xmlschema.specs.Schema.{Item, itemAt}
-use Rattle.xmlschema.specs.Store.{itemOf, schemaOf}
-use Rattle.xmlschema.specs.declared.items.Entry.{Entry}
-use Rattle.xmlschema.specs.declared.items.Model.{Model}
+use Rattle.model.specs.Schema.{Item, itemAt}
+use Rattle.model.specs.Store.{itemOf, schemaOf}
+use Rattle.model.specs.declared.Entry.{Entry}
+use Rattle.model.specs.declared.Model.{Model}
 use Rattle.xmltoproto.specs.Types.{formOf}
 
 module _ (m : Model) (rec text : List ℕ) (i : ℕ) (e : Entry) (h : (t : List ℕ) → itemOf t e ≡ itemAt (schemaOf m rec t) i) where

@@ -9,11 +9,11 @@ use lib.Dec.{eqb}
 use lib.ListN.{length, drop, length-drop, drop-of-length-le}
 use lib.Seq.{drop-drop}
 use Rattle.texts.specs.Choice.{pick, _and_}
-use Rattle.xmlschema.specs.Schema.{Item, Schema, positionsFrom, allOf, under, first, nextOf, nextUnder}
-use Rattle.xmlschema.specs.Store.{schemaOf, found}
-use Rattle.xmlschema.specs.declared.items.Model.{Model}
-use Rattle.xmlschema.specs.declared.items.Position.{Position}
-use Rattle.xmlschema.specs.declared.items.Position.the-variants.{At, Nothing}
+use Rattle.model.specs.Schema.{Item, Schema, positionsFrom, allOf, under, first, nextOf, nextUnder}
+use Rattle.model.specs.Store.{schemaOf, found}
+use Rattle.model.specs.declared.Model.{Model}
+use Rattle.model.specs.declared.Position.{Position}
+use Rattle.model.specs.declared.Position.the-variants.{At, Nothing}
 
 abbrev pub ofKind : ℕ → Item → Bool
 ofKind kind it = eqb (it .kind) kind

@@ -8,7 +8,7 @@ use Rattle.texts.specs.Choice.{pick, _or_, _and_}
 use Rattle.texts.specs.Lists.{any}
 use Rattle.refusals.specs.declared.Refusal.{Refusal}
 use Rattle.refusals.specs.declared.Refusal.the-variants.{ArrayInComposite, ArrayInMessage}
-use Rattle.xmlschema.specs.Schema.{Schema, itemAt, allOf, under, aMember, aComposite, aMessage, aGroup, aField}
+use Rattle.model.specs.Schema.{Schema, itemAt, allOf, under, aMember, aComposite, aMessage, aGroup, aField}
 use Rattle.xmltoproto.specs.Types.{Meaning, declared, typed, unknown, formOf, isArray, meaning}
 use Rattle.xmltoproto.specs.Composites.{isPrinted}
 

@@ -8,9 +8,9 @@ use Rattle.printing.specs.Decimal.{decimal}
 use Rattle.index.specs.Declarations.{declarationOf}
 use Rattle.index.specs.declared.Declaration.{Declaration}
 use Rattle.index.specs.declared.Declaration.the-variants.{Named, Typed, Nothing}
-use Rattle.xmlschema.specs.Schema.{Item, Schema, itemAt, aMember, aRef, aComposite, anEnum, aValue, aMessage, aGroup, aField}
-use Rattle.xmlschema.specs.Store.{itemOf}
-use Rattle.xmlschema.specs.declared.items.Entry.{Entry}
+use Rattle.model.specs.Schema.{Item, Schema, itemAt, aMember, aRef, aComposite, anEnum, aValue, aMessage, aGroup, aField}
+use Rattle.model.specs.Store.{itemOf}
+use Rattle.model.specs.declared.Entry.{Entry}
 use Rattle.xmltoproto.specs.Types.{Form, formOf, builtIn}
 
 -- ---- a line under a name of n bytes and a number of k digits

@@ -5,7 +5,7 @@ use Prim.Native.Nat.{ℕ}
 use lib.Dec.{eqb}
 use Rattle.texts.specs.Choice.{_or_, _and_}
 use Rattle.texts.specs.Text.{ascii, same}
-use Rattle.xmlschema.specs.Schema.{Item, Schema, positionsFrom, aComposite}
+use Rattle.model.specs.Schema.{Item, Schema, positionsFrom, aComposite}
 
 unfoldable pub isPrinted : Item → Bool
 isPrinted c = not (same (c .name) (ascii "messageHeader") or same (c .name) (ascii "groupSizeEncoding"))

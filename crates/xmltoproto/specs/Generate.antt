@@ -8,7 +8,7 @@ use Rattle.refusals.specs.declared.Answer.{Answer}
 use Rattle.refusals.specs.declared.Answer.the-variants.{Refused}
 use Rattle.refusals.specs.declared.Refusal.{Refusal}
 use Rattle.printing.specs.Output.{finished, outputAfter}
-use Rattle.xmlschema.specs.Schema.{Schema}
+use Rattle.model.specs.Schema.{Schema}
 use Rattle.xmltoproto.specs.Source.{source}
 use Rattle.xmltoproto.specs.Arrays.{arrayRefusal}
 

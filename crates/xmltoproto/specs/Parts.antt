@@ -8,7 +8,7 @@ use Rattle.texts.specs.Choice.{pick}
 use Rattle.texts.specs.Text.{ascii}
 use Rattle.texts.specs.Lists.{each}
 use Rattle.names.specs.Conversions.{singularPascal}
-use Rattle.xmlschema.specs.Schema.{Schema, itemAt, under, aMember, aField}
+use Rattle.model.specs.Schema.{Schema, itemAt, under, aMember, aField}
 use Rattle.xmltoproto.specs.Source.{fieldText}
 
 -- the indent of a line, in a group or not

@@ -4,7 +4,7 @@ use mathlib.Core.Bool.{false}
 use mathlib.Core.Option.{Option, none, some}
 use Prim.Native.Nat.{ℕ}
 use Rattle.refusals.specs.declared.Refusal.{Refusal}
-use Rattle.xmlschema.specs.Schema.{Schema, itemAt}
+use Rattle.model.specs.Schema.{Schema, itemAt}
 use Rattle.xmltoproto.specs.Types.{formOf, isArray}
 use Rattle.xmltoproto.specs.declared.arrays.Arrays.{Arrays}
 use Rattle.xmltoproto.specs.declared.arrays.Arrays.the-variants.{Fine, Refused}

@@ -3,7 +3,7 @@ use mathlib.Core.List.{List, [], _++_}
 use Prim.Native.Nat.{ℕ}
 use Rattle.texts.specs.Text.{ascii}
 use Rattle.printing.specs.Decimal.{decimal}
-use Rattle.xmlschema.specs.Schema.{Schema, itemAt}
+use Rattle.model.specs.Schema.{Schema, itemAt}
 use Rattle.xmltoproto.specs.Types.{Form, Proto, noteOn, Meaning, declared, typed, unknown, formOf, builtIn}
 use Rattle.xmltoproto.specs.declared.types.Shape.{Shape}
 use Rattle.xmltoproto.specs.declared.types.Shape.the-variants as shape

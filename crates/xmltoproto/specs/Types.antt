@@ -10,7 +10,7 @@ use Rattle.texts.specs.Lists.{isSome, among}
 use Rattle.printing.specs.Decimal.{decimal}
 use Rattle.escaping.specs.Escape.{quoted}
 use Rattle.charsets.specs.Charset.{compatible}
-use Rattle.xmlschema.specs.Schema.{Item, Schema, itemAt, lastNamed, aType, aComposite, anEnum}
+use Rattle.model.specs.Schema.{Item, Schema, itemAt, lastNamed, aType, aComposite, anEnum}
 
 abbrev pub builtIns : List (List ℕ)
 builtIns =

@@ -2,26 +2,26 @@
 use crate::view::name_at;
 use crate::view::second_at;
 use index::child;
+use model::ENUM;
+use model::Model;
+use model::Position;
+use model::VALUE;
+use model::count;
+use model::next_of;
 use names::convert::put_screaming_in;
 use printing::put_again;
 use printing::put_byte;
 use printing::put_bytes;
 use printing::skip;
-use xmlschema::items::ENUM;
-use xmlschema::items::Model;
-use xmlschema::items::Position;
-use xmlschema::items::VALUE;
-use xmlschema::items::count;
-use xmlschema::items::next_of;
 ghost use mathlib.Core.Path.{_≡_};
 ghost use Rattle.texts.specs.Lists.{each};
 ghost use Rattle.classes.specs.Table.{IsTable};
 ghost use Rattle.printing.specs.Printed.{Printed, past};
 ghost use Rattle.printing.specs.Standing.{Standing};
 ghost use Rattle.names.specs.Conversions.{prefixOf};
-ghost use Rattle.xmlschema.specs.Schema.{itemAt, under, allOf, anEnum, aValue};
+ghost use Rattle.model.specs.Schema.{itemAt, under, allOf, anEnum, aValue};
 ghost use Rattle.index.specs.Index.{Indexed};
-ghost use Rattle.xmlschema.specs.Store.{schemaOf};
+ghost use Rattle.model.specs.Store.{schemaOf};
 ghost use Rattle.xmltoproto.specs.Source.{valueText, enumText};
 
 fn put_prefix(out: &mut [u8], at: usize, t: &[u8; 256], name: &[u8]) -> usize

@@ -8,13 +8,13 @@ use crate::messages::put_messages;
 use crate::view::id_of;
 use crate::view::version_of;
 use classes::table;
+use model::Model;
+use model::package_of;
 use printing::put_bytes;
 use printing::put_decimal;
-use xmlschema::items::Model;
-use xmlschema::items::package_of;
 ghost use Rattle.printing.specs.Printed.{Printed};
 ghost use Rattle.index.specs.Index.{Indexed};
-ghost use Rattle.xmlschema.specs.Store.{schemaOf};
+ghost use Rattle.model.specs.Store.{schemaOf};
 ghost use Rattle.xmltoproto.specs.Source.{packageLine, header, source};
 
 fn put_package(out: &mut [u8], at: usize, name: &[u8]) -> usize

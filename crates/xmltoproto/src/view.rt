@@ -1,12 +1,12 @@
 // What a schema says of the item at a position.
-use xmlschema::items::Model;
-use xmlschema::items::encoding_of;
-use xmlschema::items::item;
-use xmlschema::items::name_of;
-use xmlschema::items::second_of;
+use model::Model;
+use model::encoding_of;
+use model::item;
+use model::name_of;
+use model::second_of;
 ghost use mathlib.Core.Path.{_≡_};
-ghost use Rattle.xmlschema.specs.Schema.{itemAt};
-ghost use Rattle.xmlschema.specs.Store.{schemaOf};
+ghost use Rattle.model.specs.Schema.{itemAt};
+ghost use Rattle.model.specs.Store.{schemaOf};
 ghost use Rattle.xmltoproto.specs.Types.{formOf};
 
 pub fn name_at<'a>(m: Model, rec: &[u32], text: &'a [u8], i: u32) -> &'a [u8]

@@ -8,7 +8,7 @@ use Rattle.index.proofs.child.Lts as lts
 use Rattle.index.proofs.is_indexed.Reads as is-indexed-reads
 use Rattle.index.proofs.next_child.Reads as next-child-reads
 use Rattle.index.proofs.position.Reads as position-reads
-use Rattle.xmlschema.proofs.items.next_under.Reads as next-under-reads
+use Rattle.model.proofs.next_under.Reads as next-under-reads
 
 -- src/lib.rt:457:8
 is-indexed-requires : tie.Need-is-indexed-requires

@@ -3,7 +3,7 @@ use Rattle.index.proofs.declaration_in.Statement.{statement}
 use Rattle.index.proofs.declaration_in.Tie as tie
 use Rattle.index.proofs.declaration_in.Reads as reads
 use Rattle.index.proofs.declaration_in.Lts as lts
-use Rattle.xmlschema.proofs.items.last_named.Reads as last-named-reads
+use Rattle.model.proofs.last_named.Reads as last-named-reads
 
 -- src/lib.rt:322:11
 last-named-requires : tie.Need-last-named-requires

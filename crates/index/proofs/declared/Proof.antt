@@ -5,9 +5,9 @@ use Rattle.index.proofs.declared.Reads as reads
 use Rattle.index.proofs.declared.Lts as lts
 use Rattle.index.proofs.declaration_in.Reads as declaration-in-reads
 use Rattle.index.proofs.field_declared.Reads as field-declared-reads
-use Rattle.xmlschema.proofs.items.count.Reads as count-reads
-use Rattle.xmlschema.proofs.items.item.Reads as item-reads
-use Rattle.xmlschema.proofs.items.second_of.Reads as second-of-reads
+use Rattle.model.proofs.count.Reads as count-reads
+use Rattle.model.proofs.item.Reads as item-reads
+use Rattle.model.proofs.second_of.Reads as second-of-reads
 
 -- src/lib.rt:354:9
 item-requires : tie.Need-item-requires

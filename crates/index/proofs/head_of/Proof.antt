@@ -5,7 +5,7 @@ use Rattle.index.proofs.head_of.Reads as reads
 use Rattle.index.proofs.head_of.Lts as lts
 use Rattle.index.proofs.hash_of.Reads as hash-of-reads
 use Rattle.index.proofs.masked.Reads as masked-reads
-use Rattle.xmlschema.proofs.items.count.Reads as count-reads
+use Rattle.model.proofs.count.Reads as count-reads
 
 -- src/lib.rt:150:9
 count-requires : tie.Need-count-requires

@@ -4,8 +4,8 @@ use Rattle.index.proofs.kept_at.Tie as tie
 use Rattle.index.proofs.kept_at.Reads as reads
 use Rattle.index.proofs.kept_at.Lts as lts
 use Rattle.words.proofs.same_name.Reads as same-name-reads
-use Rattle.xmlschema.proofs.items.item.Reads as item-reads
-use Rattle.xmlschema.proofs.items.name_of.Reads as name-of-reads
+use Rattle.model.proofs.item.Reads as item-reads
+use Rattle.model.proofs.name_of.Reads as name-of-reads
 
 -- src/lib.rt:168:9
 item-requires : tie.Need-item-requires

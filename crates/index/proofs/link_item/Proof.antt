@@ -4,8 +4,8 @@ use Rattle.index.proofs.link_item.Tie as tie
 use Rattle.index.proofs.link_item.Reads as reads
 use Rattle.index.proofs.link_item.Lts as lts
 use Rattle.index.proofs.put_front.Reads as put-front-reads
-use Rattle.xmlschema.proofs.items.count.Reads as count-reads
-use Rattle.xmlschema.proofs.items.item.Reads as item-reads
+use Rattle.model.proofs.count.Reads as count-reads
+use Rattle.model.proofs.item.Reads as item-reads
 
 -- src/lib.rt:208:9
 item-requires : tie.Need-item-requires

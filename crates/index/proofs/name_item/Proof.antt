@@ -7,8 +7,8 @@ use Rattle.index.proofs.head_of.Reads as head-of-reads
 use Rattle.index.proofs.kind_of.Reads as kind-of-reads
 use Rattle.index.proofs.put_front.Reads as put-front-reads
 use Rattle.ordered.proofs.is_declaring.Reads as is-declaring-reads
-use Rattle.xmlschema.proofs.items.item.Reads as item-reads
-use Rattle.xmlschema.proofs.items.name_of.Reads as name-of-reads
+use Rattle.model.proofs.item.Reads as item-reads
+use Rattle.model.proofs.name_of.Reads as name-of-reads
 
 -- src/lib.rt:184:21
 kind-of-requires : tie.Need-kind-of-requires

@@ -7,8 +7,8 @@ use Rattle.index.proofs.next_child.Lts as lts
 use Rattle.index.proofs.kind_of.Reads as kind-of-reads
 use Rattle.index.proofs.owner_of.Reads as owner-of-reads
 use Rattle.index.proofs.position.Reads as position-reads
-use Rattle.xmlschema.proofs.items.count.Reads as count-reads
-use Rattle.xmlschema.proofs.items.next_under.Reads as next-under-reads
+use Rattle.model.proofs.count.Reads as count-reads
+use Rattle.model.proofs.next_under.Reads as next-under-reads
 
 -- src/lib.rt:432:13
 sub-i : tie.Need-sub-i

@@ -6,8 +6,8 @@ use Rattle.index.proofs.order_item.Lts as lts
 use Rattle.index.proofs.kind_of.Reads as kind-of-reads
 use Rattle.index.proofs.put_number.Reads as put-number-reads
 use Rattle.ordered.proofs.number_of.Reads as number-of-reads
-use Rattle.xmlschema.proofs.items.item.Reads as item-reads
-use Rattle.xmlschema.proofs.items.second_of.Reads as second-of-reads
+use Rattle.model.proofs.item.Reads as item-reads
+use Rattle.model.proofs.second_of.Reads as second-of-reads
 
 -- src/lib.rt:299:8
 kind-of-requires : tie.Need-kind-of-requires

@@ -1,7 +1,7 @@
 use mathlib.Core.Path.{_≡_}
 use Prim.Native.Nat.{_-_, _≤_}
 use lib.ListN.{length}
-use Rattle.xmlschema.specs.Store.{schemaOf}
+use Rattle.model.specs.Store.{schemaOf}
 use Rattle.index.specs.Index.{Naming}
 use Rattle.index.proofs.Laws.{laws}
 use Rattle.index.proofs.put_names.Statement.{statement}
@@ -9,7 +9,7 @@ use Rattle.index.proofs.put_names.Tie as tie
 use Rattle.index.proofs.put_names.Reads as reads
 use Rattle.index.proofs.put_names.Lts as lts
 use Rattle.index.proofs.name_item.Reads as name-item-reads
-use Rattle.xmlschema.proofs.items.count.Reads as count-reads
+use Rattle.model.proofs.count.Reads as count-reads
 
 abbrev Inv-loop : tie.InvT-loop
 Inv-loop m rec text ix₀ n i₀ ix i = Naming (schemaOf m rec text) i ix × (i ≤ n) × (length ix ≡ length ix₀)

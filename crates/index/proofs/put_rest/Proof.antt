@@ -3,7 +3,7 @@ use Rattle.index.proofs.Building.{settling-here}
 use mathlib.Core.Path.{_≡_}
 use Prim.Native.Nat.{_≤_}
 use lib.ListN.{length}
-use Rattle.xmlschema.specs.Store.{schemaOf}
+use Rattle.model.specs.Store.{schemaOf}
 use Rattle.index.specs.Index.{Settling}
 use Rattle.index.proofs.Laws.{laws}
 use Rattle.index.proofs.put_rest.Statement.{statement}

@@ -3,7 +3,7 @@ use Rattle.index.proofs.Building.{settling-here, settling-told}
 use mathlib.Core.Path.{_≡_}
 use Prim.Native.Nat.{_≤_}
 use lib.ListN.{length}
-use Rattle.xmlschema.specs.Store.{schemaOf}
+use Rattle.model.specs.Store.{schemaOf}
 use Rattle.index.specs.Index.{Settling}
 use Rattle.index.proofs.Laws.{laws}
 use Rattle.index.proofs.put_settled.Statement.{statement}
@@ -13,7 +13,7 @@ use Rattle.index.proofs.put_settled.Lts as lts
 use Rattle.index.proofs.link_item.Reads as link-item-reads
 use Rattle.index.proofs.put_rest.Reads as put-rest-reads
 use Rattle.index.proofs.resolve_item.Reads as resolve-item-reads
-use Rattle.xmlschema.proofs.items.count.Reads as count-reads
+use Rattle.model.proofs.count.Reads as count-reads
 
 abbrev Inv-loop : tie.InvT-loop
 Inv-loop m rec text ix₀ n₀ ix n = Settling (schemaOf m rec text) n n ix × (n ≤ length (schemaOf m rec text .items)) × (length ix ≡ length ix₀)

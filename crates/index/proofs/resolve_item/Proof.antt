@@ -8,8 +8,8 @@ use Rattle.index.proofs.resolve_item.Lts as lts
 use Rattle.index.proofs.kind_of.Reads as kind-of-reads
 use Rattle.index.proofs.put_number.Reads as put-number-reads
 use Rattle.index.proofs.resolved.Reads as resolved-reads
-use Rattle.xmlschema.proofs.items.item.Reads as item-reads
-use Rattle.xmlschema.proofs.items.second_of.Reads as second-of-reads
+use Rattle.model.proofs.item.Reads as item-reads
+use Rattle.model.proofs.second_of.Reads as second-of-reads
 
 -- src/lib.rt:282:8
 kind-of-requires : tie.Need-kind-of-requires

@@ -1,5 +1,5 @@
 use Prim.Native.Nat.{_<_}
-use Rattle.xmlschema.specs.Store.{schemaOf}
+use Rattle.model.specs.Store.{schemaOf}
 use Rattle.index.proofs.Seeking.{Seeking}
 use Rattle.index.proofs.Laws.{laws}
 use Rattle.index.proofs.resolved.Statement.{statement}

@@ -9,8 +9,8 @@ use Rattle.ordered.proofs.insert.Reads as insert-reads
 use Rattle.ordered.proofs.is_declaring.Reads as is-declaring-reads
 use Rattle.ordered.proofs.meet.Reads as meet-reads
 use Rattle.ordered.proofs.place_of.Reads as place-of-reads
-use Rattle.xmlschema.proofs.items.item.Reads as item-reads
-use Rattle.xmlschema.proofs.items.name_of.Reads as name-of-reads
+use Rattle.model.proofs.item.Reads as item-reads
+use Rattle.model.proofs.name_of.Reads as name-of-reads
 
 -- src/lib.rt:190:9
 item-requires : tie.Need-item-requires

@@ -6,7 +6,7 @@ use Rattle.ordered.proofs.meet.Reads as reads
 use Rattle.ordered.proofs.meet.Lts as lts
 use Rattle.ordered.proofs.number.Reads as number-reads
 use Rattle.ordered.proofs.put_at.Reads as put-at-reads
-use Rattle.xmlschema.proofs.items.item.Reads as item-reads
+use Rattle.model.proofs.item.Reads as item-reads
 
 -- src/lib.rt:179:33
 mul-number : tie.Need-mul-number

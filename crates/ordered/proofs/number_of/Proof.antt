@@ -7,7 +7,7 @@ use Rattle.ordered.proofs.number_of.Reads as reads
 use Rattle.ordered.proofs.number_of.Lts as lts
 use Rattle.ordered.proofs.number.Reads as number-reads
 use Rattle.ordered.proofs.place_of.Reads as place-of-reads
-use Rattle.xmlschema.proofs.items.item.Reads as item-reads
+use Rattle.model.proofs.item.Reads as item-reads
 
 -- src/lib.rt:226:11
 place-of-requires : tie.Need-place-of-requires

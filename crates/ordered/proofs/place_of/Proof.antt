@@ -1,6 +1,6 @@
 use native.Mathlib.Omega.{arith}
 use Prim.Native.Nat.{_-_}
-use Rattle.xmlschema.specs.Store.{schemaOf}
+use Rattle.model.specs.Store.{schemaOf}
 use Rattle.ordered.proofs.Placing.{Halving, halving-less, halving-same, halving-greater}
 use Rattle.ordered.proofs.Laws.{laws}
 use Rattle.ordered.proofs.place_of.Statement.{statement}
@@ -9,8 +9,8 @@ use Rattle.ordered.proofs.place_of.Reads as reads
 use Rattle.ordered.proofs.place_of.Lts as lts
 use Rattle.ordered.proofs.compared.Reads as compared-reads
 use Rattle.ordered.proofs.number.Reads as number-reads
-use Rattle.xmlschema.proofs.items.item.Reads as item-reads
-use Rattle.xmlschema.proofs.items.name_of.Reads as name-of-reads
+use Rattle.model.proofs.item.Reads as item-reads
+use Rattle.model.proofs.name_of.Reads as name-of-reads
 
 abbrev Inv-loop : tie.InvT-loop
 Inv-loop m rec text names n name low₀ high₀ low high = Halving (schemaOf m rec text) names n name low high

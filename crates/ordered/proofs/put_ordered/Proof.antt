@@ -1,7 +1,7 @@
 use mathlib.Core.Path.{_≡_}
 use Prim.Native.Nat.{_≤_, _-_}
 use lib.ListN.{length}
-use Rattle.xmlschema.specs.Store.{schemaOf}
+use Rattle.model.specs.Store.{schemaOf}
 use Rattle.ordered.specs.Ordered.{Ordered}
 use Rattle.ordered.proofs.Laws.{laws}
 use Rattle.ordered.proofs.put_ordered.Statement.{statement}
@@ -9,7 +9,7 @@ use Rattle.ordered.proofs.put_ordered.Tie as tie
 use Rattle.ordered.proofs.put_ordered.Reads as reads
 use Rattle.ordered.proofs.put_ordered.Lts as lts
 use Rattle.ordered.proofs.add.Reads as add-reads
-use Rattle.xmlschema.proofs.items.count.Reads as count-reads
+use Rattle.model.proofs.count.Reads as count-reads
 
 abbrev Inv-loop : tie.InvT-loop
 Inv-loop m rec text names₀ c n₀ i₀ names n i = Ordered (schemaOf m rec text) i names n × (i ≤ c) × (length names ≡ length names₀)

@@ -5,7 +5,7 @@ use Rattle.xmltoproto.proofs.generate.Tie as tie
 use Rattle.xmltoproto.proofs.generate.Reads as reads
 use Rattle.xmltoproto.proofs.generate.Lts as lts
 use Rattle.index.proofs.build.Reads as build-reads
-use Rattle.xmlschema.proofs.items.count.Reads as count-reads
+use Rattle.model.proofs.count.Reads as count-reads
 use Rattle.xmltoproto.proofs.generate_in.Reads as generate-in-reads
 
 -- src/lib.rt:82:9

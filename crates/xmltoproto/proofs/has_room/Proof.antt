@@ -3,7 +3,7 @@ use Rattle.xmltoproto.proofs.has_room.Statement.{statement}
 use Rattle.xmltoproto.proofs.has_room.Tie as tie
 use Rattle.xmltoproto.proofs.has_room.Reads as reads
 use Rattle.xmltoproto.proofs.has_room.Lts as lts
-use Rattle.xmlschema.proofs.items.count.Reads as count-reads
+use Rattle.model.proofs.count.Reads as count-reads
 use Rattle.xmltoproto.proofs.bound.source_most.Reads as source-most-reads
 use Rattle.xmltoproto.proofs.source.put_source.Reads as put-source-reads
 

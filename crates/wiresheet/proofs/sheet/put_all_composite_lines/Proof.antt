@@ -3,8 +3,8 @@ use Prim.Native.Nat.{_-_}
 use mathlib.Core.List.{[]}
 use Rattle.texts.specs.Choice.{pick}
 use Rattle.xmltoproto.proofs.Looping.{Walking}
-use Rattle.xmlschema.specs.Schema.{itemAt, allOf, aComposite}
-use Rattle.xmlschema.specs.Store.{schemaOf}
+use Rattle.model.specs.Schema.{itemAt, allOf, aComposite}
+use Rattle.model.specs.Store.{schemaOf}
 use Rattle.xmltoproto.proofs.Walking.{ofKind, of-within}
 use Rattle.wiresheet.specs.Sheet.{compositeOf, compositeShown}
 use Rattle.xmltoproto.specs.Composites.{isPrinted}
@@ -13,8 +13,8 @@ use Rattle.wiresheet.proofs.sheet.put_all_composite_lines.Statement.{st
 use Rattle.wiresheet.proofs.sheet.put_all_composite_lines.Tie as tie
 use Rattle.wiresheet.proofs.sheet.put_all_composite_lines.Reads as reads
 use Rattle.wiresheet.proofs.sheet.put_all_composite_lines.Lts as lts
-use Rattle.xmlschema.proofs.items.count.Reads as count-reads
-use Rattle.xmlschema.proofs.items.next_of.Reads as next-of-reads
+use Rattle.model.proofs.count.Reads as count-reads
+use Rattle.model.proofs.next_of.Reads as next-of-reads
 use Rattle.wiresheet.proofs.sheet.put_composite_lines_if_printed.Reads as put-composite-lines-if-printed-reads
 
 abbrev Inv-loop : tie.InvT-loop

@@ -1,8 +1,8 @@
 use native.Mathlib.Omega.{arith}
 use Prim.Native.Nat.{_-_}
 use Rattle.xmltoproto.proofs.Looping.{Walking}
-use Rattle.xmlschema.specs.Schema.{allOf, anEnum}
-use Rattle.xmlschema.specs.Store.{schemaOf}
+use Rattle.model.specs.Schema.{allOf, anEnum}
+use Rattle.model.specs.Store.{schemaOf}
 use Rattle.xmltoproto.proofs.Walking.{ofKind, of-within}
 use Rattle.wiresheet.specs.Sheet.{enumOf, enumShown}
 use Rattle.wiresheet.proofs.Laws.{walk as laws}
@@ -10,8 +10,8 @@ use Rattle.wiresheet.proofs.sheet.put_all_enum_lines.Statement.{stateme
 use Rattle.wiresheet.proofs.sheet.put_all_enum_lines.Tie as tie
 use Rattle.wiresheet.proofs.sheet.put_all_enum_lines.Reads as reads
 use Rattle.wiresheet.proofs.sheet.put_all_enum_lines.Lts as lts
-use Rattle.xmlschema.proofs.items.count.Reads as count-reads
-use Rattle.xmlschema.proofs.items.next_of.Reads as next-of-reads
+use Rattle.model.proofs.count.Reads as count-reads
+use Rattle.model.proofs.next_of.Reads as next-of-reads
 use Rattle.wiresheet.proofs.sheet.put_enum_lines.Reads as put-enum-lines-reads
 
 abbrev Inv-loop : tie.InvT-loop

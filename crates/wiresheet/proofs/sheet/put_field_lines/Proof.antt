@@ -1,8 +1,8 @@
 use native.Mathlib.Omega.{arith}
 use Prim.Native.Nat.{_-_}
 use Rattle.xmltoproto.proofs.Looping.{Walking}
-use Rattle.xmlschema.specs.Schema.{itemAt, under, aField}
-use Rattle.xmlschema.specs.Store.{schemaOf}
+use Rattle.model.specs.Schema.{itemAt, under, aField}
+use Rattle.model.specs.Store.{schemaOf}
 use Rattle.xmltoproto.proofs.Walking.{underOwner}
 use Rattle.wiresheet.proofs.Walking.{under-within}
 use Rattle.wiresheet.specs.Sheet.{fieldOf, fieldShown}
@@ -11,8 +11,8 @@ use Rattle.wiresheet.proofs.sheet.put_field_lines.Statement.{statement}
 use Rattle.wiresheet.proofs.sheet.put_field_lines.Tie as tie
 use Rattle.wiresheet.proofs.sheet.put_field_lines.Reads as reads
 use Rattle.wiresheet.proofs.sheet.put_field_lines.Lts as lts
-use Rattle.xmlschema.proofs.items.count.Reads as count-reads
-use Rattle.xmlschema.proofs.items.next_under.Reads as next-under-reads
+use Rattle.model.proofs.count.Reads as count-reads
+use Rattle.model.proofs.next_under.Reads as next-under-reads
 use Rattle.wiresheet.proofs.sheet.put_field_line.Reads as put-field-line-reads
 
 abbrev Inv-loop : tie.InvT-loop

@@ -1,8 +1,8 @@
 use native.Mathlib.Omega.{arith}
 use Prim.Native.Nat.{_-_}
 use Rattle.xmltoproto.proofs.Looping.{Walking}
-use Rattle.xmlschema.specs.Schema.{itemAt, under, aRef}
-use Rattle.xmlschema.specs.Store.{schemaOf}
+use Rattle.model.specs.Schema.{itemAt, under, aRef}
+use Rattle.model.specs.Store.{schemaOf}
 use Rattle.xmltoproto.proofs.Walking.{underOwner}
 use Rattle.wiresheet.proofs.Walking.{under-within}
 use Rattle.wiresheet.specs.Sheet.{refOf}
@@ -12,8 +12,8 @@ use Rattle.wiresheet.proofs.sheet.put_ref_lines.Statement.{statement}
 use Rattle.wiresheet.proofs.sheet.put_ref_lines.Tie as tie
 use Rattle.wiresheet.proofs.sheet.put_ref_lines.Reads as reads
 use Rattle.wiresheet.proofs.sheet.put_ref_lines.Lts as lts
-use Rattle.xmlschema.proofs.items.count.Reads as count-reads
-use Rattle.xmlschema.proofs.items.next_under.Reads as next-under-reads
+use Rattle.model.proofs.count.Reads as count-reads
+use Rattle.model.proofs.next_under.Reads as next-under-reads
 use Rattle.wiresheet.proofs.sheet.put_ref_line.Reads as put-ref-line-reads
 
 abbrev Inv-loop : tie.InvT-loop

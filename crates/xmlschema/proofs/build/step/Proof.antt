@@ -49,19 +49,19 @@ use Rattle.tags.proofs.tag.Notes.Laws as N′
 use Rattle.saxlite.proofs.reader.Event as E
 use Rattle.saxlite.proofs.reader.Event.Laws as E′
 use Rattle.xmlschema.specs.Whole.{step}
-use Rattle.xmlschema.specs.Layout.{builderOf, Ready, After}
+use Rattle.builder.specs.Layout.{builderOf, Ready, After}
 use Rattle.xmlschema.specs.Driving.{takes, Inside}
-use Rattle.xmlschema.specs.declared.state.Limits.{Limits}
-use Rattle.xmlschema.specs.declared.state.State.{State}
-use Rattle.xmlschema.specs.declared.state.Stepped.{Stepped}
-use Rattle.xmlschema.proofs.state.Limits as L
-use Rattle.xmlschema.proofs.state.Limits.Laws as L′
-use Rattle.xmlschema.proofs.state.State as T
-use Rattle.xmlschema.proofs.state.State.Laws as T′
-use Rattle.xmlschema.proofs.state.Verdict as F
-use Rattle.xmlschema.proofs.state.Verdict.Laws as F′
-use Rattle.xmlschema.proofs.state.Stepped as P
-use Rattle.xmlschema.proofs.state.Stepped.Laws as P′
+use Rattle.builder.specs.declared.state.Limits.{Limits}
+use Rattle.builder.specs.declared.state.State.{State}
+use Rattle.builder.specs.declared.state.Stepped.{Stepped}
+use Rattle.builder.proofs.state.Limits as L
+use Rattle.builder.proofs.state.Limits.Laws as L′
+use Rattle.builder.proofs.state.State as T
+use Rattle.builder.proofs.state.State.Laws as T′
+use Rattle.builder.proofs.state.Verdict as F
+use Rattle.builder.proofs.state.Verdict.Laws as F′
+use Rattle.builder.proofs.state.Stepped as P
+use Rattle.builder.proofs.state.Stepped.Laws as P′
 use Rattle.xmlschema.proofs.build.step_value as sv
 use Rattle.xmlschema.proofs.build.step_value.Symbol as sv-def
 use Rattle.xmlschema.proofs.build.step_value.Symbol.{name as #sv}

@@ -5,9 +5,9 @@ use Rattle.xmlschema.proofs.build.step_value.Tie as tie
 use Rattle.xmlschema.proofs.build.step_value.Reads as reads
 use Rattle.xmlschema.proofs.build.step_value.Lts as lts
 use Rattle.xmlschema.proofs.build.unchanged.Reads as unchanged-reads
-use Rattle.xmlschema.proofs.close.on_close.Reads as on-close-reads
-use Rattle.xmlschema.proofs.close.on_text.Reads as on-text-reads
-use Rattle.xmlschema.proofs.open.on_open.Reads as on-open-reads
+use Rattle.builder.proofs.close.on_close.Reads as on-close-reads
+use Rattle.builder.proofs.close.on_text.Reads as on-text-reads
+use Rattle.builder.proofs.open.on_open.Reads as on-open-reads
 
 -- src/build.rt:63:23
 enum-known-event : tie.Need-enum-known-event

@@ -70,18 +70,18 @@ use Rattle.saxlite.proofs.reader.next.Symbol as nx-def
 use Rattle.saxlite.proofs.reader.next.Symbol.{name as #nx}
 use Rattle.saxlite.proofs.reader.next.Met as nx-thm
 use Rattle.xmlschema.specs.Whole.{step}
-use Rattle.xmlschema.specs.Layout.{builderOf, Ready, After}
+use Rattle.builder.specs.Layout.{builderOf, Ready, After}
 use Rattle.xmlschema.specs.Driving.{takes, Inside}
-use Rattle.xmlschema.specs.declared.state.Limits.{Limits}
-use Rattle.xmlschema.specs.declared.state.State.{State}
-use Rattle.xmlschema.specs.declared.state.Verdict.{Verdict}
+use Rattle.builder.specs.declared.state.Limits.{Limits}
+use Rattle.builder.specs.declared.state.State.{State}
+use Rattle.builder.specs.declared.state.Verdict.{Verdict}
 use Rattle.xmlschema.specs.declared.build.Turned.{Turned}
-use Rattle.xmlschema.proofs.state.Limits as L
-use Rattle.xmlschema.proofs.state.Limits.Laws as L′
-use Rattle.xmlschema.proofs.state.State as T
-use Rattle.xmlschema.proofs.state.State.Laws as T′
-use Rattle.xmlschema.proofs.state.Verdict as F
-use Rattle.xmlschema.proofs.state.Verdict.Laws as F′
+use Rattle.builder.proofs.state.Limits as L
+use Rattle.builder.proofs.state.Limits.Laws as L′
+use Rattle.builder.proofs.state.State as T
+use Rattle.builder.proofs.state.State.Laws as T′
+use Rattle.builder.proofs.state.Verdict as F
+use Rattle.builder.proofs.state.Verdict.Laws as F′
 use Rattle.xmlschema.proofs.build.Turned as Q
 use Rattle.xmlschema.proofs.build.Turned.Laws as Q′
 use Rattle.xmlschema.proofs.build.step as st

@@ -1,8 +1,8 @@
 use native.Mathlib.Omega.{arith}
 use Prim.Native.Nat.{_-_}
 use Rattle.xmltoproto.proofs.Looping.{Seeking, seeking-room}
-use Rattle.xmlschema.specs.Schema.{allOf, aComposite}
-use Rattle.xmlschema.specs.Store.{schemaOf}
+use Rattle.model.specs.Schema.{allOf, aComposite}
+use Rattle.model.specs.Store.{schemaOf}
 use Rattle.xmltoproto.proofs.Walking.{ofKind, next-of, of-within}
 use Rattle.xmltoproto.specs.Arrays.{refusedComposite}
 use Rattle.xmltoproto.proofs.Laws.{ask as laws}
@@ -10,8 +10,8 @@ use Rattle.xmltoproto.proofs.arrays.first_composite.Statement.{statemen
 use Rattle.xmltoproto.proofs.arrays.first_composite.Tie as tie
 use Rattle.xmltoproto.proofs.arrays.first_composite.Reads as reads
 use Rattle.xmltoproto.proofs.arrays.first_composite.Lts as lts
-use Rattle.xmlschema.proofs.items.count.Reads as count-reads
-use Rattle.xmlschema.proofs.items.next_of.Reads as next-of-reads
+use Rattle.model.proofs.count.Reads as count-reads
+use Rattle.model.proofs.next_of.Reads as next-of-reads
 use Rattle.xmltoproto.proofs.arrays.is_refused_composite.Reads as is-refused-composite-reads
 
 abbrev Inv-loop : tie.InvT-loop

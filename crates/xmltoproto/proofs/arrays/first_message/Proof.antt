@@ -1,8 +1,8 @@
 use native.Mathlib.Omega.{arith}
 use Prim.Native.Nat.{_-_}
 use Rattle.xmltoproto.proofs.Looping.{Seeking, seeking-room}
-use Rattle.xmlschema.specs.Schema.{allOf, aMessage}
-use Rattle.xmlschema.specs.Store.{schemaOf}
+use Rattle.model.specs.Schema.{allOf, aMessage}
+use Rattle.model.specs.Store.{schemaOf}
 use Rattle.xmltoproto.proofs.Walking.{ofKind, next-of, of-within}
 use Rattle.xmltoproto.specs.Arrays.{refusedMessage}
 use Rattle.xmltoproto.proofs.Laws.{ask as laws}
@@ -10,8 +10,8 @@ use Rattle.xmltoproto.proofs.arrays.first_message.Statement.{statement}
 use Rattle.xmltoproto.proofs.arrays.first_message.Tie as tie
 use Rattle.xmltoproto.proofs.arrays.first_message.Reads as reads
 use Rattle.xmltoproto.proofs.arrays.first_message.Lts as lts
-use Rattle.xmlschema.proofs.items.count.Reads as count-reads
-use Rattle.xmlschema.proofs.items.next_of.Reads as next-of-reads
+use Rattle.model.proofs.count.Reads as count-reads
+use Rattle.model.proofs.next_of.Reads as next-of-reads
 use Rattle.xmltoproto.proofs.arrays.is_refused_message.Reads as is-refused-message-reads
 
 abbrev Inv-loop : tie.InvT-loop

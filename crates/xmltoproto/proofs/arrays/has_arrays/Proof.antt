@@ -3,7 +3,7 @@ use mathlib.Core.Logic.{⊎-elim}
 use native.Mathlib.Omega.{arith}
 use Prim.Native.Nat.{_-_}
 use lib.ListN.{length}
-use Rattle.xmlschema.specs.Store.{schemaOf}
+use Rattle.model.specs.Store.{schemaOf}
 use Rattle.xmltoproto.proofs.Viewing.{no-size-seen}
 use Rattle.xmltoproto.proofs.Refusals.{array-small}
 use Rattle.xmltoproto.proofs.Arrayless.{Lacking, lacking-on}
@@ -12,8 +12,8 @@ use Rattle.xmltoproto.proofs.arrays.has_arrays.Statement.{statement}
 use Rattle.xmltoproto.proofs.arrays.has_arrays.Tie as tie
 use Rattle.xmltoproto.proofs.arrays.has_arrays.Reads as reads
 use Rattle.xmltoproto.proofs.arrays.has_arrays.Lts as lts
-use Rattle.xmlschema.proofs.items.count.Reads as count-reads
-use Rattle.xmlschema.proofs.items.item.Reads as item-reads
+use Rattle.model.proofs.count.Reads as count-reads
+use Rattle.model.proofs.item.Reads as item-reads
 use Rattle.xmltoproto.proofs.arrays.is_member_array.Reads as is-member-array-reads
 
 abbrev Inv-loop : tie.InvT-loop

@@ -1,8 +1,8 @@
 use native.Mathlib.Omega.{arith}
 use Prim.Native.Nat.{_-_}
 use Rattle.xmltoproto.proofs.Looping.{Asking}
-use Rattle.xmlschema.specs.Schema.{itemAt, under, aMember}
-use Rattle.xmlschema.specs.Store.{schemaOf}
+use Rattle.model.specs.Schema.{itemAt, under, aMember}
+use Rattle.model.specs.Store.{schemaOf}
 use Rattle.xmltoproto.proofs.Walking.{underOwner, child-within}
 use Rattle.xmltoproto.specs.Types.{formOf, isArray}
 use Rattle.xmltoproto.proofs.Laws.{ask as laws}
@@ -10,7 +10,7 @@ use Rattle.xmltoproto.proofs.arrays.has_member_array.Statement.{stateme
 use Rattle.xmltoproto.proofs.arrays.has_member_array.Tie as tie
 use Rattle.xmltoproto.proofs.arrays.has_member_array.Reads as reads
 use Rattle.xmltoproto.proofs.arrays.has_member_array.Lts as lts
-use Rattle.xmlschema.proofs.items.count.Reads as count-reads
+use Rattle.model.proofs.count.Reads as count-reads
 use Rattle.index.proofs.child.Reads as child-reads
 use Rattle.xmltoproto.proofs.arrays.is_member_array.Reads as is-member-array-reads
 

@@ -4,7 +4,7 @@ use Rattle.xmltoproto.proofs.bound.field_most.Tie as tie
 use Rattle.xmltoproto.proofs.bound.field_most.Reads as reads
 use Rattle.xmltoproto.proofs.bound.field_most.Lts as lts
 use Rattle.index.proofs.field_declared.Reads as field-declared-reads
-use Rattle.xmlschema.proofs.items.item.Reads as item-reads
+use Rattle.model.proofs.item.Reads as item-reads
 use Rattle.xmltoproto.proofs.bound.named_most.Reads as named-most-reads
 use Rattle.xmltoproto.proofs.bound.typed_most.Reads as typed-most-reads
 

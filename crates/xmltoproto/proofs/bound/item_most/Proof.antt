@@ -3,7 +3,7 @@ use Rattle.xmltoproto.proofs.bound.item_most.Statement.{statement}
 use Rattle.xmltoproto.proofs.bound.item_most.Tie as tie
 use Rattle.xmltoproto.proofs.bound.item_most.Reads as reads
 use Rattle.xmltoproto.proofs.bound.item_most.Lts as lts
-use Rattle.xmlschema.proofs.items.item.Reads as item-reads
+use Rattle.model.proofs.item.Reads as item-reads
 use Rattle.xmltoproto.proofs.bound.field_most.Reads as field-most-reads
 use Rattle.xmltoproto.proofs.bound.named_most.Reads as named-most-reads
 use Rattle.xmltoproto.proofs.bound.typed_most.Reads as typed-most-reads

@@ -1,11 +1,11 @@
 use Prim.Native.Nat.{_-_}
-use Rattle.xmlschema.specs.Store.{schemaOf}
+use Rattle.model.specs.Store.{schemaOf}
 use Rattle.xmltoproto.proofs.Covering.{Summing, bounds}
 use Rattle.xmltoproto.proofs.bound.source_most.Statement.{statement}
 use Rattle.xmltoproto.proofs.bound.source_most.Tie as tie
 use Rattle.xmltoproto.proofs.bound.source_most.Reads as reads
 use Rattle.xmltoproto.proofs.bound.source_most.Lts as lts
-use Rattle.xmlschema.proofs.items.count.Reads as count-reads
+use Rattle.model.proofs.count.Reads as count-reads
 use Rattle.xmltoproto.proofs.bound.item_most.Reads as item-most-reads
 
 abbrev Inv-loop : tie.InvT-loop

@@ -3,7 +3,7 @@ use Rattle.xmltoproto.proofs.bound.value_most.Statement.{statement}
 use Rattle.xmltoproto.proofs.bound.value_most.Tie as tie
 use Rattle.xmltoproto.proofs.bound.value_most.Reads as reads
 use Rattle.xmltoproto.proofs.bound.value_most.Lts as lts
-use Rattle.xmlschema.proofs.items.item.Reads as item-reads
+use Rattle.model.proofs.item.Reads as item-reads
 
 -- src/bound.rt:64:9
 item-requires : tie.Need-item-requires

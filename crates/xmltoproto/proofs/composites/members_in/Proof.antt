@@ -1,15 +1,15 @@
 use native.Mathlib.Omega.{arith}
 use Prim.Native.Nat.{_-_}
 use Rattle.xmltoproto.proofs.Looping.{Counting, counting-room}
-use Rattle.xmlschema.specs.Schema.{under, aMember}
-use Rattle.xmlschema.specs.Store.{schemaOf}
+use Rattle.model.specs.Schema.{under, aMember}
+use Rattle.model.specs.Store.{schemaOf}
 use Rattle.xmltoproto.proofs.Walking.{underOwner, next-child, child-within}
 use Rattle.xmltoproto.proofs.Laws.{number as laws}
 use Rattle.xmltoproto.proofs.composites.members_in.Statement.{statement}
 use Rattle.xmltoproto.proofs.composites.members_in.Tie as tie
 use Rattle.xmltoproto.proofs.composites.members_in.Reads as reads
 use Rattle.xmltoproto.proofs.composites.members_in.Lts as lts
-use Rattle.xmlschema.proofs.items.count.Reads as count-reads
+use Rattle.model.proofs.count.Reads as count-reads
 use Rattle.index.proofs.child.Reads as child-reads
 
 abbrev Inv-loop : tie.InvT-loop

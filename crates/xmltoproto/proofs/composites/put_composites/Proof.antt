@@ -3,8 +3,8 @@ use Prim.Native.Nat.{_-_}
 use mathlib.Core.List.{[]}
 use Rattle.texts.specs.Choice.{pick}
 use Rattle.xmltoproto.proofs.Looping.{Walking}
-use Rattle.xmlschema.specs.Schema.{itemAt, allOf, aComposite}
-use Rattle.xmlschema.specs.Store.{schemaOf}
+use Rattle.model.specs.Schema.{itemAt, allOf, aComposite}
+use Rattle.model.specs.Store.{schemaOf}
 use Rattle.xmltoproto.proofs.Walking.{ofKind, of-within}
 use Rattle.xmltoproto.specs.Source.{compositeText}
 use Rattle.xmltoproto.specs.Composites.{isPrinted}
@@ -13,8 +13,8 @@ use Rattle.xmltoproto.proofs.composites.put_composites.Statement.{state
 use Rattle.xmltoproto.proofs.composites.put_composites.Tie as tie
 use Rattle.xmltoproto.proofs.composites.put_composites.Reads as reads
 use Rattle.xmltoproto.proofs.composites.put_composites.Lts as lts
-use Rattle.xmlschema.proofs.items.count.Reads as count-reads
-use Rattle.xmlschema.proofs.items.next_of.Reads as next-of-reads
+use Rattle.model.proofs.count.Reads as count-reads
+use Rattle.model.proofs.next_of.Reads as next-of-reads
 use Rattle.xmltoproto.proofs.composites.put_composite_if_printed.Reads as put-composite-if-printed-reads
 
 abbrev Inv-loop : tie.InvT-loop

@@ -1,8 +1,8 @@
 use native.Mathlib.Omega.{arith}
 use Prim.Native.Nat.{_-_}
 use Rattle.xmltoproto.proofs.Looping.{Numbering, numbering-room}
-use Rattle.xmlschema.specs.Schema.{itemAt, under, aMember}
-use Rattle.xmlschema.specs.Store.{schemaOf}
+use Rattle.model.specs.Schema.{itemAt, under, aMember}
+use Rattle.model.specs.Store.{schemaOf}
 use Rattle.xmltoproto.proofs.Walking.{underOwner, next-child, child-within}
 use Rattle.xmltoproto.specs.Source.{memberText}
 use Rattle.xmltoproto.proofs.Laws.{number as laws}
@@ -10,7 +10,7 @@ use Rattle.xmltoproto.proofs.composites.put_members.Statement.{statemen
 use Rattle.xmltoproto.proofs.composites.put_members.Tie as tie
 use Rattle.xmltoproto.proofs.composites.put_members.Reads as reads
 use Rattle.xmltoproto.proofs.composites.put_members.Lts as lts
-use Rattle.xmlschema.proofs.items.count.Reads as count-reads
+use Rattle.model.proofs.count.Reads as count-reads
 use Rattle.index.proofs.child.Reads as child-reads
 use Rattle.xmltoproto.proofs.composites.put_member.Reads as put-member-reads
 

@@ -1,8 +1,8 @@
 use native.Mathlib.Omega.{arith}
 use Prim.Native.Nat.{_-_}
 use Rattle.xmltoproto.proofs.Looping.{Numbering, numbering-room}
-use Rattle.xmlschema.specs.Schema.{itemAt, under, aRef}
-use Rattle.xmlschema.specs.Store.{schemaOf}
+use Rattle.model.specs.Schema.{itemAt, under, aRef}
+use Rattle.model.specs.Store.{schemaOf}
 use Rattle.xmltoproto.proofs.Walking.{underOwner, next-child, child-within}
 use Rattle.xmltoproto.specs.Source.{refText}
 use Rattle.xmltoproto.proofs.Laws.{number as laws}
@@ -10,7 +10,7 @@ use Rattle.xmltoproto.proofs.composites.put_refs.Statement.{statement}
 use Rattle.xmltoproto.proofs.composites.put_refs.Tie as tie
 use Rattle.xmltoproto.proofs.composites.put_refs.Reads as reads
 use Rattle.xmltoproto.proofs.composites.put_refs.Lts as lts
-use Rattle.xmlschema.proofs.items.count.Reads as count-reads
+use Rattle.model.proofs.count.Reads as count-reads
 use Rattle.index.proofs.child.Reads as child-reads
 use Rattle.xmltoproto.proofs.composites.put_ref.Reads as put-ref-reads
 

@@ -4,8 +4,8 @@ use Rattle.printing.specs.Standing.{Standing}
 use Rattle.printing.proofs.Again.{standing-none}
 use Rattle.names.specs.Conversions.{prefixOf}
 use Rattle.xmltoproto.proofs.Looping.{Walking, walking-length}
-use Rattle.xmlschema.specs.Schema.{itemAt, under, aValue}
-use Rattle.xmlschema.specs.Store.{schemaOf}
+use Rattle.model.specs.Schema.{itemAt, under, aValue}
+use Rattle.model.specs.Store.{schemaOf}
 use Rattle.xmltoproto.proofs.Walking.{underOwner, child-within}
 use Rattle.xmltoproto.proofs.Sources.{value-standing}
 use Rattle.xmltoproto.specs.Source.{valueText}
@@ -16,7 +16,7 @@ use Rattle.xmltoproto.proofs.enums.put_values.Reads as reads
 use Rattle.xmltoproto.proofs.enums.put_values.Lts as lts
 use Rattle.index.proofs.child.Reads as child-reads
 use Rattle.printing.proofs.skip.Reads as skip-reads
-use Rattle.xmlschema.proofs.items.count.Reads as count-reads
+use Rattle.model.proofs.count.Reads as count-reads
 use Rattle.xmltoproto.proofs.enums.put_prefix.Reads as put-prefix-reads
 use Rattle.xmltoproto.proofs.enums.put_value.Reads as put-value-reads
 

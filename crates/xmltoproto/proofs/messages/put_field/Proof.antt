@@ -10,9 +10,9 @@ use Rattle.xmltoproto.proofs.line.put_line.Reads as put-line-reads
 use Rattle.xmltoproto.proofs.typed.put_typed.Reads as put-typed-reads
 use Rattle.xmltoproto.proofs.types.field_sense.Reads as field-sense-reads
 use Rattle.xmltoproto.proofs.types.shape_of.Reads as shape-of-reads
-use Rattle.xmlschema.proofs.items.name_of.Reads as name-of-reads
-use Rattle.xmlschema.proofs.items.item.Reads as item-reads
-use Rattle.xmlschema.proofs.items.second_of.Reads as second-of-reads
+use Rattle.model.proofs.name_of.Reads as name-of-reads
+use Rattle.model.proofs.item.Reads as item-reads
+use Rattle.model.proofs.second_of.Reads as second-of-reads
 
 -- src/messages.rt:41:9
 item-requires : tie.Need-item-requires

@@ -1,8 +1,8 @@
 use native.Mathlib.Omega.{arith}
 use Prim.Native.Nat.{_-_}
 use Rattle.xmltoproto.proofs.Looping.{Walking}
-use Rattle.xmlschema.specs.Schema.{under, aGroup}
-use Rattle.xmlschema.specs.Store.{schemaOf}
+use Rattle.model.specs.Schema.{under, aGroup}
+use Rattle.model.specs.Store.{schemaOf}
 use Rattle.xmltoproto.proofs.Walking.{underOwner, child-within}
 use Rattle.xmltoproto.specs.Source.{groupText}
 use Rattle.xmltoproto.proofs.Laws.{walk as laws}
@@ -10,7 +10,7 @@ use Rattle.xmltoproto.proofs.messages.put_groups.Statement.{statement}
 use Rattle.xmltoproto.proofs.messages.put_groups.Tie as tie
 use Rattle.xmltoproto.proofs.messages.put_groups.Reads as reads
 use Rattle.xmltoproto.proofs.messages.put_groups.Lts as lts
-use Rattle.xmlschema.proofs.items.count.Reads as count-reads
+use Rattle.model.proofs.count.Reads as count-reads
 use Rattle.index.proofs.child.Reads as child-reads
 use Rattle.xmltoproto.proofs.messages.put_group.Reads as put-group-reads
 

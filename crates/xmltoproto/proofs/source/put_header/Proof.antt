@@ -7,7 +7,7 @@ use Rattle.xmltoproto.proofs.source.put_header.Reads as reads
 use Rattle.xmltoproto.proofs.source.put_header.Lts as lts
 use Rattle.printing.proofs.put_bytes.Reads as put-bytes-reads
 use Rattle.printing.proofs.put_decimal.Reads as put-decimal-reads
-use Rattle.xmlschema.proofs.items.package_of.Reads as package-of-reads
+use Rattle.model.proofs.package_of.Reads as package-of-reads
 use Rattle.xmltoproto.proofs.source.put_package.Reads as put-package-reads
 use Rattle.xmltoproto.proofs.view.id_of.Reads as id-of-reads
 use Rattle.xmltoproto.proofs.view.version_of.Reads as version-of-reads

@@ -5,7 +5,7 @@ use Rattle.xmltoproto.proofs.types.field_sense.Tie as tie
 use Rattle.xmltoproto.proofs.types.field_sense.Reads as reads
 use Rattle.xmltoproto.proofs.types.field_sense.Lts as lts
 use Rattle.index.proofs.field_declared.Reads as field-declared-reads
-use Rattle.xmlschema.proofs.items.count.Reads as count-reads
+use Rattle.model.proofs.count.Reads as count-reads
 use Rattle.xmltoproto.proofs.types.is_built_in.Reads as is-built-in-reads
 use Rattle.xmltoproto.proofs.types.sense_in.Reads as sense-in-reads
 use Rattle.xmltoproto.proofs.view.second_at.Reads as second-at-reads

@@ -3,8 +3,8 @@ use Rattle.xmltoproto.proofs.view.name_at.Statement.{statement}
 use Rattle.xmltoproto.proofs.view.name_at.Tie as tie
 use Rattle.xmltoproto.proofs.view.name_at.Reads as reads
 use Rattle.xmltoproto.proofs.view.name_at.Lts as lts
-use Rattle.xmlschema.proofs.items.item.Reads as item-reads
-use Rattle.xmlschema.proofs.items.name_of.Reads as name-of-reads
+use Rattle.model.proofs.item.Reads as item-reads
+use Rattle.model.proofs.name_of.Reads as name-of-reads
 
 -- src/view.rt:15:13
 item-requires : tie.Need-item-requires

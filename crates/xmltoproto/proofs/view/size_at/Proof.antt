@@ -4,7 +4,7 @@ use Rattle.xmltoproto.proofs.view.size_at.Statement.{statement}
 use Rattle.xmltoproto.proofs.view.size_at.Tie as tie
 use Rattle.xmltoproto.proofs.view.size_at.Reads as reads
 use Rattle.xmltoproto.proofs.view.size_at.Lts as lts
-use Rattle.xmlschema.proofs.items.item.Reads as item-reads
+use Rattle.model.proofs.item.Reads as item-reads
 
 -- src/view.rt:41:9
 item-requires : tie.Need-item-requires

@@ -1,0 +1,25 @@
+use Rattle.model.proofs.Laws.{laws}
+use Rattle.model.proofs.name_of.Statement.{statement}
+use Rattle.model.proofs.name_of.Tie as tie
+use Rattle.model.proofs.name_of.Reads as reads
+use Rattle.model.proofs.name_of.Lts as lts
+use Rattle.texts.proofs.part.Reads as part-reads
+
+-- src/lib.rt:147:16
+cast-part : tie.Need-cast-part
+cast-part c = search laws
+
+-- src/lib.rt:147:33
+cast-part-2 : tie.Need-cast-part-2
+cast-part-2 c = search laws
+
+-- src/lib.rt:147:5
+part-requires : tie.Need-part-requires
+part-requires c κs = search laws
+
+-- src/lib.rt:144:1
+returns : tie.Need-returns
+returns c = search laws
+
+pub name-of-spec : {M : Type 1} → statement M
+name-of-spec = tie.close (tie.spec cast-part cast-part-2 part-requires returns)
