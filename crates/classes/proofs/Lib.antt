@@ -1,2 +1,3 @@
--- How a table's rule is shown.
+-- How a table's rule is shown, and what it says of a class that two tests tell.
 pub mod Rule
+pub mod Ending

@@ -224,9 +224,9 @@ module _ (doc : List ℕ) (at : ℕ) {k : Opening} (b : KnownBeginning 62 doc (a
   closing-prefix = lost-is 62 refl doc (at + 2) b h
 
 pub plain-begins :
-    (doc : List ℕ) (name : ℕ) {end : ℕ} → end ≡ scan (until isTagNameEnd) doc name → {w : List ℕ} → w ≡ piece doc name (end - name) → {lost : ℕ} → lost ≡ prefixLength w →
+    (doc : List ℕ) (name : ℕ) {end : ℕ} → end ≡ scan (until isTagNameEnd) doc name → {lost : ℕ} → lost ≡ prefixLength (piece doc name (end - name)) →
     {v : List ℕ} → v ≡ piece doc (name + lost) (end - name - lost) → {keys : ℕ} → keysBy keys ≡ keysOf v → BeginsAt doc name (record { end = end; lost = lost; keys = keys })
-plain-begins doc name e p l q k = record { ends = e; lost = l ∙ ap prefixLength p; keys = k ∙ ap keysOf q }
+plain-begins doc name e l q k = record { ends = e; lost = l; keys = k ∙ ap keysOf q }
 
 -- ---- the tag that begins so
 

@@ -5,6 +5,7 @@ mod Parting
 mod Tagging
 mod Placeless
 mod Looking
+mod Stopping
 mod Striding
 mod Placing
 pub mod Ranges

@@ -1,8 +1,7 @@
 // Where a tag begins: its raw name, and what that says. Nearly every tag of a schema is of one of eleven names, written with a
 // space behind it, or with '>' where it closes: that is told by one comparison, with no walk for the name's end, a colon or the
 // names that matter.
-use crate::scan::prefix_len;
-use crate::scan::tag_name_end;
+use crate::scan::raw_name;
 use crate::tag::keys_of;
 use words::stands_long;
 use words::stands_short;
@@ -211,9 +210,10 @@ pub fn begin_at(doc: &[u8], name: usize, t: &[u8; 256]) -> Beginning
             };
         }
     }
-    let end = tag_name_end(doc, name, t);
+    let raw = raw_name(doc, name, t);
+    let end = raw.end;
+    let lost = raw.lost;
     let n = end - name;
-    let lost = prefix_len(texts::part(doc, name, n));
     let local = name + lost;
     let len = n - lost;
     let keys = keys_of(texts::part(doc, local, len));

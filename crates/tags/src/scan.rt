@@ -1,12 +1,15 @@
 // Scans and searches over the document.
 use classes::is_attribute_name_end_in;
+use classes::is_name_stop_in;
 use classes::is_space_in;
 use classes::is_tag_name_end_in;
 use words::stands_short;
 ghost use mathlib.Core.Path.{_≡_};
+ghost use Prim.Native.Nat.{_-_, _≤_};
+ghost use lib.ListN.{length};
 ghost use Rattle.texts.specs.Text.{piece};
 ghost use Rattle.texts.specs.Scan.{scan, until, is};
-ghost use Rattle.classes.specs.Table.{IsTable};
+ghost use Rattle.classes.specs.Table.{isNameStop, IsTable};
 ghost use Rattle.classes.specs.Class.{isSpace, isTagNameEnd, isAttributeNameEnd};
 ghost use Rattle.tags.specs.Find.{findFrom};
 ghost use Rattle.tags.specs.Names.{prefixLength, isXmlns};
@@ -112,6 +115,71 @@ pub fn tag_name_end(doc: &[u8], at: usize, t: &[u8; 256]) -> usize
     tag_name_each(doc, i, t)
 }
 
+// Where the raw name at `at` ends or first has a colon, byte by byte.
+fn name_stop_each(doc: &[u8], at: usize, t: &[u8; 256]) -> usize
+    requires { ⌜ IsTable (now t) ⌝ }
+    ensures { λ r. ⌜ r ≡ scan (until isNameStop) (now (doc .entry)) at ⌝ }
+{
+    let mut i = at;
+    while i < doc.len() {
+        if is_name_stop_in(t, doc[i]) {
+            return i;
+        }
+        i += 1;
+    }
+    i
+}
+
+// Where the raw name at `at` ends or first has a colon.
+fn name_stop(doc: &[u8], at: usize, t: &[u8; 256]) -> usize
+    requires { ⌜ IsTable (now t) ⌝ }
+    ensures { λ r. ⌜ r ≡ scan (until isNameStop) (now (doc .entry)) at ⌝ }
+{
+    if doc.len() < 4 {
+        return name_stop_each(doc, at, t);
+    }
+    let last = doc.len() - 4;
+    let mut i = at;
+    while i <= last {
+        if is_name_stop_in(t, doc[i]) {
+            return i;
+        }
+        if is_name_stop_in(t, doc[i + 1]) {
+            return i + 1;
+        }
+        if is_name_stop_in(t, doc[i + 2]) {
+            return i + 2;
+        }
+        if is_name_stop_in(t, doc[i + 3]) {
+            return i + 3;
+        }
+        i += 4;
+    }
+    name_stop_each(doc, i, t)
+}
+
+// A raw name: where it ends, and how many bytes it loses.
+pub struct Raw {
+    pub end: usize,
+    pub lost: usize,
+}
+
+// The raw name at `at`, in one walk: a name that takes the whole document is not walked again for its colon.
+pub fn raw_name(doc: &[u8], at: usize, t: &[u8; 256]) -> Raw
+    requires { ⌜ (at ≤ length (now doc)) × IsTable (now t) ⌝ }
+    ensures { λ r. ⌜ (r .end ≡ scan (until isTagNameEnd) (now (doc .entry)) at) × (r .lost ≡ prefixLength (piece (now (doc .entry)) at (r .end - at))) ⌝ }
+{
+    let stop = name_stop(doc, at, t);
+    if stop < doc.len() {
+        if doc[stop] == b':' {
+            let end = tag_name_end(doc, stop, t);
+            let lost = stop - at + 1;
+            return Raw { end, lost };
+        }
+    }
+    Raw { end: stop, lost: 0 }
+}
+
 // Where the attribute name at `at` ends, byte by byte.
 fn attribute_name_each(doc: &[u8], at: usize, t: &[u8; 256]) -> usize
     requires { ⌜ IsTable (now t) ⌝ }
@@ -177,6 +245,11 @@ pub fn attribute_name_end(doc: &[u8], at: usize, t: &[u8; 256]) -> usize
     ensures { λ r. ⌜ r ≡ scan (until isAttributeNameEnd) (now (doc .entry)) at ⌝ }
 {
     let from = past_xmlns(doc, at);
+    if from < doc.len() {
+        if doc[from] == b'=' {
+            return from;
+        }
+    }
     attribute_name_fours(doc, from, t)
 }
 
