@@ -8,7 +8,7 @@ use lib.ListN.{length, drop, getD}
 use borrow.Author.Tests.{eq-eqb, ne-eqb, lt-ltb, le-ltb, lt-leb, le-leb}
 use Rattle.texts.specs.Text.{ascii, startsWith}
 use Rattle.texts.specs.Scan.{scan, until, is}
-use Rattle.texts.proofs.Scanning.{scan-start, byte-stop}
+use Rattle.texts.proofs.Scanning.{scan-start, byte-on, byte-stop}
 use Rattle.classes.specs.Class.{isSpace, isAttributeNameEnd}
 use Rattle.refusals.specs.declared.Refusal.the-variants.{OpenTag, NoAttributeName, NoEquals, NoQuote, OpenValue}
 use Rattle.tags.specs.declared.tag.TagPart.{TagPart}
@@ -26,11 +26,18 @@ module _ (quote : ℕ) (doc : List ℕ) (name n at place : ℕ) {end : ℕ} (e :
   unfolding quotedAt
   quoted-open h = rw (← e, le-ltb end (length doc) h)
 
--- an empty value
-pub quoted-empty : (quote : ℕ) (doc : List ℕ) (name n at place : ℕ) → at < length doc → getD doc at 0 ≡ quote → Part name n at 0 (at + 1) ≡ quotedAt quote doc name n at place
-quoted-empty quote doc name n at place h e =
-    let z : at - at ≡ 0 = omega arith in
-    rw z at (quoted-ends quote doc name n at place (byte-stop scan-start h e) h)
+-- an empty value, and one of a single byte
+module _ (quote : ℕ) (doc : List ℕ) (name n at place : ℕ) (two : 2 ≤ length doc) (h : at ≤ length doc - 2) where
+  pub quoted-empty : getD doc at 0 ≡ quote → Part name n at 0 (at + 1) ≡ quotedAt quote doc name n at place
+  quoted-empty e =
+      let z : at - at ≡ 0 = omega arith in
+      rw z at (quoted-ends quote doc name n at place (byte-stop scan-start (omega arith) e) (omega arith))
+
+  pub quoted-single : (getD doc at 0 ≡ quote → ⊥) → getD doc (at + 1) 0 ≡ quote → Part name n at 1 (at + 2) ≡ quotedAt quote doc name n at place
+  quoted-single d e =
+      let z : at + 1 - at ≡ 1 = omega arith in
+      let w : at + 1 + 1 ≡ at + 2 = omega arith in
+      rw (z, w) at (quoted-ends quote doc name n at place (byte-stop (byte-on scan-start (omega arith) d) (omega arith) e) (omega arith))
 
 -- ---- a quoted value; b and c are what the comparisons with the quotes say, r what the function above returns
 

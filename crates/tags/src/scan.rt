@@ -58,7 +58,7 @@ fn skip_space_fours(doc: &[u8], at: usize, t: &[u8; 256]) -> usize
     skip_space_each(doc, i, t)
 }
 
-// Past the spaces at `at`: where a tag has none, as mostly, one byte tells it.
+// Past the spaces at `at`: where a tag has none, as mostly, one byte tells it, and where it has one, two.
 pub fn skip_space(doc: &[u8], at: usize, t: &[u8; 256]) -> usize
     requires { ⌜ IsTable (now t) ⌝ }
     ensures { λ r. ⌜ r ≡ scan isSpace (now (doc .entry)) at ⌝ }
@@ -67,7 +67,14 @@ pub fn skip_space(doc: &[u8], at: usize, t: &[u8; 256]) -> usize
         return at;
     }
     if is_space_in(t, doc[at]) {
-        return skip_space_fours(doc, at + 1, t);
+        let i = at + 1;
+        if doc.len() <= i {
+            return i;
+        }
+        if is_space_in(t, doc[i]) {
+            return skip_space_fours(doc, i + 1, t);
+        }
+        return i;
     }
     at
 }

@@ -99,21 +99,35 @@ fn quoted_part(doc: &[u8], name: usize, n: usize, at: usize, quote: u8, place: u
     }
 }
 
-// The same, where an empty value is told at once.
-fn empty_or_quoted(doc: &[u8], name: usize, n: usize, at: usize, quote: u8, place: usize) -> TagPart
+// The same, where an empty value and one of a single byte are told at once.
+fn short_or_quoted(doc: &[u8], name: usize, n: usize, at: usize, quote: u8, place: usize) -> TagPart
     ensures { λ r. ⌜ r ≡ quotedAt quote (now (doc .entry)) name n at place ⌝ }
 {
-    if at < doc.len() {
-        if doc[at] == quote {
-            let next = at + 1;
-            return TagPart::Attribute {
-                name,
-                name_len: n,
-                value: at,
-                value_len: 0,
-                next,
-            };
-        }
+    if doc.len() < 2 {
+        return quoted_part(doc, name, n, at, quote, place);
+    }
+    if doc.len() - 2 < at {
+        return quoted_part(doc, name, n, at, quote, place);
+    }
+    if doc[at] == quote {
+        let next = at + 1;
+        return TagPart::Attribute {
+            name,
+            name_len: n,
+            value: at,
+            value_len: 0,
+            next,
+        };
+    }
+    if doc[at + 1] == quote {
+        let next = at + 2;
+        return TagPart::Attribute {
+            name,
+            name_len: n,
+            value: at,
+            value_len: 1,
+            next,
+        };
     }
     quoted_part(doc, name, n, at, quote, place)
 }
@@ -124,11 +138,11 @@ fn value_part(doc: &[u8], name: usize, n: usize, at: usize, place: usize) -> Tag
 {
     if texts::starts_with(doc, at, b"\"") {
         let value = at + 1;
-        return empty_or_quoted(doc, name, n, value, b'"', place);
+        return short_or_quoted(doc, name, n, value, b'"', place);
     }
     if texts::starts_with(doc, at, b"'") {
         let value = at + 1;
-        return empty_or_quoted(doc, name, n, value, b'\'', place);
+        return short_or_quoted(doc, name, n, value, b'\'', place);
     }
     TagPart::Bad(Refusal::NoQuote { offset: at, place })
 }

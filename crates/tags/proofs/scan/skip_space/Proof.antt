@@ -6,33 +6,53 @@ use Rattle.tags.proofs.scan.skip_space.Lts as lts
 use Rattle.classes.proofs.is_space_in.Reads as is-space-in-reads
 use Rattle.tags.proofs.scan.skip_space_fours.Reads as skip-space-fours-reads
 
--- src/scan.rt:64:9
+-- src/scan.rt:67:9
 returns : tie.Need-returns
 returns c = search striding
 
--- src/scan.rt:66:23
+-- src/scan.rt:69:23
 shared-slice-read-is-space-in : tie.Need-shared-slice-read-is-space-in
 shared-slice-read-is-space-in c = search striding
 
--- src/scan.rt:66:8
+-- src/scan.rt:69:8
 is-space-in-requires : tie.Need-is-space-in-requires
 is-space-in-requires c κs = search striding
 
--- src/scan.rt:67:38
-add-skip-space-fours : tie.Need-add-skip-space-fours
-add-skip-space-fours c = search striding
+-- src/scan.rt:70:17
+add-i : tie.Need-add-i
+add-i c = search striding
 
--- src/scan.rt:67:9
-skip-space-fours-requires : tie.Need-skip-space-fours-requires
-skip-space-fours-requires c κs = search striding
-
--- src/scan.rt:67:9
+-- src/scan.rt:72:13
 returns-2 : tie.Need-returns-2
 returns-2 c = search striding
 
--- src/scan.rt:59:1
+-- src/scan.rt:74:27
+shared-slice-read-is-space-in-2 : tie.Need-shared-slice-read-is-space-in-2
+shared-slice-read-is-space-in-2 c = search striding
+
+-- src/scan.rt:74:12
+is-space-in-requires-2 : tie.Need-is-space-in-requires-2
+is-space-in-requires-2 c κs = search striding
+
+-- src/scan.rt:75:42
+add-skip-space-fours : tie.Need-add-skip-space-fours
+add-skip-space-fours c = search striding
+
+-- src/scan.rt:75:13
+skip-space-fours-requires : tie.Need-skip-space-fours-requires
+skip-space-fours-requires c κs = search striding
+
+-- src/scan.rt:75:13
 returns-3 : tie.Need-returns-3
 returns-3 c = search striding
+
+-- src/scan.rt:77:9
+returns-4 : tie.Need-returns-4
+returns-4 c = search striding
+
+-- src/scan.rt:62:1
+returns-5 : tie.Need-returns-5
+returns-5 c = search striding
 
 pub skip-space-spec : {M : Type 1} → statement M
 skip-space-spec =
@@ -41,7 +61,12 @@ skip-space-spec =
     returns
     shared-slice-read-is-space-in
     is-space-in-requires
+    add-i
+    returns-2
+    shared-slice-read-is-space-in-2
+    is-space-in-requires-2
     add-skip-space-fours
     skip-space-fours-requires
-    returns-2
-    returns-3)
+    returns-3
+    returns-4
+    returns-5)

@@ -11,8 +11,8 @@ starts-with-requires c κs = search laws
 add-value : tie.Need-add-value
 add-value c = search laws
 
-empty-or-quoted-requires : tie.Need-empty-or-quoted-requires
-empty-or-quoted-requires c κs = search laws
+short-or-quoted-requires : tie.Need-short-or-quoted-requires
+short-or-quoted-requires c κs = search laws
 
 returns : tie.Need-returns
 returns c = search laws
@@ -26,8 +26,8 @@ starts-with-requires-2 c κs = search laws
 add-value-2 : tie.Need-add-value-2
 add-value-2 c = search laws
 
-empty-or-quoted-requires-2 : tie.Need-empty-or-quoted-requires-2
-empty-or-quoted-requires-2 c κs = search laws
+short-or-quoted-requires-2 : tie.Need-short-or-quoted-requires-2
+short-or-quoted-requires-2 c κs = search laws
 
 returns-2 : tie.Need-returns-2
 returns-2 c = search laws
@@ -42,11 +42,11 @@ value-part-spec =
     slice-aggregate-starts-with
     starts-with-requires
     add-value
-    empty-or-quoted-requires
+    short-or-quoted-requires
     returns
     slice-aggregate-starts-with-2
     starts-with-requires-2
     add-value-2
-    empty-or-quoted-requires-2
+    short-or-quoted-requires-2
     returns-2
     returns-3)
