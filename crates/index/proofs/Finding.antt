@@ -113,6 +113,8 @@ module _ (m : Model) (rec : List ℕ) (i : ℕ) (e : Entry) (f : (t : List ℕ) 
 pub field-within : (s : Schema) (i : ℕ) (ix : List ℕ) → Indexed s ix → length (s .items) ≤ 1024 → itemAt s i .kind ≡ 9 → 12 * i + 1 < length ix
 field-within s i ix x most k = omega (arith, inside s i k, x .long most)
 
-pub field-told : (s : Schema) (i : ℕ) (ix : List ℕ) → Indexed s ix → length (s .items) ≤ 1024 → itemAt s i .kind ≡ 9 → {w : ℕ} → w ≡ getD ix (12 * i + 1) 0
-    → {r : Declaration} → ((d : Declaration) → w ≡ numberOf d → r ≡ d) → r ≡ declarationOf s (itemAt s i .second)
-field-told s i ix x most k ew g = g (declarationOf s (itemAt s i .second)) (ew ∙ x .types most .is i (omega arith) (inside s i k) k)
+pub field-number : (s : Schema) (i : ℕ) (ix : List ℕ) → Indexed s ix → length (s .items) ≤ 1024 → itemAt s i .kind ≡ 9 → {w : ℕ} → w ≡ getD ix (12 * i + 1) 0 → w ≡ numberOf (declarationOf s (itemAt s i .second))
+field-number s i ix x most k ew = ew ∙ x .types most .is i (omega arith) (inside s i k) k
+
+pub field-told : {d : Declaration} {w : ℕ} → w ≡ numberOf d → {r : Declaration} → ((d : Declaration) → w ≡ numberOf d → r ≡ d) → r ≡ d
+field-told {d} ew g = g d ew

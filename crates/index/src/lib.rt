@@ -493,13 +493,21 @@ pub fn declaration_in(m: Model, rec: &[u32], text: &[u8], name: &[u8]) -> Declar
     }
 }
 
+// What the type name of the field at `i` is declared as, by the number that the index holds.
+pub fn field_number(m: Model, rec: &[u32], text: &[u8], ix: &[u16], i: u32) -> u32
+    requires { ⌜ Indexed (schemaOf m (now rec) (now text)) (now ix) × (length (schemaOf m (now rec) (now text) .items) ≤ 1024) × (itemAt (schemaOf m (now rec) (now text)) i .kind ≡ aField) ⌝ }
+    ensures { λ r. ⌜ r ≡ numberOf (declarationOf (schemaOf m (now (rec .entry)) (now (text .entry))) (itemAt (schemaOf m (now (rec .entry)) (now (text .entry))) i .second)) ⌝ }
+{
+    let at = EACH * (i as usize) + CHAIN;
+    number(ix[at])
+}
+
 // What the type name of the field at `i` is declared as: the index holds it.
 pub fn field_declared(m: Model, rec: &[u32], text: &[u8], ix: &[u16], i: u32) -> Declaration
     requires { ⌜ Indexed (schemaOf m (now rec) (now text)) (now ix) × (length (schemaOf m (now rec) (now text) .items) ≤ 1024) × (itemAt (schemaOf m (now rec) (now text)) i .kind ≡ aField) ⌝ }
     ensures { λ r. ⌜ r ≡ declarationOf (schemaOf m (now (rec .entry)) (now (text .entry))) (itemAt (schemaOf m (now (rec .entry)) (now (text .entry))) i .second) ⌝ }
 {
-    let at = EACH * (i as usize) + CHAIN;
-    numbered(number(ix[at]))
+    numbered(field_number(m, rec, text, ix, i))
 }
 
 // What the type name of the item at `i` is declared as.

@@ -59,7 +59,7 @@ module _ (m : Model) (rec text : List ℕ) (i : ℕ) (e : Entry) (h : (t : List 
   unfolding itemOf
   second-short = rw (← ap (λ (x : Item). x .second) (h text)) (piece-short text (e .second) (e .slen))
 
-  pub kind-seen : e .kind ≡ itemAt (schemaOf m rec text) i .kind
+  kind-seen : e .kind ≡ itemAt (schemaOf m rec text) i .kind
   unfolding itemOf
   kind-seen = ap (λ (x : Item). x .kind) (h text)
 

@@ -2,7 +2,7 @@
 use mathlib.Core.Path.{_≡_, refl, sym, ap, subst, _∙_}
 use mathlib.Core.Bool.{Bool, true, false, not}
 use mathlib.Core.List.{List, [], _∷_, _++_, append-assoc}
-use Prim.Native.Nat.{ℕ, suc, _+_, _<_, _^_}
+use Prim.Native.Nat.{ℕ, suc, _+_, _-_, _<_, _^_}
 use native.Mathlib.Nat.{add-zero}
 use native.Mathlib.Omega.{arith}
 use lib.Dec.{eqb}
@@ -16,6 +16,7 @@ use Rattle.printing.specs.Standing.{Standing}
 use Rattle.printing.proofs.Sequencing.{blank, _▸_}
 use Rattle.printing.proofs.Again.{standing-within}
 use Rattle.names.specs.Conversions.{camelToSnake, camelToScreamingSnake, prefixOf, singularPascal}
+use Rattle.index.specs.Declarations.{declarationOf, numberOf}
 use Rattle.model.specs.Schema.{Item, Schema, noItem, itemAt, positionsFrom, allOf, under, aMember, aRef, aComposite, aValue, aGroup, aField}
 use Rattle.xmltoproto.specs.Types.{formOf, builtIn, asNamed, protoOf, protoBy, Meaning, meaning}
 use Rattle.xmltoproto.specs.Composites.{isPrinted, printedComposites}
@@ -26,6 +27,7 @@ use Rattle.xmltoproto.specs.declared.types.Shape.{Shape}
 use Rattle.xmltoproto.specs.declared.types.Shape.the-variants as shape
 use Rattle.xmltoproto.specs.declared.types.Sense.{Sense}
 use Rattle.xmltoproto.specs.declared.types.Sense.the-variants as sense
+use Rattle.xmltoproto.proofs.Typing.{number-named, number-typed}
 
 -- ---- header and enums
 
@@ -108,6 +110,14 @@ module _ {o : List ℕ} {at : ℕ} {o′ : List ℕ} {r : ℕ} where
     pub field-built-in : q ≡ sense.BuiltIn → (sh : Shape) → protoIn sh u [] ≡ protoOf (form u 0 []) → Printed o at o′ r (line ind (protoIn sh u []) (camelToSnake w) k) → Printed o at o′ r (fieldText s ind it)
     unfolding builtIn
     field-built-in f sh g d = by-meaning (rw (f, ← g) d)
+
+  -- by the number n that the index holds
+  module _ (s : Schema) (ind : List ℕ) (it : Item) {w : List ℕ} {k n : ℕ} (ew : w ≡ it .name) (ek : k ≡ it .number) (en : n ≡ numberOf (declarationOf s (it .second))) where
+    pub field-number-named : n ≡ 1 → {u : List ℕ} → u ≡ it .second → Printed o at o′ r (line ind (protoIn shape.Plain u []) (camelToSnake w) k) → Printed o at o′ r (fieldText s ind it)
+    field-number-named f eu d = field-declared s ind it eu ew ek sense.Declared (number-named s (it .second) en f) refl d
+
+    pub field-number-typed : 1 < n → Printed o at o′ r (line ind (protoOf (formOf (itemAt s (n - 2)))) (camelToSnake w) k) → Printed o at o′ r (fieldText s ind it)
+    field-number-typed h d = field-typed s ind it refl ew ek (sense.Typed (n - 2)) (number-typed s (it .second) en h) refl d
 
   -- ---- composites
 

@@ -3,7 +3,7 @@ use mathlib.Core.Path.{_≡_, refl, sym, ap, _∙_}
 use mathlib.Core.Bool.{Bool, true, false, not}
 use mathlib.Core.List.{List, [], _∷_, _++_}
 use mathlib.Core.Option.{Option, none, some}
-use Prim.Native.Nat.{ℕ, _≤_, _<_}
+use Prim.Native.Nat.{ℕ, _-_, _≤_, _<_}
 use native.Mathlib.Omega.{arith}
 use borrow.Author.Tests.{lt-ltb, le-ltb}
 use Rattle.texts.specs.Choice.{pick, _or_}
@@ -12,9 +12,10 @@ use Rattle.texts.specs.Lists.{isSome, among}
 use Rattle.texts.proofs.Among.{among-append}
 use Rattle.charsets.specs.Charset.{compatible}
 use Rattle.model.specs.Schema.{Schema, itemAt, lastNamed, aType, aComposite, anEnum}
-use Rattle.index.specs.Declarations.{declaredBy, declarationOf}
+use Rattle.index.specs.Declarations.{declaredBy, declarationOf, numberOf}
 use Rattle.index.specs.declared.Declaration.{Declaration}
 use Rattle.index.specs.declared.Declaration.the-variants as declaration
+use Rattle.index.proofs.Finding.{declaration-named, declaration-typed}
 use Rattle.xmltoproto.specs.Types.{builtIns, chars, isChar, isByte, isRaw, isArray, asNamed, ofLength, narrow, asPrimitive, protoOf, Meaning, declared, typed, formOf, isDeclared, typeOr, meaning}
 use Rattle.xmltoproto.specs.Names.{signedNames, unsignedNames, otherPrimitives}
 use Rattle.xmltoproto.specs.Shapes.{form, protoIn, meaningIn}
@@ -158,3 +159,11 @@ module _ (s : Schema) (name : List ℕ) {d : Declaration} (ed : d ≡ declaratio
 
     pub sense-unknown : b ≡ false → meaningIn s name sense.Unknown ≡ meaning s name
     sense-unknown t = rw (told, t) at absent
+
+-- by the number that the index holds
+module _ (s : Schema) (name : List ℕ) {n : ℕ} (en : n ≡ numberOf (declarationOf s name)) where
+  pub number-named : n ≡ 1 → meaningIn s name sense.Declared ≡ meaning s name
+  number-named f = sense-declared s name refl (sym (declaration-named f (declarationOf s name) en))
+
+  pub number-typed : 1 < n → meaningIn s name (sense.Typed (n - 2)) ≡ meaning s name
+  number-typed h = sense-typed s name refl (sym (declaration-typed (λ z. absurd (omega arith)) (λ z. absurd (omega arith)) (declarationOf s name) en))

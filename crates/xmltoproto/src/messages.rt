@@ -3,11 +3,13 @@ use crate::line::put_line;
 use crate::typed::put_typed;
 use crate::types::Sense;
 use crate::types::Shape;
-use crate::types::field_sense;
+use crate::types::sense_in;
 use crate::types::shape_of;
 use crate::view::name_at;
 use crate::view::number_at;
+use index::MOST;
 use index::child;
+use index::field_number;
 use model::FIELD;
 use model::GROUP;
 use model::MESSAGE;
@@ -31,7 +33,8 @@ ghost use Rattle.model.specs.Store.{schemaOf};
 ghost use Rattle.xmltoproto.specs.Source.{fieldText, groupText, messageText};
 ghost use Rattle.xmltoproto.specs.Parts.{indentOf, groupHead};
 
-fn put_field(
+// A field whose type name is declared nowhere, or of a schema with more items than the index holds.
+fn put_unsettled(
     out: &mut [u8],
     at: usize,
     t: &[u8; 256],
@@ -49,7 +52,7 @@ fn put_field(
     let type_name = second_of(e, text);
     let name = name_of(e, text);
     let number = e.number;
-    match field_sense(m, rec, text, ix, i, e.kind) {
+    match sense_in(m, rec, text, ix, i) {
         Sense::Declared => put_line(out, at, t, deep, Shape::Plain, type_name, b"", name, number),
         Sense::Typed(k) => put_typed(out, at, t, m, rec, text, deep, k, name, number),
         Sense::BuiltIn => {
@@ -58,6 +61,41 @@ fn put_field(
         }
         Sense::Unknown => put_line(out, at, t, deep, Shape::Plain, type_name, b"", name, number),
     }
+}
+
+// By the number that the index holds for the type name, 1 for an enum or composite and above it the types: an enum made
+// of it is written and read again, which is waited for.
+fn put_field(
+    out: &mut [u8],
+    at: usize,
+    t: &[u8; 256],
+    m: Model,
+    rec: &[u32],
+    text: &[u8],
+    ix: &[u16],
+    deep: bool,
+    i: u32,
+) -> usize
+    requires { ⌜ IsTable (now t) × Indexed (schemaOf m (now rec) (now text)) (now ix) ⌝ }
+    ensures { λ r. ⌜ Printed (now (out .entry)) at (now (out .exit)) r (fieldText (schemaOf m (now (rec .entry)) (now (text .entry))) (indentOf deep) (itemAt (schemaOf m (now (rec .entry)) (now (text .entry))) i)) ⌝ }
+{
+    let e = item(m, rec, i);
+    let name = name_of(e, text);
+    let number = e.number;
+    if e.kind == FIELD {
+        if count(m, rec, text) <= MOST {
+            let known = field_number(m, rec, text, ix, i);
+            if known == 1 {
+                let type_name = second_of(e, text);
+                return put_line(out, at, t, deep, Shape::Plain, type_name, b"", name, number);
+            }
+            if 1 < known {
+                let k = known - 2;
+                return put_typed(out, at, t, m, rec, text, deep, k, name, number);
+            }
+        }
+    }
+    put_unsettled(out, at, t, m, rec, text, ix, deep, i)
 }
 
 fn put_fields(

@@ -2,12 +2,8 @@
 use crate::view::second_at;
 use charsets::is_compatible;
 use index::Declaration;
-use index::MOST;
 use index::declared;
-use index::field_declared;
-use model::FIELD;
 use model::Model;
-use model::count;
 use texts::equal;
 ghost use mathlib.Core.Path.{_≡_};
 ghost use mathlib.Core.List.{List, []};
@@ -184,26 +180,4 @@ pub fn sense_in(m: Model, rec: &[u32], text: &[u8], ix: &[u16], i: u32) -> Sense
             Sense::Unknown
         }
     }
-}
-
-// The same of an item of a kind; a field's declaration is at hand in the index.
-pub fn field_sense(m: Model, rec: &[u32], text: &[u8], ix: &[u16], i: u32, kind: u32) -> Sense
-    requires { ⌜ Indexed (schemaOf m (now rec) (now text)) (now ix) × (kind ≡ itemAt (schemaOf m (now rec) (now text)) i .kind) ⌝ }
-    ensures { λ r. ⌜ meaningIn (schemaOf m (now (rec .entry)) (now (text .entry))) (itemAt (schemaOf m (now (rec .entry)) (now (text .entry))) i .second) r ≡ meaning (schemaOf m (now (rec .entry)) (now (text .entry))) (itemAt (schemaOf m (now (rec .entry)) (now (text .entry))) i .second) ⌝ }
-{
-    if kind == FIELD {
-        if count(m, rec, text) <= MOST {
-            return match field_declared(m, rec, text, ix, i) {
-                Declaration::Named => Sense::Declared,
-                Declaration::Typed(k) => Sense::Typed(k),
-                Declaration::Nothing => {
-                    if is_built_in(second_at(m, rec, text, i)) {
-                        return Sense::BuiltIn;
-                    }
-                    Sense::Unknown
-                }
-            };
-        }
-    }
-    sense_in(m, rec, text, ix, i)
 }
