@@ -17,7 +17,7 @@ use Rattle.texts.specs.Trim.{trimmed}
 use Rattle.texts.proofs.Among.{among-append}
 use Rattle.texts.proofs.Choosing.{by-test, is-true, and-left, and-right}
 use Rattle.texts.proofs.Comparing.{same-lengths}
-use Rattle.names.specs.Letters.{lowered}
+use Rattle.conversions.specs.Letters.{lowered}
 use Rattle.charsets.specs.Charset.{isPunctuation, cleaned, charsets, compatible}
 use Rattle.charsets.specs.Names.{ansiNames, isoNames, otherNames, isName}
 use Rattle.charsets.specs.Letters.{Passed, Letters}

@@ -6,7 +6,7 @@ use lib.Dec.{eqb}
 use Rattle.texts.specs.Choice.{pick, _or_}
 use Rattle.texts.specs.Text.{ascii}
 use Rattle.texts.specs.Trim.{trimmed}
-use Rattle.names.specs.Letters.{lowered}
+use Rattle.conversions.specs.Letters.{lowered}
 use Rattle.texts.specs.Lists.{isEmpty, among}
 
 -- '-', '_', '.', ':' and the space

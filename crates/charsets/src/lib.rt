@@ -4,7 +4,7 @@
 // empty or one of 13 names. The text is cleaned once, into an array that the longest name fits in: one
 // letter more, and it is none of them.
 use classes::table;
-use names::convert::lower_in;
+use conversions::convert::lower_in;
 use texts::equal;
 use texts::part;
 use texts::trim;

@@ -1,9 +1,3 @@
--- Laws of the conversions and of their entries.
-pub mod Letters
-pub mod Positions
-pub mod Singular
-pub mod Cutting
+-- Laws of the entries.
 pub mod Entering
-pub mod Trials
 pub mod Laws
-pub mod Storing

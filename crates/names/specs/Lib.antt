@@ -1,6 +1,2 @@
--- The six name conversions, and what their entries answer.
-pub mod Letters
-pub mod Conversions
+-- What the entries of the six name conversions answer.
 pub mod Entry
-pub mod Prefix
-pub mod Room

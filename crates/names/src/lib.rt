@@ -1,20 +1,18 @@
-// The six name conversions, for customers' own programs and for the generator.
+// The six name conversions, for customers' own programs.
 //
 // Each is a public entry: the name and the output are lent, and the answer is the number of bytes
 // written or one of the refusals 1, 10 and 3, in that order. Its contract, on all inputs: the answer
-// is the one of specs/Entry.antt, and the output is the converted name of specs/Conversions.antt and
-// then what stood there, or, after a refusal, what it held. No entry asks anything of its caller.
-//
-// The printing steps of `convert` are what the generator prints names with.
-pub mod convert;
-pub mod prefix;
-
+// is the one of specs/Entry.antt, and the output is the converted name (specs/Conversions.antt of the
+// crate `conversions`) and then what stood there, or, after a refusal, what it held. No entry asks
+// anything of its caller.
+use conversions::convert;
+use conversions::prefix;
 use refusals::Answer;
 use refusals::Refusal;
 ghost use Prim.Native.Nat.{ℕ};
 ghost use mathlib.Core.Path.{_≡_};
 ghost use lib.ListN.{length};
-ghost use Rattle.names.specs.Conversions.{camelToSnake, snakeToCamel, camelToScreamingSnake, screamingSnakeToPascal, stripEnumPrefix, singularPascal};
+ghost use Rattle.conversions.specs.Conversions.{camelToSnake, snakeToCamel, camelToScreamingSnake, screamingSnakeToPascal, stripEnumPrefix, singularPascal};
 ghost use Rattle.names.specs.Entry.{tested, testedTwo, Answers};
 
 // The longest name that is taken.

@@ -5,7 +5,7 @@
 use refusals::Answer;
 ghost use mathlib.Core.Path.{_≡_};
 ghost use lib.ListN.{length};
-ghost use Rattle.names.specs.Conversions.{camelToSnake, snakeToCamel, camelToScreamingSnake, screamingSnakeToPascal, stripEnumPrefix, singularPascal};
+ghost use Rattle.conversions.specs.Conversions.{camelToSnake, snakeToCamel, camelToScreamingSnake, screamingSnakeToPascal, stripEnumPrefix, singularPascal};
 ghost use Rattle.names.specs.Entry.{tested, testedTwo};
 ghost use Rattle.xmlschema.specs.Whole.{answerOf};
 ghost use Rattle.sbe.specs.Report.{Reports, NameReports, ConversionReports};

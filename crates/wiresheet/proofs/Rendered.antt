@@ -5,7 +5,7 @@ use Prim.Native.Nat.{ℕ}
 use native.Mathlib.Omega.{arith}
 use Rattle.texts.specs.Text.{ascii, same}
 use Rattle.texts.specs.Lists.{each, numbered, all, Every, among}
-use Rattle.names.specs.Conversions.{prefixOf}
+use Rattle.conversions.specs.Conversions.{prefixOf}
 use Rattle.numbers.specs.Numbers.{isDigit}
 use Rattle.xmltoproto.specs.Source.{packageLine}
 use Rattle.wiresheet.specs.Sheet.{Value, Enum, Part, Composite, Field, Group, Message, Sheet}

@@ -9,7 +9,7 @@ use Rattle.texts.specs.Text.{ascii}
 use Rattle.texts.specs.Lists.{each, numbered}
 use Rattle.texts.proofs.Choosing.{by-test}
 use Rattle.printing.specs.Decimal.{decimal}
-use Rattle.names.specs.Conversions.{prefixOf}
+use Rattle.conversions.specs.Conversions.{prefixOf}
 use Rattle.charsets.specs.Charset.{compatible}
 use Rattle.model.specs.Schema.{Item, Schema, itemAt, allOf, under, aMember, aRef, anEnum, aValue, aMessage, aGroup, aField}
 use Rattle.xmltoproto.specs.Types.{Form, formOf, isChar, isRaw, Proto, asNamed, ofLength, noteOn, asPrimitive, protoOf, Meaning, declared, typed, unknown, meaning, protoBy}

@@ -12,8 +12,8 @@ use Rattle.texts.specs.Lists.{isEmpty, all}
 use Rattle.texts.proofs.Choosing.{by-test, and-left, and-right}
 use Rattle.classes.specs.Class.{isUpper, isLower}
 use Rattle.printing.specs.Repeated.{upTo}
-use Rattle.names.specs.Letters.{lowered, raised}
-use Rattle.names.specs.Conversions.{camelToSnake, snakeAt, breaksSnake, camelToScreamingSnake, screamingAt, breaksScreaming, endsInIes, endsInS, singular, capitalized, singularPascal}
+use Rattle.conversions.specs.Letters.{lowered, raised}
+use Rattle.conversions.specs.Conversions.{camelToSnake, snakeAt, breaksSnake, camelToScreamingSnake, screamingAt, breaksScreaming, endsInIes, endsInS, singular, capitalized, singularPascal}
 use Rattle.numbers.specs.Numbers.{isDigit}
 use Rattle.wiresheet.specs.Plain.{isLetter, isNameByte, isIdentifier, isDotted, isPackage, isDigits, isInteger}
 use Rattle.wiresheet.proofs.Numbers.{and-both, all-append}

@@ -6,8 +6,8 @@ use Rattle.texts.specs.Lists.{each, all, Every, among}
 use Rattle.classes.specs.Class.{isUpper, isLower}
 use Rattle.printing.specs.Decimal.{decimal, digits}
 use Rattle.printing.specs.Repeated.{upTo}
-use Rattle.names.specs.Letters.{lowered, raised}
-use Rattle.names.specs.Conversions.{camelToSnake, snakeAt, breaksSnake, camelToScreamingSnake, screamingAt, breaksScreaming, endsInIes, endsInS, singular, capitalized, singularPascal}
+use Rattle.conversions.specs.Letters.{lowered, raised}
+use Rattle.conversions.specs.Conversions.{camelToSnake, snakeAt, breaksSnake, camelToScreamingSnake, screamingAt, breaksScreaming, endsInIes, endsInS, singular, capitalized, singularPascal}
 use Rattle.charsets.specs.Charset.{isPunctuation, cleaned, compatible}
 use Rattle.numbers.specs.Numbers.{isDigit}
 use Rattle.model.specs.Schema.{positionsFrom, allOf, under, last, lastNamed}

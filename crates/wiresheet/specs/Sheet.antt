@@ -5,7 +5,7 @@ use Rattle.texts.specs.Choice.{pick}
 use Rattle.texts.specs.Text.{ascii}
 use Rattle.texts.specs.Lists.{each}
 use Rattle.printing.specs.Decimal.{decimal}
-use Rattle.names.specs.Conversions.{camelToSnake, camelToScreamingSnake, singularPascal}
+use Rattle.conversions.specs.Conversions.{camelToSnake, camelToScreamingSnake, singularPascal}
 use Rattle.charsets.specs.Charset.{compatible}
 use Rattle.model.specs.Schema.{Item, Schema, itemAt, allOf, under, aMember, aRef, anEnum, aValue, aMessage, aGroup, aField}
 use Rattle.xmltoproto.specs.Types.{Form, formOf, isChar, isRaw, chars, Meaning, declared, typed, unknown, meaning}

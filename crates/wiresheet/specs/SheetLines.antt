@@ -3,7 +3,7 @@ use mathlib.Core.List.{List, [], _∷_}
 use Prim.Native.Nat.{ℕ}
 use Rattle.texts.specs.Text.{ascii}
 use Rattle.printing.specs.Decimal.{decimal}
-use Rattle.names.specs.Conversions.{camelToSnake, singularPascal}
+use Rattle.conversions.specs.Conversions.{camelToSnake, singularPascal}
 use Rattle.model.specs.Schema.{Schema, itemAt}
 use Rattle.wiresheet.specs.Sheet.{Value, Part, shown, kindShown}
 

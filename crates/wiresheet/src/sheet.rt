@@ -1,6 +1,9 @@
 // The wire sheet of a schema, printed as lines from the model (specs/Sheet.antt).
 use crate::sense::sense_of;
 use charsets::is_compatible;
+use conversions::convert::put_screaming;
+use conversions::convert::put_singular;
+use conversions::convert::put_snake;
 use model::COMPOSITE;
 use model::ENUM;
 use model::FIELD;
@@ -15,9 +18,6 @@ use model::count;
 use model::next_of;
 use model::next_under;
 use model::package_of;
-use names::convert::put_screaming;
-use names::convert::put_singular;
-use names::convert::put_snake;
 use printing::put_bytes;
 use printing::put_decimal;
 use texts::equal;

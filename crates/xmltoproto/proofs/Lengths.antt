@@ -14,9 +14,9 @@ use Rattle.texts.proofs.Choosing.{by-test}
 use Rattle.printing.specs.Decimal.{decimal}
 use Rattle.printing.specs.Repeated.{upTo}
 use Rattle.printing.proofs.Decimals.{decimal-one, decimal-more}
-use Rattle.names.specs.Letters.{lowered, raised}
-use Rattle.names.specs.Conversions.{breaksSnake, snakeAt, camelToSnake, breaksScreaming, screamingAt, camelToScreamingSnake, prefixOf, endsInIes, endsInS, singular, capitalized, singularPascal}
-use Rattle.names.proofs.Singular.{ies-least}
+use Rattle.conversions.specs.Letters.{lowered, raised}
+use Rattle.conversions.specs.Conversions.{breaksSnake, snakeAt, camelToSnake, breaksScreaming, screamingAt, camelToScreamingSnake, prefixOf, endsInIes, endsInS, singular, capitalized, singularPascal}
+use Rattle.conversions.proofs.Singular.{ies-least}
 use Rattle.escaping.specs.Escape.{hexDigit, hex, escaped, quoted}
 
 pub pick-most : (b : Bool) (x y : List ℕ) (n : ℕ) → length x ≤ n → length y ≤ n → length (pick b x y) ≤ n

@@ -14,7 +14,7 @@ use Rattle.texts.specs.Lists.{among}
 use Rattle.texts.proofs.Choosing.{by-test}
 use Rattle.printing.specs.Decimal.{digits, decimal}
 use Rattle.charsets.specs.Charset.{cleaned, compatible}
-use Rattle.names.specs.Conversions.{camelToSnake}
+use Rattle.conversions.specs.Conversions.{camelToSnake}
 use Rattle.index.specs.Declarations.{declarationOf}
 use Rattle.index.specs.declared.Declaration.{Declaration}
 use Rattle.index.specs.declared.Declaration.the-variants.{Named, Typed, Nothing}

@@ -15,7 +15,7 @@ use Rattle.printing.specs.Printed.{skipped, Printed}
 use Rattle.printing.specs.Standing.{Standing}
 use Rattle.printing.proofs.Sequencing.{blank, _▸_}
 use Rattle.printing.proofs.Again.{standing-within}
-use Rattle.names.specs.Conversions.{camelToSnake, camelToScreamingSnake, prefixOf, singularPascal}
+use Rattle.conversions.specs.Conversions.{camelToSnake, camelToScreamingSnake, prefixOf, singularPascal}
 use Rattle.index.specs.Declarations.{declarationOf, numberOf}
 use Rattle.model.specs.Schema.{Item, Schema, noItem, itemAt, positionsFrom, allOf, under, aMember, aRef, aComposite, aValue, aGroup, aField}
 use Rattle.xmltoproto.specs.Types.{formOf, builtIn, asNamed, protoOf, protoBy, Meaning, meaning}

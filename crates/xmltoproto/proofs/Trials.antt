@@ -11,8 +11,8 @@ use Rattle.texts.specs.Lists.{each, numbered, any, among}
 use Rattle.classes.specs.Class.{isUpper, isLower}
 use Rattle.printing.specs.Decimal.{decimal, digits}
 use Rattle.printing.specs.Repeated.{upTo}
-use Rattle.names.specs.Letters.{lowered, raised}
-use Rattle.names.specs.Conversions.{camelToSnake, snakeAt, breaksSnake, camelToScreamingSnake, screamingAt, breaksScreaming, prefixOf, endsInIes, endsInS, singular, capitalized, singularPascal}
+use Rattle.conversions.specs.Letters.{lowered, raised}
+use Rattle.conversions.specs.Conversions.{camelToSnake, snakeAt, breaksSnake, camelToScreamingSnake, screamingAt, breaksScreaming, prefixOf, endsInIes, endsInS, singular, capitalized, singularPascal}
 use Rattle.refusals.specs.declared.Refusal.the-variants.{ArrayInComposite, ArrayInMessage}
 use Rattle.escaping.specs.Escape.{hex, escaped, quoted}
 use Rattle.charsets.specs.Charset.{isPunctuation, cleaned, compatible}

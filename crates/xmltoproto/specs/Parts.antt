@@ -7,7 +7,7 @@ use lib.ListN.{length}
 use Rattle.texts.specs.Choice.{pick}
 use Rattle.texts.specs.Text.{ascii}
 use Rattle.texts.specs.Lists.{each}
-use Rattle.names.specs.Conversions.{singularPascal}
+use Rattle.conversions.specs.Conversions.{singularPascal}
 use Rattle.model.specs.Schema.{Schema, itemAt, under, aMember, aField}
 use Rattle.xmltoproto.specs.Source.{fieldText}
 

@@ -6,7 +6,7 @@ use Rattle.texts.specs.Choice.{pick}
 use Rattle.texts.specs.Text.{ascii}
 use Rattle.texts.specs.Lists.{isEmpty, each, numbered}
 use Rattle.printing.specs.Decimal.{decimal}
-use Rattle.names.specs.Conversions.{camelToSnake, camelToScreamingSnake, prefixOf, singularPascal}
+use Rattle.conversions.specs.Conversions.{camelToSnake, camelToScreamingSnake, prefixOf, singularPascal}
 use Rattle.model.specs.Schema.{Item, Schema, itemAt, allOf, under, aMember, aRef, anEnum, aValue, aMessage, aGroup, aField}
 use Rattle.xmltoproto.specs.Composites.{printedComposites}
 use Rattle.xmltoproto.specs.Types.{Proto, asNamed, formOf, protoOf, protoBy, meaning}

@@ -1,6 +1,7 @@
 // Enums, printed.
 use crate::view::name_at;
 use crate::view::second_at;
+use conversions::convert::put_screaming_in;
 use index::child;
 use model::ENUM;
 use model::Model;
@@ -8,7 +9,6 @@ use model::Position;
 use model::VALUE;
 use model::count;
 use model::next_of;
-use names::convert::put_screaming_in;
 use printing::put_again;
 use printing::put_byte;
 use printing::put_bytes;
@@ -18,7 +18,7 @@ ghost use Rattle.texts.specs.Lists.{each};
 ghost use Rattle.classes.specs.Table.{IsTable};
 ghost use Rattle.printing.specs.Printed.{Printed, past};
 ghost use Rattle.printing.specs.Standing.{Standing};
-ghost use Rattle.names.specs.Conversions.{prefixOf};
+ghost use Rattle.conversions.specs.Conversions.{prefixOf};
 ghost use Rattle.model.specs.Schema.{itemAt, under, allOf, anEnum, aValue};
 ghost use Rattle.index.specs.Index.{Indexed};
 ghost use Rattle.model.specs.Store.{schemaOf};

@@ -1,7 +1,7 @@
 // One line of a message: its note, type, name, number and option.
 use crate::types::Shape;
+use conversions::convert::put_snake_in;
 use escaping::put_quoted;
-use names::convert::put_snake_in;
 use printing::put_byte;
 use printing::put_bytes;
 use printing::put_decimal;
@@ -9,7 +9,7 @@ ghost use Prim.Native.Nat.{_<_};
 ghost use Rattle.classes.specs.Table.{IsTable};
 ghost use Rattle.printing.specs.Decimal.{decimal};
 ghost use Rattle.printing.specs.Printed.{Printed};
-ghost use Rattle.names.specs.Conversions.{camelToSnake};
+ghost use Rattle.conversions.specs.Conversions.{camelToSnake};
 ghost use Rattle.xmltoproto.specs.Types.{noteOn};
 ghost use Rattle.xmltoproto.specs.Parts.{indentOf};
 ghost use Rattle.xmltoproto.specs.Source.{noteLine, bracketed, line};

@@ -7,7 +7,7 @@ use crate::view::size_at;
 use model::Model;
 ghost use Rattle.classes.specs.Table.{IsTable};
 ghost use Rattle.printing.specs.Printed.{Printed};
-ghost use Rattle.names.specs.Conversions.{camelToSnake};
+ghost use Rattle.conversions.specs.Conversions.{camelToSnake};
 ghost use Rattle.model.specs.Schema.{itemAt};
 ghost use Rattle.model.specs.Store.{schemaOf};
 ghost use Rattle.xmltoproto.specs.Types.{formOf, protoOf};

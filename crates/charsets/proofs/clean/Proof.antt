@@ -9,7 +9,7 @@ use Rattle.charsets.proofs.clean.Reads as reads
 use Rattle.charsets.proofs.clean.Lts as lts
 use Rattle.charsets.proofs.mark.Reads as mark-reads
 use Rattle.charsets.proofs.past_eights.Reads as past-eights-reads
-use Rattle.names.proofs.convert.lower_in.Reads as lower-in-reads
+use Rattle.conversions.proofs.convert.lower_in.Reads as lower-in-reads
 
 abbrev Inv-loop : tie.InvT-loop
 Inv-loop out₀ s t i₀ n₀ out i n = Cleaning s out i n × (length out ≡ length out₀)

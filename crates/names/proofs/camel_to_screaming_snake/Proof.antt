@@ -7,7 +7,7 @@ use Rattle.names.proofs.camel_to_screaming_snake.Statement.{statement}
 use Rattle.names.proofs.camel_to_screaming_snake.Tie as tie
 use Rattle.names.proofs.camel_to_screaming_snake.Reads as reads
 use Rattle.names.proofs.camel_to_screaming_snake.Lts as lts
-use Rattle.names.proofs.convert.put_screaming.Reads as put-screaming-reads
+use Rattle.conversions.proofs.convert.put_screaming.Reads as put-screaming-reads
 use Rattle.names.proofs.test.Reads as test-reads
 
 -- src/lib.rt:102:11

@@ -7,7 +7,7 @@ use Rattle.names.proofs.camel_to_snake.Statement.{statement}
 use Rattle.names.proofs.camel_to_snake.Tie as tie
 use Rattle.names.proofs.camel_to_snake.Reads as reads
 use Rattle.names.proofs.camel_to_snake.Lts as lts
-use Rattle.names.proofs.convert.put_snake.Reads as put-snake-reads
+use Rattle.conversions.proofs.convert.put_snake.Reads as put-snake-reads
 use Rattle.names.proofs.test.Reads as test-reads
 
 -- src/lib.rt:68:11

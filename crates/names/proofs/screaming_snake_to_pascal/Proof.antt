@@ -7,7 +7,7 @@ use Rattle.names.proofs.screaming_snake_to_pascal.Statement.{statement}
 use Rattle.names.proofs.screaming_snake_to_pascal.Tie as tie
 use Rattle.names.proofs.screaming_snake_to_pascal.Reads as reads
 use Rattle.names.proofs.screaming_snake_to_pascal.Lts as lts
-use Rattle.names.proofs.convert.put_pascal.Reads as put-pascal-reads
+use Rattle.conversions.proofs.convert.put_pascal.Reads as put-pascal-reads
 use Rattle.names.proofs.test.Reads as test-reads
 
 -- src/lib.rt:119:11

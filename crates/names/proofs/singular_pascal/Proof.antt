@@ -7,7 +7,7 @@ use Rattle.names.proofs.singular_pascal.Statement.{statement}
 use Rattle.names.proofs.singular_pascal.Tie as tie
 use Rattle.names.proofs.singular_pascal.Reads as reads
 use Rattle.names.proofs.singular_pascal.Lts as lts
-use Rattle.names.proofs.convert.put_singular.Reads as put-singular-reads
+use Rattle.conversions.proofs.convert.put_singular.Reads as put-singular-reads
 use Rattle.names.proofs.test.Reads as test-reads
 
 -- src/lib.rt:136:11

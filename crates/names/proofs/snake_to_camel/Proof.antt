@@ -7,7 +7,7 @@ use Rattle.names.proofs.snake_to_camel.Statement.{statement}
 use Rattle.names.proofs.snake_to_camel.Tie as tie
 use Rattle.names.proofs.snake_to_camel.Reads as reads
 use Rattle.names.proofs.snake_to_camel.Lts as lts
-use Rattle.names.proofs.convert.put_camel.Reads as put-camel-reads
+use Rattle.conversions.proofs.convert.put_camel.Reads as put-camel-reads
 use Rattle.names.proofs.test.Reads as test-reads
 
 -- src/lib.rt:85:11

@@ -7,7 +7,7 @@ use Rattle.names.proofs.strip_enum_prefix.Statement.{statement}
 use Rattle.names.proofs.strip_enum_prefix.Tie as tie
 use Rattle.names.proofs.strip_enum_prefix.Reads as reads
 use Rattle.names.proofs.strip_enum_prefix.Lts as lts
-use Rattle.names.proofs.prefix.put_stripped.Reads as put-stripped-reads
+use Rattle.conversions.proofs.prefix.put_stripped.Reads as put-stripped-reads
 use Rattle.names.proofs.test_two.Reads as test-two-reads
 
 -- src/lib.rt:153:11

@@ -5,7 +5,7 @@ use Rattle.wiresheet.proofs.sheet.put_field_line.Statement.{statement}
 use Rattle.wiresheet.proofs.sheet.put_field_line.Tie as tie
 use Rattle.wiresheet.proofs.sheet.put_field_line.Reads as reads
 use Rattle.wiresheet.proofs.sheet.put_field_line.Lts as lts
-use Rattle.names.proofs.convert.put_snake.Reads as put-snake-reads
+use Rattle.conversions.proofs.convert.put_snake.Reads as put-snake-reads
 use Rattle.printing.proofs.put_bytes.Reads as put-bytes-reads
 use Rattle.printing.proofs.put_decimal.Reads as put-decimal-reads
 use Rattle.wiresheet.proofs.sheet.put_kind_of.Reads as put-kind-of-reads

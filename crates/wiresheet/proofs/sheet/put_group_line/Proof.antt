@@ -5,8 +5,8 @@ use Rattle.wiresheet.proofs.sheet.put_group_line.Statement.{statement}
 use Rattle.wiresheet.proofs.sheet.put_group_line.Tie as tie
 use Rattle.wiresheet.proofs.sheet.put_group_line.Reads as reads
 use Rattle.wiresheet.proofs.sheet.put_group_line.Lts as lts
-use Rattle.names.proofs.convert.put_singular.Reads as put-singular-reads
-use Rattle.names.proofs.convert.put_snake.Reads as put-snake-reads
+use Rattle.conversions.proofs.convert.put_singular.Reads as put-singular-reads
+use Rattle.conversions.proofs.convert.put_snake.Reads as put-snake-reads
 use Rattle.printing.proofs.put_bytes.Reads as put-bytes-reads
 use Rattle.printing.proofs.put_decimal.Reads as put-decimal-reads
 use Rattle.xmltoproto.proofs.view.name_at.Reads as name-at-reads

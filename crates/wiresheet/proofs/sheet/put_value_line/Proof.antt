@@ -5,7 +5,7 @@ use Rattle.wiresheet.proofs.sheet.put_value_line.Statement.{statement}
 use Rattle.wiresheet.proofs.sheet.put_value_line.Tie as tie
 use Rattle.wiresheet.proofs.sheet.put_value_line.Reads as reads
 use Rattle.wiresheet.proofs.sheet.put_value_line.Lts as lts
-use Rattle.names.proofs.convert.put_screaming.Reads as put-screaming-reads
+use Rattle.conversions.proofs.convert.put_screaming.Reads as put-screaming-reads
 use Rattle.printing.proofs.put_bytes.Reads as put-bytes-reads
 use Rattle.xmltoproto.proofs.view.name_at.Reads as name-at-reads
 use Rattle.xmltoproto.proofs.view.second_at.Reads as second-at-reads

@@ -1,11 +1,11 @@
-use Rattle.names.specs.Conversions.{prefixOf}
+use Rattle.conversions.specs.Conversions.{prefixOf}
 use Rattle.printing.proofs.Sequencing.{_▸_, length-printed}
 use Rattle.xmltoproto.proofs.Laws.{lines as laws}
 use Rattle.xmltoproto.proofs.enums.put_prefix.Statement.{statement}
 use Rattle.xmltoproto.proofs.enums.put_prefix.Tie as tie
 use Rattle.xmltoproto.proofs.enums.put_prefix.Reads as reads
 use Rattle.xmltoproto.proofs.enums.put_prefix.Lts as lts
-use Rattle.names.proofs.convert.put_screaming_in.Reads as put-screaming-in-reads
+use Rattle.conversions.proofs.convert.put_screaming_in.Reads as put-screaming-in-reads
 use Rattle.printing.proofs.put_byte.Reads as put-byte-reads
 
 -- src/enums.rt:24:9

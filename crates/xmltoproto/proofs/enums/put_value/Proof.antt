@@ -7,7 +7,7 @@ use Rattle.xmltoproto.proofs.enums.put_value.Statement.{statement}
 use Rattle.xmltoproto.proofs.enums.put_value.Tie as tie
 use Rattle.xmltoproto.proofs.enums.put_value.Reads as reads
 use Rattle.xmltoproto.proofs.enums.put_value.Lts as lts
-use Rattle.names.proofs.convert.put_screaming_in.Reads as put-screaming-in-reads
+use Rattle.conversions.proofs.convert.put_screaming_in.Reads as put-screaming-in-reads
 use Rattle.printing.proofs.put_bytes.Reads as put-bytes-reads
 use Rattle.xmltoproto.proofs.enums.put_known_prefix.Reads as put-known-prefix-reads
 use Rattle.xmltoproto.proofs.view.name_at.Reads as name-at-reads

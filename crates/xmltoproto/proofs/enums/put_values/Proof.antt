@@ -2,7 +2,7 @@ use native.Mathlib.Omega.{arith}
 use Prim.Native.Nat.{_-_}
 use Rattle.printing.specs.Standing.{Standing}
 use Rattle.printing.proofs.Again.{standing-none}
-use Rattle.names.specs.Conversions.{prefixOf}
+use Rattle.conversions.specs.Conversions.{prefixOf}
 use Rattle.xmltoproto.proofs.Looping.{Walking, walking-length}
 use Rattle.model.specs.Schema.{itemAt, under, aValue}
 use Rattle.model.specs.Store.{schemaOf}

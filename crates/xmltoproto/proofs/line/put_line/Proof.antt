@@ -5,7 +5,7 @@ use Rattle.xmltoproto.proofs.line.put_line.Statement.{statement}
 use Rattle.xmltoproto.proofs.line.put_line.Tie as tie
 use Rattle.xmltoproto.proofs.line.put_line.Reads as reads
 use Rattle.xmltoproto.proofs.line.put_line.Lts as lts
-use Rattle.names.proofs.convert.put_snake_in.Reads as put-snake-in-reads
+use Rattle.conversions.proofs.convert.put_snake_in.Reads as put-snake-in-reads
 use Rattle.printing.proofs.put_bytes.Reads as put-bytes-reads
 use Rattle.xmltoproto.proofs.line.put_indent.Reads as put-indent-reads
 use Rattle.xmltoproto.proofs.line.put_note.Reads as put-note-reads

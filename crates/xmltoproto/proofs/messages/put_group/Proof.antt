@@ -5,8 +5,8 @@ use Rattle.xmltoproto.proofs.messages.put_group.Statement.{statement}
 use Rattle.xmltoproto.proofs.messages.put_group.Tie as tie
 use Rattle.xmltoproto.proofs.messages.put_group.Reads as reads
 use Rattle.xmltoproto.proofs.messages.put_group.Lts as lts
-use Rattle.names.proofs.convert.put_singular.Reads as put-singular-reads
-use Rattle.names.proofs.convert.put_snake_in.Reads as put-snake-in-reads
+use Rattle.conversions.proofs.convert.put_singular.Reads as put-singular-reads
+use Rattle.conversions.proofs.convert.put_snake_in.Reads as put-snake-in-reads
 use Rattle.printing.proofs.put_bytes.Reads as put-bytes-reads
 use Rattle.printing.proofs.put_decimal.Reads as put-decimal-reads
 use Rattle.xmltoproto.proofs.messages.put_group_head.Reads as put-group-head-reads

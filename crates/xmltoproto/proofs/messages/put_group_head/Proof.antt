@@ -5,7 +5,7 @@ use Rattle.xmltoproto.proofs.messages.put_group_head.Statement.{stateme
 use Rattle.xmltoproto.proofs.messages.put_group_head.Tie as tie
 use Rattle.xmltoproto.proofs.messages.put_group_head.Reads as reads
 use Rattle.xmltoproto.proofs.messages.put_group_head.Lts as lts
-use Rattle.names.proofs.convert.put_singular.Reads as put-singular-reads
+use Rattle.conversions.proofs.convert.put_singular.Reads as put-singular-reads
 use Rattle.printing.proofs.put_bytes.Reads as put-bytes-reads
 use Rattle.xmltoproto.proofs.messages.put_fields.Reads as put-fields-reads
 use Rattle.xmltoproto.proofs.view.name_at.Reads as name-at-reads

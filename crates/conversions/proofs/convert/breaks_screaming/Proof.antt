@@ -1,0 +1,53 @@
+use Rattle.conversions.proofs.Laws.{laws}
+use Rattle.conversions.proofs.convert.breaks_screaming.Statement.{statement}
+use Rattle.conversions.proofs.convert.breaks_screaming.Tie as tie
+use Rattle.conversions.proofs.convert.breaks_screaming.Reads as reads
+use Rattle.conversions.proofs.convert.breaks_screaming.Lts as lts
+use Rattle.classes.proofs.is_lower_in.Reads as is-lower-in-reads
+use Rattle.classes.proofs.is_upper_in.Reads as is-upper-in-reads
+use Rattle.texts.proofs.byte_at.Reads as byte-at-reads
+
+-- src/convert.rt:89:9
+returns : tie.Need-returns
+returns c = search laws
+
+-- src/convert.rt:91:23
+byte-at-requires : tie.Need-byte-at-requires
+byte-at-requires c κs = search laws
+
+-- src/convert.rt:91:8
+is-upper-in-requires : tie.Need-is-upper-in-requires
+is-upper-in-requires c κs = search laws
+
+-- src/convert.rt:92:45
+sub-byte-at : tie.Need-sub-byte-at
+sub-byte-at c = search laws
+
+-- src/convert.rt:92:31
+byte-at-requires-2 : tie.Need-byte-at-requires-2
+byte-at-requires-2 c κs = search laws
+
+-- src/convert.rt:92:9
+is-lower-in-requires : tie.Need-is-lower-in-requires
+is-lower-in-requires c κs = search laws
+
+-- src/convert.rt:92:9
+returns-2 : tie.Need-returns-2
+returns-2 c = search laws
+
+-- src/convert.rt:84:1
+returns-3 : tie.Need-returns-3
+returns-3 c = search laws
+
+pub breaks-screaming-spec : {M : Type 1} → statement M
+breaks-screaming-spec =
+    tie.close
+    (tie.spec
+    returns
+    byte-at-requires
+    is-upper-in-requires
+    sub-byte-at
+    byte-at-requires-2
+    is-lower-in-requires
+    returns-2
+    returns-3)
