@@ -1,11 +1,11 @@
 -- What a class number says of its byte, and a table of such numbers. The crates above hand such a table on, and else cite specs/Class.antt alone.
 use mathlib.Core.Path.{_≡_}
-use mathlib.Core.Bool.{Bool, false}
+use mathlib.Core.Bool.{Bool}
 use mathlib.Core.List.{List}
 use Prim.Native.Nat.{ℕ, _<_}
 use lib.Dec.{eqb, ltb}
 use lib.ListN.{getD}
-use Rattle.texts.specs.Choice.{pick, _or_}
+use Rattle.texts.specs.Choice.{_or_}
 use Rattle.classes.specs.Class.{isSpace, isTagNameEnd, isAttributeNameEnd, isUpper, isLower}
 
 -- a tag name's end, or the ':' that ends its prefix
@@ -17,7 +17,7 @@ pub record ClassOf (b k : ℕ) : Type 0 where
   pub space : eqb k 0 ≡ isSpace b
   pub tag-name-end : ltb k 2 ≡ isTagNameEnd b
   pub name-stop : ltb k 3 ≡ isNameStop b
-  pub attribute-name-end : pick (eqb k 2) false (ltb k 4) ≡ isAttributeNameEnd b
+  pub attribute-name-end : ltb k 4 ≡ isAttributeNameEnd b or eqb b 58
   pub upper : eqb k 4 ≡ isUpper b
   pub lower : eqb k 5 ≡ isLower b
 

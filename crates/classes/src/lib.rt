@@ -323,9 +323,8 @@ pub fn is_attribute_name_end_in(t: &[u8; 256], b: u8) -> bool
     requires { ⌜ IsTable (now t) ⌝ }
     ensures { λ r. ⌜ r ≡ isAttributeNameEnd b ⌝ }
 {
-    let k = class_in(t, b);
-    if k == 2 {
-        return false;
+    if class_in(t, b) < 4 {
+        return b != b':';
     }
-    k < 4
+    false
 }

@@ -10,6 +10,7 @@ use lib.ListN.{length, take, drop, getD, length-take}
 use lib.Seq.{drop-cons, drop-drop}
 use Rattle.texts.specs.Text.{ascii, piece, same, startsWith}
 use Rattle.texts.specs.Scan.{countWhile, scan, until}
+use Rattle.texts.proofs.Scanning.{scan-stop}
 use Rattle.texts.proofs.Choosing.{by-test, both-true}
 use Rattle.texts.proofs.Comparing.{same-equal, same-lengths, starts-yes, starts-no, starts-append, starts-long}
 use Rattle.words.specs.Word.{wordOf}
@@ -90,12 +91,20 @@ module _ (doc : List ℕ) (raw n : ℕ) where
 
 -- ---- where the name ends
 
-pub xmlns-past : (doc : List ℕ) (at : ℕ) {b : Bool} → StandsShort doc at 1099511627776 495773838712 b → b ≡ true → scan (until isAttributeNameEnd) doc (at + 5) ≡ scan (until isAttributeNameEnd) doc at
+xmlns-past : (doc : List ℕ) (at : ℕ) {b : Bool} → StandsShort doc at 1099511627776 495773838712 b → b ≡ true → scan (until isAttributeNameEnd) doc (at + 5) ≡ scan (until isAttributeNameEnd) doc at
 unfolding isAttributeNameEnd isTagNameEnd isSpace
 xmlns-past doc at s t =
     let d = starts-split (ascii "xmlns") (drop at doc) (sym (s .is (ascii "xmlns") text-xmlns) ∙ t) in
     let c : countWhile (until isAttributeNameEnd) (drop at doc) ≡ 5 + countWhile (until isAttributeNameEnd) (drop (at + 5) doc) = ap (countWhile (until isAttributeNameEnd)) d ∙ rw (drop-drop 5 at doc) (omega arith) in
     omega (arith, c)
+
+module _ (doc : List ℕ) (at : ℕ) {b : Bool} (s : StandsShort doc at 1099511627776 495773838712 b) (t : b ≡ true) where
+  pub xmlns-equals : 8 ≤ length doc → at ≤ length doc - 8 → getD doc (at + 5) 0 ≡ 61 → at + 5 ≡ scan (until isAttributeNameEnd) doc at
+  unfolding isAttributeNameEnd isTagNameEnd isSpace
+  xmlns-equals l h c = scan-stop (record { rest = xmlns-past doc at s t }) (omega arith) refl (rw c refl)
+
+  pub xmlns-on : {r : ℕ} → r ≡ scan (until isAttributeNameEnd) doc (at + 5) → r ≡ scan (until isAttributeNameEnd) doc at
+  xmlns-on e = e ∙ xmlns-past doc at s t
 
 -- ---- what is noted
 
@@ -112,4 +121,4 @@ declares-more doc raw n value len k was x t =
       fourth = named-xmlns doc raw n value len (k .fourth) (was .fourth) (was .len4) x t;
     }
 
-pub ruleset declaring = (xmlns-short, xmlns-bare, xmlns-colon, xmlns-not, xmlns-part, xmlns-past, declares-not, declares-more, needs)
+pub ruleset declaring = (xmlns-short, xmlns-bare, xmlns-colon, xmlns-not, xmlns-part, xmlns-equals, xmlns-on, declares-not, declares-more, needs)

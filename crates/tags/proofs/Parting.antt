@@ -27,7 +27,7 @@ module _ (quote : ℕ) (doc : List ℕ) (name n at place : ℕ) {end : ℕ} (e :
   quoted-open h = rw (← e, le-ltb end (length doc) h)
 
 -- an empty value, and one of a single byte
-module _ (quote : ℕ) (doc : List ℕ) (name n at place : ℕ) (two : 2 ≤ length doc) (h : at ≤ length doc - 2) where
+module _ (quote : ℕ) (doc : List ℕ) (name n at place : ℕ) (h : at + 1 < length doc) where
   pub quoted-empty : getD doc at 0 ≡ quote → Part name n at 0 (at + 1) ≡ quotedAt quote doc name n at place
   quoted-empty e =
       let z : at - at ≡ 0 = omega arith in

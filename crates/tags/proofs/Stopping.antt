@@ -1,4 +1,4 @@
--- Laws of where names end: of a raw name that is walked once, for its end and its first colon, and of an attribute's at '='.
+-- Laws of a raw name that is walked once, for its end and its first colon.
 use mathlib.Core.Path.{_≡_, refl, sym, ap, subst, _∙_}
 use mathlib.Core.Bool.{Bool, true, false, not}
 use mathlib.Core.List.{List, [], _∷_}
@@ -16,7 +16,7 @@ use Rattle.texts.specs.Text.{piece}
 use Rattle.texts.specs.Scan.{countWhile, scan, until, is}
 use Rattle.texts.proofs.Choosing.{by-test}
 use Rattle.texts.proofs.Scanning.{Scanning, count-yes, count-no, scan-start, scan-on, scan-stop, scan-end, byte-stop}
-use Rattle.classes.specs.Class.{isSpace, isTagNameEnd, isAttributeNameEnd}
+use Rattle.classes.specs.Class.{isSpace, isTagNameEnd}
 use Rattle.classes.specs.Table.{isNameStop}
 use Rattle.tags.specs.Names.{prefixLength}
 use Rattle.tags.proofs.Searching.{scan-within}
@@ -144,9 +144,3 @@ module _ (doc : List ℕ) (at n : ℕ) {lost : ℕ} (p : lost ≡ prefixLength (
 
   pub raw-fits : at ≤ length doc → length doc < 2 ^ 64 → Fits w64 (at + lost)
   raw-fits h l = lost-fits doc at n refl p h l
-
--- ---- an attribute's name that ends at '='
-
-pub equals-ends : (doc : List ℕ) (at i : ℕ) → scan (until isAttributeNameEnd) doc i ≡ scan (until isAttributeNameEnd) doc at → i < length doc → getD doc i 0 ≡ 61 → i ≡ scan (until isAttributeNameEnd) doc at
-unfolding isAttributeNameEnd isTagNameEnd isSpace
-equals-ends doc at i e h c = scan-stop (record { rest = e }) h refl (rw c refl)

@@ -68,13 +68,12 @@ pub fn skip_space(doc: &[u8], at: usize, t: &[u8; 256]) -> usize
     }
     if is_space_in(t, doc[at]) {
         let i = at + 1;
-        if doc.len() <= i {
-            return i;
+        if i < doc.len() {
+            if !is_space_in(t, doc[i]) {
+                return i;
+            }
         }
-        if is_space_in(t, doc[i]) {
-            return skip_space_fours(doc, i + 1, t);
-        }
-        return i;
+        return skip_space_fours(doc, i, t);
     }
     at
 }
@@ -230,34 +229,25 @@ fn attribute_name_fours(doc: &[u8], at: usize, t: &[u8; 256]) -> usize
     attribute_name_each(doc, i, t)
 }
 
-// Past "xmlns", where it stands at `at`: the name goes on there.
-fn past_xmlns(doc: &[u8], at: usize) -> usize
-    ensures { λ r. ⌜ scan (until isAttributeNameEnd) (now (doc .entry)) r ≡ scan (until isAttributeNameEnd) (now (doc .entry)) at ⌝ }
-{
-    if doc.len() < 8 {
-        return at;
-    }
-    if doc.len() - 8 < at {
-        return at;
-    }
-    if stands_short(doc, at, 0x100_0000_0000, 0x73_6e6c_6d78) {
-        return at + 5;
-    }
-    at
-}
-
-// Where the attribute name at `at` ends.
+// Where the attribute name at `at` ends. "xmlns" is told by a word: with '=' behind it, at once. Each way has a return of its own,
+// so that the processor guesses the way, and waits for no choice between two places.
 pub fn attribute_name_end(doc: &[u8], at: usize, t: &[u8; 256]) -> usize
     requires { ⌜ IsTable (now t) ⌝ }
     ensures { λ r. ⌜ r ≡ scan (until isAttributeNameEnd) (now (doc .entry)) at ⌝ }
 {
-    let from = past_xmlns(doc, at);
-    if from < doc.len() {
-        if doc[from] == b'=' {
-            return from;
-        }
+    if doc.len() < 8 {
+        return attribute_name_each(doc, at, t);
     }
-    attribute_name_fours(doc, from, t)
+    if doc.len() - 8 < at {
+        return attribute_name_each(doc, at, t);
+    }
+    if stands_short(doc, at, 0x100_0000_0000, 0x73_6e6c_6d78) {
+        if doc[at + 5] == b'=' {
+            return at + 5;
+        }
+        return attribute_name_fours(doc, at + 5, t);
+    }
+    attribute_name_fours(doc, at, t)
 }
 
 // Where the first `b` from `at` on stands, or the end.

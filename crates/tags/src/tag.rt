@@ -12,7 +12,7 @@ use refusals::Refusal;
 ghost use mathlib.Core.Path.{_≡_};
 ghost use mathlib.Core.Bool.{false};
 ghost use mathlib.Core.List.{[]};
-ghost use Prim.Native.Nat.{_<_, _^_};
+ghost use Prim.Native.Nat.{_<_, _^_, _≤_};
 ghost use lib.ListN.{length};
 ghost use Rattle.classes.specs.Table.{IsTable};
 ghost use Rattle.texts.specs.Choice.{pick};
@@ -101,33 +101,30 @@ fn quoted_part(doc: &[u8], name: usize, n: usize, at: usize, quote: u8, place: u
 
 // The same, where an empty value and one of a single byte are told at once.
 fn short_or_quoted(doc: &[u8], name: usize, n: usize, at: usize, quote: u8, place: usize) -> TagPart
+    requires { ⌜ at ≤ length (now doc) ⌝ }
     ensures { λ r. ⌜ r ≡ quotedAt quote (now (doc .entry)) name n at place ⌝ }
 {
-    if doc.len() < 2 {
-        return quoted_part(doc, name, n, at, quote, place);
-    }
-    if doc.len() - 2 < at {
-        return quoted_part(doc, name, n, at, quote, place);
-    }
-    if doc[at] == quote {
-        let next = at + 1;
-        return TagPart::Attribute {
-            name,
-            name_len: n,
-            value: at,
-            value_len: 0,
-            next,
-        };
-    }
-    if doc[at + 1] == quote {
-        let next = at + 2;
-        return TagPart::Attribute {
-            name,
-            name_len: n,
-            value: at,
-            value_len: 1,
-            next,
-        };
+    if at + 1 < doc.len() {
+        if doc[at] == quote {
+            let next = at + 1;
+            return TagPart::Attribute {
+                name,
+                name_len: n,
+                value: at,
+                value_len: 0,
+                next,
+            };
+        }
+        if doc[at + 1] == quote {
+            let next = at + 2;
+            return TagPart::Attribute {
+                name,
+                name_len: n,
+                value: at,
+                value_len: 1,
+                next,
+            };
+        }
     }
     quoted_part(doc, name, n, at, quote, place)
 }

@@ -5,11 +5,11 @@ use Rattle.classes.proofs.is_attribute_name_end_in.Reads as reads
 use Rattle.classes.proofs.is_attribute_name_end_in.Lts as lts
 use Rattle.classes.proofs.class_in.Reads as class-in-reads
 
--- src/lib.rt:326:9
+-- src/lib.rt:326:8
 class-in-requires : tie.Need-class-in-requires
 class-in-requires c κs = search ending
 
--- src/lib.rt:328:9
+-- src/lib.rt:327:9
 returns : tie.Need-returns
 returns c = search ending
 

@@ -1,12 +1,11 @@
 -- The table's rule: for each class one test, computed over all 256 entries.
-use mathlib.Core.Bool.{false}
 use mathlib.Core.List.{List, [], _∷_}
 use Prim.Native.Nat.{ℕ, _<_}
 use lib.Dec.{eqb, ltb}
 use lib.ListN.{getD}
 use native.Mathlib.Omega.{arith}
 use borrow.Author.Needs.{needs}
-use Rattle.texts.specs.Choice.{pick}
+use Rattle.texts.specs.Choice.{_or_}
 use Rattle.classes.specs.Class.{isSpace, isTagNameEnd, isAttributeNameEnd, isUpper, isLower}
 use Rattle.classes.specs.Table.{isNameStop, ClassOf, IsTable}
 use Rattle.classes.proofs.Rule.{agree}
@@ -40,7 +39,7 @@ rule b h =
       space = agree (λ k. eqb k 0) isSpace classes tt b h;
       tag-name-end = agree (λ k. ltb k 2) isTagNameEnd classes tt b h;
       name-stop = agree (λ k. ltb k 3) isNameStop classes tt b h;
-      attribute-name-end = agree (λ k. pick (eqb k 2) false (ltb k 4)) isAttributeNameEnd classes tt b h;
+      attribute-name-end = agree (λ k. ltb k 4) (λ c. isAttributeNameEnd c or eqb c 58) classes tt b h;
       upper = agree (λ k. eqb k 4) isUpper classes tt b h;
       lower = agree (λ k. eqb k 5) isLower classes tt b h;
     }
