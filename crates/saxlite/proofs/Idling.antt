@@ -2,29 +2,26 @@
 use mathlib.Core.Path.{_≡_, refl, sym, ap, ap₂, _∙_}
 use mathlib.Core.Bool.{Bool, true, false, not}
 use mathlib.Core.List.{List, [], _∷_, _++_}
-use Prim.Native.Nat.{ℕ, zero, suc, _+_, _-_, _≤_, _<_}
+use Prim.Native.Nat.{ℕ, suc, _+_, _-_, _≤_, _<_}
 use native.Mathlib.Omega.{arith}
-use native.Mathlib.Nat.{add-zero}
-use lib.Dec.{eqb, ltb, T, leb→le, lit<}
-use lib.ListN.{length, drop, getD, drop-of-length-le, length-drop}
+use lib.Dec.{eqb, ltb, leb→le}
+use lib.ListN.{length, drop, getD}
 use lib.Seq.{drop-cons, drop-drop}
 use borrow.Author.Needs.{needs}
 use borrow.Author.Tests.{eqb-true, ltb-true, ltb-false}
 use Rattle.texts.specs.Text.{ascii, piece, startsWith}
-use Rattle.texts.specs.Scan.{countWhile, scan, until, is}
+use Rattle.texts.specs.Scan.{scan, until, is}
 use Rattle.texts.proofs.Choosing.{by-test, both-true}
 use Rattle.texts.proofs.Comparing.{starts-yes, starts-no, starts-append}
-use Rattle.texts.proofs.Scanning.{scan-start, scan-end, scan-stop, until-stop, byte-stop, count-yes, count-no}
+use Rattle.texts.proofs.Scanning.{scan-start, scan-end, scan-stop, until-stop, byte-stop}
 use Rattle.classes.specs.Class.{isSpace, isTagNameEnd}
 use Rattle.words.specs.Word.{wordOf}
-use Rattle.words.specs.Standing.{ShortText, StandsShort, Lacks}
-use Rattle.words.proofs.Standing.{power-some}
+use Rattle.words.specs.Standing.{ShortText, StandsShort}
 use Rattle.refusals.specs.declared.Refusal.the-variants.{OpenComment, OpenInstruction, OpenDeclaration}
-use Rattle.tags.specs.declared.scan.Occurrence.{Occurrence}
-use Rattle.tags.specs.declared.scan.Occurrence.the-variants.{At, Nowhere}
-use Rattle.tags.specs.Find.{findIn, findFrom}
+use Rattle.tags.specs.declared.scan.Occurrence.the-variants.{At}
+use Rattle.tags.specs.Find.{findFrom}
 use Rattle.tags.specs.Names.{prefixLength}
-use Rattle.tags.proofs.Searching.{stands-within, byte-stands, scan-within, find-here, find-next, find-none, Searching, search-start, search-on, found-from, found-inside, found-past}
+use Rattle.tags.proofs.Searching.{stands-within, scan-within, find-here}
 use Rattle.saxlite.specs.declared.step.Step.{Step}
 use Rattle.saxlite.specs.declared.step.Step.the-variants.{Close, Skipped}
 use Rattle.saxlite.specs.Step.{stepAt, markupAt}
@@ -32,101 +29,7 @@ use Rattle.saxlite.specs.Passing.{Idles, text, skipped, nameless, Idle, 
 use Rattle.saxlite.proofs.Stepping.{past-found, close-ends, markup-comment, markup-instruction, markup-declaration, markup-close, step-markup, step-text}
 use Rattle.saxlite.proofs.Moving.{text-within, close-within, skipped-within}
 
--- ---- a search goes on where the needle does not stand
-
-pass-one : (n doc : List ℕ) (i : ℕ) → startsWith n (drop i doc) ≡ false → findFrom n doc (i + 1) ≡ findFrom n doc i
-pass-one n doc i f =
-    by-test (ltb i (length doc))
-    (λ t. search-on {n = n} {doc = doc} {from = i} {i = i} search-start refl (ltb-true i (length doc) t) f .rest)
-    (λ g. let h : length doc ≤ i = ltb-false i (length doc) g in
-    let k : length doc ≤ i + 1 = omega arith in
-    let e : startsWith n [] ≡ false = rw (drop-of-length-le doc h) at f in
-    rw (drop-of-length-le doc h, drop-of-length-le doc k) (find-none n (i + 1) e ∙ sym (find-none n i e)))
-
-pass-many : (n doc : List ℕ) (i k : ℕ) → ((j : ℕ) → i ≤ j → j < i + k → startsWith n (drop j doc) ≡ false) → findFrom n doc (i + k) ≡ findFrom n doc i
-pass-many n doc i zero f = rw (add-zero i)
-pass-many n doc i (suc k) f =
-    let z : i + suc k ≡ i + k + 1 = omega arith in
-    ap (findFrom n doc) z ∙ pass-one n doc (i + k) (f (i + k) (omega arith) (omega arith)) ∙ pass-many n doc i k (λ j h l. f j h (omega arith))
-
-pub lacks-found : {n doc : List ℕ} {from i r : ℕ} → Lacks n doc from i → FoundAt n doc i r → FoundAt n doc from r
-lacks-found {n} {doc} {from} {i} l f =
-    let z : from + (i - from) ≡ i = omega (arith, l .forward) in
-    let e : findFrom n doc i ≡ findFrom n doc from = ap (findFrom n doc) (sym z) ∙ pass-many n doc from (i - from) (λ j a b. l .none j a (omega arith)) in
-    record { is = λ h. sym e ∙ f .is h; none = λ h. sym e ∙ f .none h }
-
--- ---- what was found
-
--- a text of some bytes is found within the document
-occurs-within : (n doc : List ℕ) (from i : ℕ) → 0 < length n → findFrom n doc from ≡ At i → i < length doc
-occurs-within n doc from i p e =
-    by-test (ltb (length doc) from)
-    (λ t. absurd (omega (arith, found-from n doc from i e, found-past n doc from i e (ltb-true (length doc) from t))))
-    (λ g. omega (arith, found-inside n doc from i e (ltb-false (length doc) from g)))
-
-module _ (n doc : List ℕ) (from : ℕ) {o : Occurrence} (e : o ≡ findFrom n doc from) where
-  pub occurs-found : 0 < length n → {i : ℕ} → o ≡ At i → FoundAt n doc from i
-  occurs-found p {i} f = record { is = λ h. sym e ∙ f; none = λ h. absurd (omega (arith, occurs-within n doc from i p (sym e ∙ f))) }
-
-  pub nowhere-found : o ≡ Nowhere → FoundAt n doc from (length doc)
-  nowhere-found f = record { is = λ h. absurd (omega arith); none = λ h. sym e ∙ f }
-
-here-found : (n doc : List ℕ) (from : ℕ) → from < length doc → startsWith n (drop from doc) ≡ true → FoundAt n doc from from
-here-found n doc from l t = record { is = λ h. find-here n (drop from doc) from t; none = λ h. absurd (omega arith) }
-
-pub near-far : {n doc : List ℕ} {from i r : ℕ} → Searching n doc from i → FoundAt n doc i r → FoundAt n doc from r
-near-far inv f = record { is = λ h. sym (inv .rest) ∙ f .is h; none = λ h. sym (inv .rest) ∙ f .none h }
-
--- b is what the comparison by words says
-module _ {n doc : List ℕ} {i modulus front : ℕ} {b : Bool} (s : StandsShort doc i modulus front b) (t : ShortText n modulus front) where
-  pub short-found : b ≡ true → 0 < length n → FoundAt n doc i i
-  short-found e p = let h = sym (s .is n t) ∙ e in here-found n doc i (omega (arith, stands-within n doc i h p)) h
-
-  module _ {from : ℕ} (inv : Searching n doc from i) where
-    pub near-found : b ≡ true → T (ltb 0 (length n)) → FoundAt n doc from i
-    near-found e p = near-far inv (short-found e (lit< p))
-
-    pub near-on : b ≡ false → Searching n doc from (i + 1)
-    near-on f = record { rest = pass-one n doc i (sym (s .is n t) ∙ f) ∙ inv .rest }
-
--- one byte
-pub byte-found : (b : ℕ) (doc : List ℕ) (from : ℕ) → from < length doc → getD doc from 0 ≡ b → FoundAt (b ∷ []) doc from from
-byte-found b doc from h e = here-found (b ∷ []) doc from h (byte-stands b doc from h e)
-
-count-found : (b : ℕ) (s : List ℕ) (k : ℕ) → countWhile (until (is b)) s < length s → findIn (b ∷ []) s k ≡ At (k + countWhile (until (is b)) s)
-unfolding startsWith
-count-found b [] k h = absurd (omega arith)
-count-found b (x ∷ s) k h =
-    by-test (eqb x b)
-    (λ t. rw (count-no (until (is b)) x s (ap not t), add-zero) (find-here (b ∷ []) (x ∷ s) k (starts-yes b x [] s t)))
-    (λ f. let c = count-yes (until (is b)) x s (ap not f) in
-    let z : k + 1 + countWhile (until (is b)) s ≡ k + suc (countWhile (until (is b)) s) = omega arith in
-    rw c (find-next (b ∷ []) x s k (starts-no b x [] s f) ∙ count-found b s (k + 1) (omega (arith, c)) ∙ ap At z))
-
-count-nowhere : (b : ℕ) (s : List ℕ) (k : ℕ) → length s ≤ countWhile (until (is b)) s → findIn (b ∷ []) s k ≡ Nowhere
-unfolding startsWith
-count-nowhere b [] k h = find-none (b ∷ []) k refl
-count-nowhere b (x ∷ s) k h =
-    by-test (eqb x b)
-    (λ t. absurd (omega (arith, count-no (until (is b)) x s (ap not t))))
-    (λ f. find-next (b ∷ []) x s k (starts-no b x [] s f) ∙ count-nowhere b s (k + 1) (omega (arith, count-yes (until (is b)) x s (ap not f))))
-
-pub scan-found : (b : ℕ) (doc : List ℕ) (from : ℕ) {r : ℕ} → r ≡ scan (until (is b)) doc from → FoundAt (b ∷ []) doc from r
-scan-found b doc from {r} e =
-    record {
-      is = λ h. count-found b (drop from doc) from (omega (arith, length-drop from doc)) ∙ ap At (sym e);
-      none = λ h. count-nowhere b (drop from doc) from (omega (arith, length-drop from doc));
-    }
-
 -- ---- the texts, by their numbers
-
-pub short-comment-end : ShortText (ascii "-->") 16777216 4074797
-unfolding wordOf
-short-comment-end = record { few = leb→le 3 8 tt; power = refl; number = refl; bytes = tt }
-
-pub short-instruction-end : ShortText (ascii "?>") 65536 15935
-unfolding wordOf
-short-instruction-end = record { few = leb→le 2 8 tt; power = refl; number = refl; bytes = tt }
 
 short-comment : ShortText (ascii "<!--") 4294967296 757932348
 unfolding wordOf
@@ -314,4 +217,4 @@ module _ {doc : List ℕ} {at : ℕ} {outside : Bool} where
   pub close-past : {b : Bool} → StandsShort doc at 16777216 4075324 b → b ≡ true → outside ≡ true → Idle doc true outside at (at + 3)
   close-past s t o = idle-one (nameless o (close-is doc at (sym (s .is (ascii "</>") short-close) ∙ t)))
 
-pub ruleset passing = (search-start, lacks-found, occurs-found, nowhere-found, short-found, near-found, near-on, near-far, byte-found, scan-found, short-comment-end, short-instruction-end, power-some, idle-stay, idle-then, idle-less, idle-collected, idle-inside, text-idle, text-within-end, comment-past, declaration-past, instruction-past, empty-past, close-past, needs)
+pub ruleset passing = (idle-stay, idle-then, idle-less, idle-collected, idle-inside, text-idle, text-within-end, comment-past, declaration-past, instruction-past, empty-past, close-past, needs)

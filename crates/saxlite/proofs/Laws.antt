@@ -1,5 +1,5 @@
 -- The laws that the proofs of the steps cite, in one set: `search laws` at each need. Those of a close tag whose name is known are a
--- set beside it, and so are those of passing (Idling.antt), reading and noting.
+-- set beside it, and so are those of finding an end (Finding.antt), passing (Idling.antt), reading and noting.
 use borrow.Author.Needs.{needs}
 use Rattle.texts.proofs.Scanning.{scan-start, scan-on, scan-stop, scan-end, until-on, until-stop, byte-on, byte-stop}
 use Rattle.tags.proofs.Searching.{stands-on, stands-fits}

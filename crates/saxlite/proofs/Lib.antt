@@ -4,6 +4,7 @@ pub mod Moving
 mod Reading
 mod Noting
 mod Tagged
+mod Finding
 mod Idling
 mod Laws
 mod Trials

@@ -50,22 +50,32 @@ pub fn comment_far(doc: &[u8], from: usize) -> usize
     found_by(doc, near, b"-->", 0x100_0000, 0x3e_2d2d)
 }
 
-// The same: the first four places one by one, as comments are often short, and then by words. The reader, which meets one only
-// where the loop below has not passed it, asks `comment_far`.
+// The same: the first sixteen places one by one, as comments are often short, and then by words. A search by words, whose
+// answers wait for each other, costs as much as a dozen places one by one, which the processor predicts. The reader, which
+// meets one only where the loop below has not passed it, asks `comment_far`.
 fn comment_end(doc: &[u8], from: usize) -> usize
     requires { ⌜ from ≤ length (now doc) ⌝ }
     ensures { λ r. ⌜ FoundAt (ascii "-->") (now (doc .entry)) from r ⌝ }
 {
-    if doc.len() - from < 12 {
+    if doc.len() - from < 24 {
         return found(doc, from, b"-->");
     }
-    let stop = from + 4;
+    let stop = from + 16;
     let mut i = from;
     while i < stop {
         if stands_short(doc, i, 0x100_0000, 0x3e_2d2d) {
             return i;
         }
-        i += 1;
+        if stands_short(doc, i + 1, 0x100_0000, 0x3e_2d2d) {
+            return i + 1;
+        }
+        if stands_short(doc, i + 2, 0x100_0000, 0x3e_2d2d) {
+            return i + 2;
+        }
+        if stands_short(doc, i + 3, 0x100_0000, 0x3e_2d2d) {
+            return i + 3;
+        }
+        i += 4;
     }
     comment_far(doc, i)
 }
@@ -85,30 +95,55 @@ fn instruction_end(doc: &[u8], from: usize) -> usize
     requires { ⌜ from ≤ length (now doc) ⌝ }
     ensures { λ r. ⌜ FoundAt (ascii "?>") (now (doc .entry)) from r ⌝ }
 {
-    if doc.len() - from < 12 {
+    if doc.len() - from < 24 {
         return found(doc, from, b"?>");
     }
-    let stop = from + 4;
+    let stop = from + 16;
     let mut i = from;
     while i < stop {
         if stands_short(doc, i, 0x1_0000, 0x3e3f) {
             return i;
         }
-        i += 1;
+        if stands_short(doc, i + 1, 0x1_0000, 0x3e3f) {
+            return i + 1;
+        }
+        if stands_short(doc, i + 2, 0x1_0000, 0x3e3f) {
+            return i + 2;
+        }
+        if stands_short(doc, i + 3, 0x1_0000, 0x3e3f) {
+            return i + 3;
+        }
+        i += 4;
     }
     instruction_far(doc, i)
 }
 
-// Where the declaration that is open at `from` ends.
+// Where the declaration that is open at `from` ends: the same again, of one byte.
 fn declaration_end(doc: &[u8], from: usize) -> usize
+    requires { ⌜ from ≤ length (now doc) ⌝ }
     ensures { λ r. ⌜ FoundAt (ascii ">") (now (doc .entry)) from r ⌝ }
 {
-    if from < doc.len() {
-        if doc[from] == b'>' {
-            return from;
-        }
+    if doc.len() - from < 24 {
+        return byte_from(doc, from, b'>');
     }
-    byte_from(doc, from, b'>')
+    let stop = from + 16;
+    let mut i = from;
+    while i < stop {
+        if doc[i] == b'>' {
+            return i;
+        }
+        if doc[i + 1] == b'>' {
+            return i + 1;
+        }
+        if doc[i + 2] == b'>' {
+            return i + 2;
+        }
+        if doc[i + 3] == b'>' {
+            return i + 3;
+        }
+        i += 4;
+    }
+    byte_from(doc, i, b'>')
 }
 
 // Past the `n` bytes at `end`, or at `at`, where nothing ends.

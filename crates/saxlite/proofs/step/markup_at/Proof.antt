@@ -1,7 +1,7 @@
 use Rattle.texts.specs.Text.{ascii}
 use Rattle.tags.proofs.Searching.{stands-on}
 use Rattle.saxlite.proofs.Stepping.{past-ends}
-use Rattle.saxlite.proofs.Idling.{scan-found}
+use Rattle.saxlite.proofs.Finding.{scan-found}
 use Rattle.saxlite.proofs.Laws.{laws}
 use Rattle.saxlite.proofs.step.markup_at.Statement.{statement}
 use Rattle.saxlite.proofs.step.markup_at.Tie as tie
