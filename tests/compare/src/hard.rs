@@ -276,12 +276,46 @@ fn little() -> Vec<(&'static str, String)> {
         ("comments that never end", full("<!--")),
         ("an instruction that never ends", format!("<?{}", "x".repeat(32_000))),
         ("a declaration that never ends", format!("<!{}", "x".repeat(32_000))),
+        ("a close name that never ends", format!("</{}", "a".repeat(32_000))),
+        ("an attribute name that never ends", format!("<a {}", "a".repeat(32_000))),
+        ("a long name in a tag without an end", format!("<{} =", "a".repeat(32_000))),
+        ("a long name and a colon in a tag without an end", format!("<{}:b =", "a".repeat(32_000))),
+        ("a long name of letters and digits in a tag without an end", format!("<{} =", "aaa1".repeat(8_000))),
+        ("names without an end", full("<field")),
+        ("declarations of elements", full("<!<a/>")),
+        (
+            "fields of built-in types",
+            most(
+                "<message>",
+                |i| format!("<field name=\"f{i}\" type=\"uint32\" id=\"{i}\"/>"),
+                "</message>",
+                1_000,
+            ),
+        ),
         ("refused at its first number", full("<field id='+'/>")),
         ("refused at its last byte", "<a></a>".repeat(4_600) + "<"),
     ]
 }
 
+/// Short markup over and over, of each kind that is passed over or dropped: what ends it is looked for by single bytes up to
+/// some length and by words beyond.
+fn short() -> Vec<(String, String)> {
+    let mut documents = Vec::new();
+    for n in [1, 2, 3, 4, 5, 6, 8, 10, 12, 14, 15, 16, 17, 20] {
+        let text = "x".repeat(n);
+        let mut add =
+            |kind: &str, document: String| documents.push((format!("{kind} of {n} bytes"), document));
+        add("comments", full(&format!("<!--{text}-->")));
+        add("instructions", full(&format!("<?{text}?>")));
+        add("declarations", full(&format!("<!{text}>")));
+        add("xmlns values", tag("<a ", &format!("xmlns='{text}' ")));
+        add("xmlns values without an end", most("<a", |_| format!(" xmlns='{text}'"), "", 9_999));
+    }
+    documents
+}
+
 /// Every document that may be slow for either side.
-pub fn all() -> Vec<(&'static str, String)> {
-    hard().into_iter().chain(little()).collect()
+pub fn all() -> Vec<(String, String)> {
+    let named = |(name, document): (&str, String)| (name.to_owned(), document);
+    hard().into_iter().chain(little()).map(named).chain(short()).collect()
 }

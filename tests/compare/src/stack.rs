@@ -12,9 +12,10 @@ const ALLOWED: usize = 128 * 1024;
 /// Measures every document; false where the promise is broken.
 pub fn run() -> bool {
     let mut rng = Prng::new(0x7374_6163);
-    let mut documents: Vec<(&str, Vec<u8>)> =
+    let mut documents: Vec<(String, Vec<u8>)> =
         all().into_iter().map(|(name, document)| (name, document.into_bytes())).collect();
-    documents.extend([1_800, 30_000, 32_768].map(|length| ("real size", real(&mut rng, length))));
+    let sizes = [1_800, 30_000, 32_768];
+    documents.extend(sizes.map(|length| (format!("real size, {length} bytes"), real(&mut rng, length))));
     let mut converter = Converter::new();
     let most = documents.iter().map(|(name, document)| (converter.stack_used(document), name)).max();
     let (used, name) = most.expect("there are documents");
