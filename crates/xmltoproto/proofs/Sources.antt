@@ -2,14 +2,14 @@
 use mathlib.Core.Path.{_≡_, refl, sym, ap, subst, _∙_}
 use mathlib.Core.Bool.{Bool, true, false, not}
 use mathlib.Core.List.{List, [], _∷_, _++_, append-assoc}
-use Prim.Native.Nat.{ℕ, suc, _+_, _-_, _<_, _^_}
+use Prim.Native.Nat.{ℕ, suc, _+_, _-_, _≤_, _<_, _^_}
 use native.Mathlib.Nat.{add-zero}
 use native.Mathlib.Omega.{arith}
 use lib.Dec.{eqb}
 use lib.ListN.{length, getD}
 use Rattle.texts.specs.Choice.{pick, _and_}
 use Rattle.texts.specs.Text.{ascii, same}
-use Rattle.texts.specs.Lists.{each, numbered}
+use Rattle.texts.specs.Lists.{among, each, numbered}
 use Rattle.printing.specs.Decimal.{decimal}
 use Rattle.printing.specs.Printed.{skipped, Printed}
 use Rattle.printing.specs.Standing.{Standing}
@@ -17,17 +17,18 @@ use Rattle.printing.proofs.Sequencing.{blank, _▸_}
 use Rattle.printing.proofs.Again.{standing-within}
 use Rattle.conversions.specs.Conversions.{camelToSnake, camelToScreamingSnake, prefixOf, singularPascal}
 use Rattle.index.specs.Declarations.{declarationOf, numberOf}
+use Rattle.index.specs.declared.Declaration.{Declaration}
+use Rattle.index.specs.declared.Declaration.the-variants as declaration
+use Rattle.index.proofs.Finding.{declaration-nothing, declaration-named, declaration-typed}
 use Rattle.model.specs.Schema.{Item, Schema, noItem, itemAt, positionsFrom, allOf, under, aMember, aRef, aComposite, aValue, aGroup, aField}
-use Rattle.xmltoproto.specs.Types.{formOf, builtIn, asNamed, protoOf, protoBy, Meaning, meaning}
+use Rattle.xmltoproto.specs.Types.{builtIns, formOf, builtIn, asNamed, protoOf, protoBy, Meaning, typed, unknown, meaning}
 use Rattle.xmltoproto.specs.Composites.{isPrinted, printedComposites}
 use Rattle.xmltoproto.specs.Source.{packageLine, header, valueText, enumText, line, memberText, refText, partTexts, compositeText, fieldText, groupText, messageText}
-use Rattle.xmltoproto.specs.Shapes.{form, protoIn, meaningIn}
+use Rattle.xmltoproto.specs.Shapes.{form, protoIn}
 use Rattle.xmltoproto.specs.Parts.{Members, groupHead}
 use Rattle.xmltoproto.specs.declared.types.Shape.{Shape}
 use Rattle.xmltoproto.specs.declared.types.Shape.the-variants as shape
-use Rattle.xmltoproto.specs.declared.types.Sense.{Sense}
-use Rattle.xmltoproto.specs.declared.types.Sense.the-variants as sense
-use Rattle.xmltoproto.proofs.Typing.{number-named, number-typed}
+use Rattle.xmltoproto.proofs.Typing.{undeclared-shape, declaredSo, means}
 
 -- ---- header and enums
 
@@ -71,6 +72,9 @@ pub form-seen : (it : Item) {p : List ℕ} {n : ℕ} {e : List ℕ} → p ≡ it
 unfolding formOf
 form-seen it ep en ee = rw (ep, en, ee)
 
+number-of-name : (s : Schema) {u v : List ℕ} {n : ℕ} → u ≡ v → n ≡ numberOf (declarationOf s v) → n ≡ numberOf (declarationOf s u)
+number-of-name s e h = rw e h
+
 module _ {o : List ℕ} {at : ℕ} {o′ : List ℕ} {r : ℕ} where
   pub typed-printed : (it : Item) (ind name : List ℕ) (k : ℕ) {p : List ℕ} {n : ℕ} {e : List ℕ} (sh : Shape) → p ≡ it .second → n ≡ formOf it .size → e ≡ it .encoding
       → protoIn sh p e ≡ protoOf (form p n e) → Printed o at o′ r (line ind (protoIn sh p e) name k) → Printed o at o′ r (line ind (protoOf (formOf it)) name k)
@@ -85,39 +89,47 @@ module _ {o : List ℕ} {at : ℕ} {o′ : List ℕ} {r : ℕ} where
     unfolding refText asNamed
     ref-printed eu d = rw (← ew, ← eu) d
 
-  module _ (s : Schema) (ind : List ℕ) (it : Item) {u w : List ℕ} {k : ℕ} (eu : u ≡ it .second) (ew : w ≡ it .name) (ek : k ≡ it .number) (q : Sense) (h : meaningIn s (it .second) q ≡ meaning s (it .second)) where
-    by-meaning : Printed o at o′ r (line ind (protoBy u (meaningIn s u q)) (camelToSnake w) k) → Printed o at o′ r (fieldText s ind it)
+  pub undeclared-printed : (u ind name : List ℕ) (k : ℕ) (sh : Shape) → protoIn sh u [] ≡ protoOf (form u 0 [])
+      → Printed o at o′ r (line ind (protoIn sh u []) name k) → Printed o at o′ r (line ind (pick (among u builtIns) (protoOf (builtIn u)) (asNamed u)) name k)
+  undeclared-printed u ind name k sh h d = rw (← undeclared-shape u, ← h) d
+
+  -- by what the type name is declared as
+  module _ (s : Schema) (ind : List ℕ) (it : Item) {u w : List ℕ} {k : ℕ} (eu : u ≡ it .second) (ew : w ≡ it .name) (ek : k ≡ it .number) {d : Declaration} (ed : d ≡ declarationOf s u) where
+    by-declaration : {c : Declaration} → d ≡ c → Printed o at o′ r (line ind (protoBy u (declaredSo s u c)) (camelToSnake w) k) → Printed o at o′ r (fieldText s ind it)
     unfolding fieldText
-    by-meaning d =
-        let e : line ind (protoBy u (meaningIn s u q)) (camelToSnake w) k ≡ line ind (protoBy (it .second) (meaning s (it .second))) (camelToSnake (it .name)) (it .number) =
-        ap (λ (x : List ℕ). line ind (protoBy x (meaningIn s x q)) (camelToSnake w) k) eu
-        ∙ ap (λ (x : Meaning). line ind (protoBy (it .second) x) (camelToSnake w) k) h
+    by-declaration {c} f p =
+        let e : line ind (protoBy u (declaredSo s u c)) (camelToSnake w) k ≡ line ind (protoBy (it .second) (meaning s (it .second))) (camelToSnake (it .name)) (it .number) =
+        ap (λ (x : Meaning). line ind (protoBy u x) (camelToSnake w) k) (means s u (sym f ∙ ed))
+        ∙ ap (λ (x : List ℕ). line ind (protoBy x (meaning s x)) (camelToSnake w) k) eu
         ∙ ap (λ (x : List ℕ). line ind (protoBy (it .second) (meaning s (it .second))) (camelToSnake x) k) ew
         ∙ ap (λ (x : ℕ). line ind (protoBy (it .second) (meaning s (it .second))) (camelToSnake (it .name)) x) ek in
-        subst (λ (x : List ℕ). Printed o at o′ r x) e d
+        subst (λ (x : List ℕ). Printed o at o′ r x) e p
 
-    pub field-declared : q ≡ sense.Declared → Printed o at o′ r (line ind (protoIn shape.Plain u []) (camelToSnake w) k) → Printed o at o′ r (fieldText s ind it)
+    pub field-declared : d ≡ declaration.Named → Printed o at o′ r (line ind (protoIn shape.Plain u []) (camelToSnake w) k) → Printed o at o′ r (fieldText s ind it)
     unfolding asNamed
-    field-declared f d = by-meaning (rw f d)
+    field-declared f p = by-declaration f p
 
-    pub field-unknown : q ≡ sense.Unknown → Printed o at o′ r (line ind (protoIn shape.Plain u []) (camelToSnake w) k) → Printed o at o′ r (fieldText s ind it)
-    unfolding asNamed
-    field-unknown f d = by-meaning (rw f d)
+    pub field-typed : {t : ℕ} → d ≡ declaration.Typed t → Printed o at o′ r (line ind (protoOf (formOf (itemAt s t))) (camelToSnake w) k) → Printed o at o′ r (fieldText s ind it)
+    field-typed f p = by-declaration f p
 
-    pub field-typed : {t : ℕ} → q ≡ sense.Typed t → Printed o at o′ r (line ind (protoOf (formOf (itemAt s t))) (camelToSnake w) k) → Printed o at o′ r (fieldText s ind it)
-    field-typed f d = by-meaning (rw f d)
-
-    pub field-built-in : q ≡ sense.BuiltIn → (sh : Shape) → protoIn sh u [] ≡ protoOf (form u 0 []) → Printed o at o′ r (line ind (protoIn sh u []) (camelToSnake w) k) → Printed o at o′ r (fieldText s ind it)
-    unfolding builtIn
-    field-built-in f sh g d = by-meaning (rw (f, ← g) d)
+    pub field-undeclared : d ≡ declaration.Nothing → Printed o at o′ r (line ind (pick (among u builtIns) (protoOf (builtIn u)) (asNamed u)) (camelToSnake w) k) → Printed o at o′ r (fieldText s ind it)
+    field-undeclared f p = by-declaration f (go (among u builtIns) p)
+      where
+        go : (b : Bool) → Printed o at o′ r (line ind (pick b (protoOf (builtIn u)) (asNamed u)) (camelToSnake w) k) → Printed o at o′ r (line ind (protoBy u (pick b (typed (builtIn u)) unknown)) (camelToSnake w) k)
+        go true q = q
+        go false q = q
 
   -- by the number n that the index holds
   module _ (s : Schema) (ind : List ℕ) (it : Item) {w : List ℕ} {k n : ℕ} (ew : w ≡ it .name) (ek : k ≡ it .number) (en : n ≡ numberOf (declarationOf s (it .second))) where
-    pub field-number-named : n ≡ 1 → {u : List ℕ} → u ≡ it .second → Printed o at o′ r (line ind (protoIn shape.Plain u []) (camelToSnake w) k) → Printed o at o′ r (fieldText s ind it)
-    field-number-named f eu d = field-declared s ind it eu ew ek sense.Declared (number-named s (it .second) en f) refl d
-
     pub field-number-typed : 1 < n → Printed o at o′ r (line ind (protoOf (formOf (itemAt s (n - 2)))) (camelToSnake w) k) → Printed o at o′ r (fieldText s ind it)
-    field-number-typed h d = field-typed s ind it refl ew ek (sense.Typed (n - 2)) (number-typed s (it .second) en h) refl d
+    field-number-typed h p = field-typed s ind it refl ew ek refl (sym (declaration-typed (λ z. absurd (omega arith)) (λ z. absurd (omega arith)) (declarationOf s (it .second)) en)) p
+
+    module _ {u : List ℕ} (eu : u ≡ it .second) where
+      pub field-number-named : n ≡ 1 → Printed o at o′ r (line ind (protoIn shape.Plain u []) (camelToSnake w) k) → Printed o at o′ r (fieldText s ind it)
+      field-number-named f p = field-declared s ind it eu ew ek refl (sym (declaration-named f (declarationOf s u) (number-of-name s eu en))) p
+
+      pub field-number-undeclared : n ≤ 1 → (n ≡ 1 → ⊥) → Printed o at o′ r (line ind (pick (among u builtIns) (protoOf (builtIn u)) (asNamed u)) (camelToSnake w) k) → Printed o at o′ r (fieldText s ind it)
+      field-number-undeclared l f p = field-undeclared s ind it eu ew ek refl (sym (declaration-nothing (omega arith) (declarationOf s u) (number-of-name s eu en))) p
 
   -- ---- composites
 

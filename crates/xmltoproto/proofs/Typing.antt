@@ -9,14 +9,14 @@ use borrow.Author.Tests.{lt-ltb, le-ltb}
 use Rattle.texts.specs.Choice.{pick, _or_}
 use Rattle.texts.specs.Text.{ascii, same}
 use Rattle.texts.specs.Lists.{isSome, among}
+use Rattle.texts.proofs.Comparing.{same-equal}
 use Rattle.texts.proofs.Among.{among-append}
 use Rattle.charsets.specs.Charset.{compatible}
 use Rattle.model.specs.Schema.{Schema, itemAt, lastNamed, aType, aComposite, anEnum}
-use Rattle.index.specs.Declarations.{declaredBy, declarationOf, numberOf}
+use Rattle.index.specs.Declarations.{declaredBy, declarationOf}
 use Rattle.index.specs.declared.Declaration.{Declaration}
 use Rattle.index.specs.declared.Declaration.the-variants as declaration
-use Rattle.index.proofs.Finding.{declaration-named, declaration-typed}
-use Rattle.xmltoproto.specs.Types.{builtIns, chars, isChar, isByte, isRaw, isArray, asNamed, ofLength, narrow, asPrimitive, protoOf, Meaning, declared, typed, formOf, isDeclared, typeOr, meaning}
+use Rattle.xmltoproto.specs.Types.{builtIns, builtIn, chars, isChar, isByte, isRaw, isArray, asNamed, ofLength, narrow, asPrimitive, protoOf, Meaning, declared, typed, formOf, isDeclared, typeOr, meaning}
 use Rattle.xmltoproto.specs.Names.{signedNames, unsignedNames, otherPrimitives}
 use Rattle.xmltoproto.specs.Shapes.{form, protoIn, meaningIn}
 use Rattle.xmltoproto.specs.declared.types.Shape.{Shape}
@@ -121,6 +121,26 @@ module _ (w : List ℕ) {a : Bool} (ea : a ≡ among w signedNames) where
     pub built-other : b ≡ false → {c : Bool} → c ≡ among w otherPrimitives → c ≡ among w builtIns
     built-other t g = rw (among-append w signedNames (unsignedNames ++ otherPrimitives), ← ea, fa, among-append w unsignedNames otherPrimitives, ← eb, t) g
 
+-- what is not among some words is none of them
+not-same : (w v : List ℕ) (l : List (List ℕ)) → among w l ≡ false → among v l ≡ true → same w v ≡ false
+not-same w v l f t = go (same w v) refl
+  where
+    go : (b : Bool) → same w v ≡ b → b ≡ false
+    go true e = sym t ∙ ap (λ (x : List ℕ). among x l) (sym (same-equal w v e)) ∙ f
+    go false e = refl
+
+-- the shape of a name that is no built-in is the name as it stands
+pub undeclared-shape : (w : List ℕ) → protoOf (form w 0 []) ≡ pick (among w builtIns) (protoOf (builtIn w)) (asNamed w)
+unfolding builtIn protoOf isChar isRaw asPrimitive among same
+undeclared-shape w = go (among w builtIns) refl
+  where
+    other : (v : List ℕ) → among w builtIns ≡ false → among v builtIns ≡ true → same w v ≡ false
+    other v = not-same w v builtIns
+
+    go : (b : Bool) → among w builtIns ≡ b → protoOf (form w 0 []) ≡ pick b (protoOf (builtIn w)) (asNamed w)
+    go true f = refl
+    go false f = rw (other (ascii "char") f refl, other (ascii "int8") f refl, other (ascii "int16") f refl, other (ascii "uint8") f refl, other (ascii "uint16") f refl)
+
 -- by what it is declared as
 abbrev pub declaredSo : Schema → List ℕ → Declaration → Meaning
 declaredSo s name declaration.Named = declared
@@ -138,7 +158,7 @@ declared-means s name = go (lastNamed anEnum name s) (lastNamed aComposite name 
     go none none none = refl
 
 module _ (s : Schema) (name : List ℕ) {d : Declaration} (ed : d ≡ declarationOf s name) where
-  means : declaredSo s name d ≡ meaning s name
+  pub means : declaredSo s name d ≡ meaning s name
   means = ap (declaredSo s name) ed ∙ declared-means s name
 
   pub sense-declared : d ≡ declaration.Named → meaningIn s name sense.Declared ≡ meaning s name
@@ -159,11 +179,3 @@ module _ (s : Schema) (name : List ℕ) {d : Declaration} (ed : d ≡ declaratio
 
     pub sense-unknown : b ≡ false → meaningIn s name sense.Unknown ≡ meaning s name
     sense-unknown t = rw (told, t) at absent
-
--- by the number that the index holds
-module _ (s : Schema) (name : List ℕ) {n : ℕ} (en : n ≡ numberOf (declarationOf s name)) where
-  pub number-named : n ≡ 1 → meaningIn s name sense.Declared ≡ meaning s name
-  number-named f = sense-declared s name refl (sym (declaration-named f (declarationOf s name) en))
-
-  pub number-typed : 1 < n → meaningIn s name (sense.Typed (n - 2)) ≡ meaning s name
-  number-typed h = sense-typed s name refl (sym (declaration-typed (λ z. absurd (omega arith)) (λ z. absurd (omega arith)) (declarationOf s name) en))

@@ -1,16 +1,16 @@
 // Messages, printed: fields, then groups.
 use crate::line::put_line;
 use crate::typed::put_typed;
-use crate::types::Sense;
 use crate::types::Shape;
-use crate::types::sense_in;
 use crate::types::shape_of;
 use crate::view::name_at;
 use crate::view::number_at;
 use conversions::convert::put_singular;
 use conversions::convert::put_snake_in;
+use index::Declaration;
 use index::MOST;
 use index::child;
+use index::declaration_in;
 use index::field_number;
 use model::FIELD;
 use model::GROUP;
@@ -24,16 +24,37 @@ use model::next_of;
 use model::second_of;
 use printing::put_bytes;
 use printing::put_decimal;
-ghost use Rattle.texts.specs.Lists.{each};
+ghost use Rattle.texts.specs.Choice.{pick};
+ghost use Rattle.texts.specs.Lists.{among, each};
 ghost use Rattle.classes.specs.Table.{IsTable};
 ghost use Rattle.printing.specs.Printed.{Printed};
+ghost use Rattle.conversions.specs.Conversions.{camelToSnake};
 ghost use Rattle.model.specs.Schema.{itemAt, under, allOf, aMessage, aGroup, aField};
 ghost use Rattle.index.specs.Index.{Indexed};
 ghost use Rattle.model.specs.Store.{schemaOf};
-ghost use Rattle.xmltoproto.specs.Source.{fieldText, groupText, messageText};
+ghost use Rattle.xmltoproto.specs.Types.{builtIns, builtIn, asNamed, protoOf};
+ghost use Rattle.xmltoproto.specs.Source.{line, fieldText, groupText, messageText};
 ghost use Rattle.xmltoproto.specs.Parts.{indentOf, groupHead};
 
-// A field whose type name is declared nowhere, or of a schema with more items than the index holds.
+// A field whose type name is declared nowhere: a built-in, or a name that is printed as it stands. Which of the two is
+// not asked: the shape of a name that is no built-in is the name as it stands.
+fn put_undeclared(
+    out: &mut [u8],
+    at: usize,
+    t: &[u8; 256],
+    deep: bool,
+    type_name: &[u8],
+    name: &[u8],
+    number: u32,
+) -> usize
+    requires { ⌜ IsTable (now t) ⌝ }
+    ensures { λ r. ⌜ Printed (now (out .entry)) at (now (out .exit)) r (line (indentOf deep) (pick (among (now («type_name» .entry)) builtIns) (protoOf (builtIn (now («type_name» .entry)))) (asNamed (now («type_name» .entry)))) (camelToSnake (now (name .entry))) number) ⌝ }
+{
+    let shape = shape_of(type_name, 0, b"");
+    put_line(out, at, t, deep, shape, type_name, b"", name, number)
+}
+
+// Of a schema with more items than the index holds, or of an item that is no field: by the model's own searches.
 fn put_unsettled(
     out: &mut [u8],
     at: usize,
@@ -41,30 +62,27 @@ fn put_unsettled(
     m: Model,
     rec: &[u32],
     text: &[u8],
-    ix: &[u16],
     deep: bool,
     i: u32,
 ) -> usize
-    requires { ⌜ IsTable (now t) × Indexed (schemaOf m (now rec) (now text)) (now ix) ⌝ }
+    requires { ⌜ IsTable (now t) ⌝ }
     ensures { λ r. ⌜ Printed (now (out .entry)) at (now (out .exit)) r (fieldText (schemaOf m (now (rec .entry)) (now (text .entry))) (indentOf deep) (itemAt (schemaOf m (now (rec .entry)) (now (text .entry))) i)) ⌝ }
 {
     let e = item(m, rec, i);
     let type_name = second_of(e, text);
     let name = name_of(e, text);
     let number = e.number;
-    match sense_in(m, rec, text, ix, i) {
-        Sense::Declared => put_line(out, at, t, deep, Shape::Plain, type_name, b"", name, number),
-        Sense::Typed(k) => put_typed(out, at, t, m, rec, text, deep, k, name, number),
-        Sense::BuiltIn => {
-            let shape = shape_of(type_name, 0, b"");
-            put_line(out, at, t, deep, shape, type_name, b"", name, number)
+    match declaration_in(m, rec, text, type_name) {
+        Declaration::Named => {
+            put_line(out, at, t, deep, Shape::Plain, type_name, b"", name, number)
         }
-        Sense::Unknown => put_line(out, at, t, deep, Shape::Plain, type_name, b"", name, number),
+        Declaration::Typed(k) => put_typed(out, at, t, m, rec, text, deep, k, name, number),
+        Declaration::Nothing => put_undeclared(out, at, t, deep, type_name, name, number),
     }
 }
 
-// By the number that the index holds for the type name, 1 for an enum or composite and above it the types: an enum made
-// of it is written and read again, which is waited for.
+// By the number that the index holds for the type name, 0 for one declared nowhere, 1 for an enum or composite and above
+// it the types: an enum made of it is written and read again, which is waited for.
 fn put_field(
     out: &mut [u8],
     at: usize,
@@ -85,17 +103,18 @@ fn put_field(
     if e.kind == FIELD {
         if count(m, rec, text) <= MOST {
             let known = field_number(m, rec, text, ix, i);
-            if known == 1 {
-                let type_name = second_of(e, text);
-                return put_line(out, at, t, deep, Shape::Plain, type_name, b"", name, number);
-            }
             if 1 < known {
                 let k = known - 2;
                 return put_typed(out, at, t, m, rec, text, deep, k, name, number);
             }
+            let type_name = second_of(e, text);
+            if known == 1 {
+                return put_line(out, at, t, deep, Shape::Plain, type_name, b"", name, number);
+            }
+            return put_undeclared(out, at, t, deep, type_name, name, number);
         }
     }
-    put_unsettled(out, at, t, m, rec, text, ix, deep, i)
+    put_unsettled(out, at, t, m, rec, text, deep, i)
 }
 
 fn put_fields(
