@@ -2,7 +2,7 @@
 //
 // One constant table of 256 class numbers decides them all. Its rule is proved once over the whole
 // table (proofs/table). Each test takes the table lent, and promises the predicate of specs/Class.antt
-// for every byte.
+// for every byte; `is_name_stop_in` promises that of two classes at once (`isNameStop`, specs/Table.antt).
 ghost use mathlib.Core.Path.{_≡_};
 ghost use Rattle.classes.specs.Class.{isSpace, isTagNameEnd, isAttributeNameEnd, isUpper, isLower};
 ghost use Rattle.classes.specs.Table.{isNameStop, ClassOf, IsTable};
