@@ -1,4 +1,5 @@
--- What a class number says of its byte, and a table of such numbers. The crates above hand such a table on, and else cite specs/Class.antt alone.
+-- What a class number says of its byte, and a table of such numbers. The crates above hand such a table on, and cite `isNameStop`, and else
+-- specs/Class.antt alone.
 use mathlib.Core.Path.{_≡_}
 use mathlib.Core.Bool.{Bool}
 use mathlib.Core.List.{List}
