@@ -3,6 +3,8 @@
 // One constant table of 256 class numbers decides them all. Its rule is proved once over the whole
 // table (proofs/table). Each test takes the table lent, and promises the predicate of specs/Class.antt
 // for every byte; `is_name_stop_in` promises that of two classes at once (`is_name_stop`, specs/Table.antt).
+#![tactic(auto)]
+
 ghost use Rattle.std.specs.Prelude.{◌≡◌};
 ghost use Rattle.classes.specs.Class.{is_space, is_tag_name_end, is_attribute_name_end, is_upper, is_lower};
 ghost use Rattle.classes.specs.Table.{is_name_stop, ClassOf, IsTable};

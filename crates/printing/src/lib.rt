@@ -5,6 +5,8 @@
 // of its caller. The contract, `Printed` of specs/Printed.antt, gives every byte of the slice and the next
 // position; texts printed one after the other compose by `▸` of proofs/Sequencing.antt; and
 // proofs/Finishing.antt has "measure, then write", the law that every public entry ends with.
+#![tactic(auto)]
+
 ghost use Rattle.std.specs.Prelude.{◌≡◌, [], ◌∷◌, ◌+◌, ◌≤◌, length};
 ghost use Rattle.texts.specs.Choice.{pick};
 ghost use Rattle.texts.specs.Text.{piece};

@@ -4,6 +4,8 @@
 // around. `number`, `offset` and `place` give the figures of 01, "What a box answers", and promise
 // the definitions of specs/Figures.antt. This crate decides nothing: the conditions stand in the
 // crates that answer.
+#![tactic(auto)]
+
 ghost use Rattle.std.specs.Prelude.{◌≡◌};
 ghost use Rattle.refusals.specs.Figures.{number_of, offset_of, place_of};
 

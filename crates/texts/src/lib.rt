@@ -3,6 +3,8 @@
 // A part of a text, whether two texts are one, whether one stands at a place of another, where the
 // first byte beyond ASCII is, and a text trimmed. Every function is total, asks nothing of its caller, and promises
 // a definition of specs/.
+#![tactic(auto)]
+
 ghost use Rattle.std.specs.Prelude.{◌≡◌, true, ◌+◌, ◌≤◌, ◌<◌, length, drop, get_or};
 ghost use Rattle.texts.specs.Text.{piece, same, starts_with};
 ghost use Rattle.texts.specs.Scan.{scan, is_ascii};

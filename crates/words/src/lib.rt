@@ -5,6 +5,8 @@
 // `three_from` do so for two or three bytes one after the other, and `lacks_word` tells that a byte is not among eight;
 // `copy_word` copies eight. `stands_short` and `stands_long` compare with a text that is given by its numbers, and `same_name`
 // compares two names. What works on one word asks that eight bytes are there, and no more. A half is four bytes.
+#![tactic(auto)]
+
 ghost use Rattle.std.specs.Prelude.{◌≡◌, true, false, [], ◌∷◌, ◌+◌, ◌≤◌, ◌<◌, length};
 ghost use Rattle.std.proofs.lemmas.List.Edits.{sets};
 ghost use Rattle.texts.specs.Text.{piece, same};
