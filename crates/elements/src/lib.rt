@@ -2,6 +2,8 @@
 //
 // `element_of` promises `element_of` of specs/Elements.antt for every name, and `element_at` for every piece of a document:
 // it tells the names that nearly every tag has by a word or two.
+#![tactic(auto)]
+
 ghost use Rattle.std.specs.Prelude.{◌≡◌, ◌+◌, ◌≤◌, length};
 ghost use Rattle.texts.specs.Text.{piece};
 ghost use Rattle.elements.specs.Elements.{element_of, other_element_of};

@@ -4,6 +4,8 @@
 // for room itself, and promises `DecodedInto` of specs/Entities.antt on all inputs, after 01, "Reading markup". `decode_room`
 // is the same for a caller that has room. Decoding never lengthens a text (proofs/Decoding.antt), and one without '&' stays
 // as it is (proofs/Copying.antt).
+#![tactic(auto)]
+
 ghost use Rattle.std.specs.Prelude.{◌≡◌, ◌+◌, ◌-◌, ◌≤◌, ◌<◌, length, drop};
 ghost use Rattle.std.proofs.lemmas.List.Edits.{sets};
 ghost use Rattle.texts.specs.Text.{piece};

@@ -4,6 +4,8 @@
 // Each accessor and each search promises an equation with the schema that the model stands for
 // (specs/Schema.antt, `schema_of` of specs/Store.antt), whatever the buffers hold. `entry_at` and
 // `put_entry` read and write the records of an item, for whoever builds a model.
+#![tactic(auto)]
+
 ghost use Rattle.std.specs.Prelude.{◌≡◌, List, ℕ, ◌+◌, ◌*◌, ◌<◌, ◌≤◌, eqb, length, get_or};
 ghost use Rattle.std.proofs.lemmas.List.Edits.{sets};
 ghost use Rattle.texts.specs.Choice.{◌and◌};

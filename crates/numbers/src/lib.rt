@@ -2,6 +2,8 @@
 //
 // `number_of` promises `number_of` of specs/Numbers.antt for every text: empty is 0; else an optional `+` and
 // digits, at most 4294967295.
+#![tactic(auto)]
+
 ghost use Rattle.std.specs.Prelude.{◌≡◌, ℕ};
 ghost use Rattle.std.proofs.Math.Option.{some};
 ghost use Rattle.texts.specs.Text.{piece};
