@@ -3,6 +3,8 @@
 // `is_compatible` promises `compatible` of specs/Charset.antt for every text: trimmed and cleaned, it is
 // empty or one of 13 names. The text is cleaned once, into an array that the longest name fits in: one
 // letter more, and it is none of them.
+#![tactic(auto)]
+
 ghost use Rattle.std.specs.Prelude.{◌≡◌, true, ◌+◌, ◌≤◌, eqb, length, drop};
 ghost use Rattle.texts.specs.Choice.{pick};
 ghost use Rattle.texts.specs.Lists.{among};

@@ -2,6 +2,8 @@
 //
 // `put_quoted` prints a text in quotes, each byte escaped by its range; it asks nothing of its caller,
 // and its contract is `Printed` of `quoted` (specs/Escape.antt).
+#![tactic(auto)]
+
 ghost use Rattle.std.specs.Prelude.{◌≡◌, true, [], ◌∷◌, ◌++◌, ℕ, ◌-◌, ◌≤◌, ◌<◌, length, drop, get_or};
 ghost use Rattle.printing.specs.Printed.{Printed};
 ghost use Rattle.texts.specs.Text.{piece};

@@ -5,6 +5,8 @@
 // is the one of specs/Entry.antt, and the output is the converted name (specs/Conversions.antt of the
 // crate `conversions`) and then what stood there, or, after a refusal, what it held. No entry asks
 // anything of its caller.
+#![tactic(auto)]
+
 ghost use Rattle.std.specs.Prelude.{ℕ, ◌≡◌, length};
 ghost use Rattle.conversions.specs.Conversions.{camel_to_snake, snake_to_camel, camel_to_screaming_snake, screaming_snake_to_pascal, strip_enum_prefix, singular_pascal};
 ghost use Rattle.names.specs.Entry.{tested, tested_two, Answers};
