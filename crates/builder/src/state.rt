@@ -5,7 +5,7 @@ use model::Head;
 use refusals::Refusal;
 
 // How many items there may be, and how many elements may be open.
-#[derive(Drop)]
+#[derive(Clone, Copy)]
 pub struct Limits {
     pub items: u32,
     pub depth: usize,
@@ -13,7 +13,7 @@ pub struct Limits {
 
 // How much of the buffers is in use: open names, items, and the text below `low` and from `high`
 // on; the collected text begins at `start`.
-#[derive(Drop)]
+#[derive(Clone, Copy)]
 pub struct Place {
     pub depth: usize,
     pub count: u32,
@@ -23,7 +23,7 @@ pub struct Place {
 }
 
 // Whether text is collected, and what is current: 1 + its position, and 0 where there is none.
-#[derive(Drop)]
+#[derive(Clone, Copy)]
 pub struct Current {
     pub flag: bool,
     pub composite: u32,
@@ -32,20 +32,20 @@ pub struct Current {
     pub group: u32,
 }
 
-#[derive(Drop)]
+#[derive(Clone, Copy)]
 pub struct State {
     pub place: Place,
     pub current: Current,
     pub head: Head,
 }
 
-#[derive(Drop)]
+#[derive(Clone, Copy)]
 pub enum Verdict {
     Fine,
     Refused(Refusal),
 }
 
-#[derive(Drop)]
+#[derive(Clone, Copy)]
 pub struct Stepped {
     pub state: State,
     pub verdict: Verdict,

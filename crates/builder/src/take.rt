@@ -51,7 +51,7 @@ pub fn field_attributes(doc: &[u8], at: usize, noted: Notes) -> Noted
 // ---- their values
 
 // A text in the text buffer.
-#[derive(Drop)]
+#[derive(Clone, Copy)]
 pub struct Taken {
     pub from: usize,
     pub len: usize,

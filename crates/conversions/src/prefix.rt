@@ -11,7 +11,7 @@ use classes::table;
 use texts::byte_at;
 
 // The place past a text that stands where it is looked for.
-#[derive(Drop)]
+#[derive(Clone, Copy)]
 pub enum Past {
     At(usize),
     Nothing,

@@ -12,7 +12,7 @@ ghost use Rattle.elements.specs.Leaf.{IsLeaf};
 use texts::{equal, part};
 use words::{stands_long, stands_short};
 
-#[derive(Drop)]
+#[derive(Clone, Copy)]
 pub enum Element {
     MessageSchema,
     Type,

@@ -15,14 +15,14 @@ ghost use Rattle.entities.specs.Copying.{PlainTo, RestInto};
 use words::{copy_half, copy_word, lack_halves, lack_words, lacks_word};
 
 // The byte that stands at a place, and of how many bytes it is written.
-#[derive(Drop)]
+#[derive(Clone, Copy)]
 pub struct Unit {
     pub byte: u8,
     pub len: usize,
 }
 
 // The number of bytes written; or no room, and nothing written.
-#[derive(Drop)]
+#[derive(Clone, Copy)]
 pub enum Decoded {
     Written(usize),
     NoRoom,

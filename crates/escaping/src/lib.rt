@@ -18,7 +18,7 @@ use texts::part;
 const LONG: usize = 1024;
 
 // How a byte is shown.
-#[derive(Drop)]
+#[derive(Clone, Copy)]
 pub enum Kind {
     // As it stands.
     Plain,
@@ -29,7 +29,7 @@ pub enum Kind {
 }
 
 // The kind of an escape, and its length.
-#[derive(Drop)]
+#[derive(Clone, Copy)]
 pub struct Escape {
     pub kind: Kind,
     pub len: usize,

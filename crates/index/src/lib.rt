@@ -443,7 +443,7 @@ pub fn child(
 }
 
 // What a name is declared as: an enum or composite, the type at a position, or nothing.
-#[derive(Drop)]
+#[derive(Clone, Copy)]
 pub enum Declaration {
     Named,
     Typed(u32),

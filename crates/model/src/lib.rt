@@ -36,7 +36,7 @@ pub const GROUP: u32 = 8;
 pub const FIELD: u32 = 9;
 
 // An item: numbers, and where its texts lie in the text buffer.
-#[derive(Drop)]
+#[derive(Clone, Copy)]
 pub struct Entry {
     pub kind: u32,
     pub owner: u32,
@@ -51,7 +51,7 @@ pub struct Entry {
 }
 
 // What messageSchema says: where the package's name lies in the text buffer, id and version.
-#[derive(Drop)]
+#[derive(Clone, Copy)]
 pub struct Head {
     pub name: u32,
     pub len: u32,
@@ -60,13 +60,13 @@ pub struct Head {
 }
 
 // A schema that was read: its head, and how many items the record buffer holds.
-#[derive(Drop)]
+#[derive(Clone, Copy)]
 pub struct Model {
     pub head: Head,
     pub count: u32,
 }
 
-#[derive(Drop)]
+#[derive(Clone, Copy)]
 pub enum Position {
     At(u32),
     Nothing,

@@ -18,7 +18,7 @@ use refusals::{Answer, Refusal};
 const MAX_NAME: usize = 32768;
 
 // What is said of a name before it is converted.
-#[derive(Drop)]
+#[derive(Clone, Copy)]
 pub enum Tested {
     Fine,
     Refused(Refusal),

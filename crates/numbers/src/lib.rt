@@ -12,7 +12,7 @@ ghost use Rattle.numbers.specs.declared.Number.TheVariants.{Value};
 
 use texts::part;
 
-#[derive(Drop)]
+#[derive(Clone, Copy)]
 pub enum Number {
     Value(u32),
     Bad,

@@ -16,7 +16,7 @@ pub const SIZE: usize = 1024;
 
 // ---- two names
 
-#[derive(Drop)]
+#[derive(Clone, Copy)]
 pub enum Order {
     Less,
     Same,
@@ -66,7 +66,7 @@ fn compared(a: &[u8], b: &[u8]) -> Order
 // ---- names in order
 
 // Where a name is, or before which one it would stand.
-#[derive(Drop)]
+#[derive(Clone, Copy)]
 pub enum Place {
     At(usize),
     Before(usize),

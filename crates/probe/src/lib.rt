@@ -32,7 +32,7 @@ const CLOSE: u8 = 0x84;
 
 // How many bytes of events were written, and the figures of the refusal that the reading ended in;
 // number 0 where the document was read whole.
-#[derive(Drop)]
+#[derive(Clone, Copy)]
 pub struct Reading {
     pub n: usize,
     pub number: u32,
@@ -65,7 +65,7 @@ pub fn finished(n: usize, room: usize) -> Reading {
 // ---- attributes, in the order of their names
 
 // Where an attribute's raw name lies; or that there is none.
-#[derive(Drop)]
+#[derive(Clone, Copy)]
 struct Name {
     known: bool,
     from: usize,

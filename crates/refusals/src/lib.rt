@@ -11,7 +11,7 @@ ghost use Rattle.refusals.specs.Figures.{number_of, offset_of, place_of};
 
 // One case for each number of 01. `at` is both offset and place; a case without `offset` has the
 // offset 0.
-#[derive(Drop)]
+#[derive(Clone, Copy)]
 pub enum Refusal {
     // 1: the document, or a name, is longer than 32,768 bytes.
     TooLong,
@@ -60,7 +60,7 @@ pub enum Refusal {
 }
 
 // What an entry answers: the output's length, or the refusal.
-#[derive(Drop)]
+#[derive(Clone, Copy)]
 pub enum Answer {
     Accepted(usize),
     Refused(Refusal),

@@ -9,7 +9,7 @@ use crate::step::{Step, step_at, step_noting};
 use refusals::Refusal;
 use tags::tag::{Notes, nothing};
 
-#[derive(Drop)]
+#[derive(Clone, Copy)]
 pub enum Event {
     Text {
         from: usize,
@@ -33,7 +33,7 @@ pub enum Event {
 }
 
 // Where the reader stands; `owed` says that the self-closed tag at `place` still owes its close.
-#[derive(Drop)]
+#[derive(Clone, Copy)]
 pub struct Cursor {
     pub at: usize,
     pub owed: bool,
@@ -43,7 +43,7 @@ pub struct Cursor {
 }
 
 // An event, the place of its '<' or of its first byte, and where the reader goes on.
-#[derive(Drop)]
+#[derive(Clone, Copy)]
 pub struct Read {
     pub event: Event,
     pub place: usize,
@@ -51,7 +51,7 @@ pub struct Read {
 }
 
 // The same with what was noted of a tag that was opened.
-#[derive(Drop)]
+#[derive(Clone, Copy)]
 pub struct ReadNoted {
     pub event: Event,
     pub place: usize,
@@ -190,7 +190,7 @@ pub fn at_end(doc: &[u8], c: Cursor) -> bool
 }
 
 // A reader over the document that yields one event at a time.
-#[derive(Drop)]
+#[derive(Clone, Copy)]
 pub struct Reader<'a> {
     pub doc: &'a [u8],
     pub cursor: Cursor,
@@ -204,7 +204,7 @@ pub fn ahead<'a>(r: Reader<'a>) -> Read
 }
 
 // An event, the place of its '<' or of its first byte, and what was noted of a tag that it opens.
-#[derive(Drop)]
+#[derive(Clone, Copy)]
 pub struct Placed {
     pub event: Event,
     pub place: usize,

@@ -13,7 +13,7 @@ use tags::scan::{byte_from, prefix_len, skip_space, tag_name_end};
 use tags::tag::{Ending, Notes, nothing, tag_noting};
 
 // What stands at a place, and where the reader goes on.
-#[derive(Drop)]
+#[derive(Clone, Copy)]
 pub enum Step {
     Text {
         from: usize,
@@ -44,7 +44,7 @@ pub enum Step {
 }
 
 // A step, and what was noted of the tag that it opens.
-#[derive(Drop)]
+#[derive(Clone, Copy)]
 pub struct NotedStep {
     pub step: Step,
     pub noted: Notes,

@@ -11,7 +11,7 @@ use words::{stands_long, stands_short};
 
 // A beginning that is known: the number of its raw name (specs/Beginning.antt), 0 where none stands there, the number of
 // the names that matter there, and the lengths of the raw name and of its prefix.
-#[derive(Drop)]
+#[derive(Clone, Copy)]
 pub struct Opening {
     pub code: usize,
     pub keys: usize,
@@ -20,7 +20,7 @@ pub struct Opening {
 }
 
 // Any beginning: where the raw name ends, the length of its prefix, and the number of the names that matter.
-#[derive(Drop)]
+#[derive(Clone, Copy)]
 pub struct Beginning {
     pub end: usize,
     pub lost: usize,

@@ -7,14 +7,14 @@ use words::{stands_long, stands_short};
 
 // A known attribute: the number of its name (specs/Known.antt), 0 where none stands there, and how far the value's first
 // byte is from the space before the name: the name's length and 3, so that one addition finds the value.
-#[derive(Drop)]
+#[derive(Clone, Copy)]
 pub struct Known {
     pub code: usize,
     pub skip: usize,
 }
 
 // The numbers of the four names that matter in a tag; 0 where a name is not known.
-#[derive(Drop)]
+#[derive(Clone, Copy)]
 pub struct Codes {
     pub first: usize,
     pub second: usize,

@@ -9,6 +9,8 @@
 // that table. Each promise is with a definition of specs/, on all inputs: specs/Find.antt, specs/Names.antt and
 // specs/Attributes.antt, after 01, "Reading markup". What is noted is specs/Noting.antt. A tag's values lie within the tag,
 // without overlap (proofs/Ranges.antt).
+#![tactic(auto)]
+
 pub mod beginning;
 mod known;
 pub mod scan;

@@ -161,7 +161,7 @@ fn name_stop(doc: &[u8], at: usize, t: &[u8; 256]) -> usize
 }
 
 // A raw name: where it ends, and how many bytes it loses.
-#[derive(Drop)]
+#[derive(Clone, Copy)]
 pub struct Raw {
     pub end: usize,
     pub lost: usize,
@@ -255,7 +255,7 @@ pub fn byte_from(doc: &[u8], at: usize, b: u8) -> usize
 }
 
 // Where a text occurs.
-#[derive(Drop)]
+#[derive(Clone, Copy)]
 pub enum Occurrence {
     At(usize),
     Nowhere,

@@ -15,7 +15,7 @@ use refusals::Refusal;
 
 // One part of a tag: an attribute with the ranges of its raw name and raw value, the tag's end, or
 // a refusal.
-#[derive(Drop)]
+#[derive(Clone, Copy)]
 pub enum TagPart {
     Attribute {
         name: usize,
@@ -32,14 +32,14 @@ pub enum TagPart {
 }
 
 // How a tag ends.
-#[derive(Drop)]
+#[derive(Clone, Copy)]
 pub enum Ending {
     Ends { next: usize, self_closed: bool },
     Broken(Refusal),
 }
 
 // The range of a raw value.
-#[derive(Drop)]
+#[derive(Clone, Copy)]
 pub enum Found {
     Value { from: usize, len: usize },
     Absent,
@@ -48,7 +48,7 @@ pub enum Found {
 // What was noted under four names: 1 + the place of the raw value's first byte, 0 where there is none, and its length.
 // Eight words: they go from hand to hand for each attribute, and the bytes beside an enum's tag, copied with it, or a
 // pair copied at once after its halves were stored, stall that.
-#[derive(Drop)]
+#[derive(Clone, Copy)]
 pub struct Notes {
     pub first: usize,
     pub len1: usize,
@@ -61,7 +61,7 @@ pub struct Notes {
 }
 
 // What was found under four names.
-#[derive(Drop)]
+#[derive(Clone, Copy)]
 pub struct Noted {
     pub first: Found,
     pub second: Found,
@@ -70,7 +70,7 @@ pub struct Noted {
 }
 
 // A tag read whole: how it ends, and what was noted of it.
-#[derive(Drop)]
+#[derive(Clone, Copy)]
 pub struct Whole {
     pub ending: Ending,
     pub noted: Notes,
@@ -198,7 +198,7 @@ pub fn tag_part(doc: &[u8], at: usize, place: usize) -> TagPart
 }
 
 // A part of a tag, and the number of the attribute's name where that is known (specs/Known.antt), else 0.
-#[derive(Drop)]
+#[derive(Clone, Copy)]
 pub struct Quick {
     pub code: usize,
     pub part: TagPart,

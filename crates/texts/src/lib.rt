@@ -11,7 +11,7 @@ ghost use Rattle.texts.specs.Scan.{scan, is_ascii};
 ghost use Rattle.texts.specs.Trim.{is_blank, trimmed, TrimmedTo, KeptTo};
 
 // `len` bytes from `from` on.
-#[derive(Drop)]
+#[derive(Clone, Copy)]
 pub struct Range {
     pub from: usize,
     pub len: usize,

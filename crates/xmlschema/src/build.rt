@@ -30,7 +30,7 @@ const MIN_RECORDS: usize = 16384;
 
 const MIN_TEXT: usize = 65536;
 
-#[derive(Drop)]
+#[derive(Clone, Copy)]
 pub enum Schema {
     Accepted(Model),
     Refused(Refusal),
@@ -99,7 +99,7 @@ fn step(
 }
 
 // What one turn leaves: the state, where the reader goes on, and whether to go on.
-#[derive(Drop)]
+#[derive(Clone, Copy)]
 pub struct Turned {
     pub state: State,
     pub cursor: Cursor,
@@ -133,7 +133,7 @@ fn turn(
 }
 
 // A cursor in whole words, as it goes from turn to turn: the bytes beside a bool, copied with it, stall the loop.
-#[derive(Drop)]
+#[derive(Clone, Copy)]
 pub struct Mark {
     pub at: usize,
     pub owed: usize,
@@ -181,7 +181,7 @@ fn cursor_of(m: Mark) -> Cursor
 }
 
 // What one turn leaves, the cursor as a mark.
-#[derive(Drop)]
+#[derive(Clone, Copy)]
 pub struct Marked {
     pub state: State,
     pub mark: Mark,
@@ -220,7 +220,7 @@ fn at_end_of(doc: &[u8], mark: Mark) -> bool
 }
 
 // A state, and the mark where it was reached.
-#[derive(Drop)]
+#[derive(Clone, Copy)]
 pub struct Reached {
     pub state: State,
     pub mark: Mark,

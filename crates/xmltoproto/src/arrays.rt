@@ -16,7 +16,7 @@ use model::{COMPOSITE, FIELD, GROUP, MEMBER, MESSAGE, Model, Position, count, it
 use refusals::Refusal;
 
 // What is said of a schema before it is printed.
-#[derive(Drop)]
+#[derive(Clone, Copy)]
 pub enum Arrays {
     Fine,
     Refused(Refusal),

@@ -16,7 +16,7 @@ use texts::equal;
 
 // How a type prints: as text or as bytes of a length, as a wider integer under an option, or as its
 // primitive stands.
-#[derive(Drop)]
+#[derive(Clone, Copy)]
 pub enum Shape {
     Text(u32),
     // In an encoding that is not UTF-8 compatible.
@@ -103,7 +103,7 @@ pub fn shape_of(primitive: &[u8], size: u32, encoding: &[u8]) -> Shape
 // ---- what a field's type name stands for
 
 // An enum or composite, the type at a position, a built-in, or nothing.
-#[derive(Drop)]
+#[derive(Clone, Copy)]
 pub enum Sense {
     Declared,
     Typed(u32),
