@@ -1,6 +1,6 @@
 -- Laws of a scan by fours: the loop's invariant is that of a scan byte by byte, and four bytes that pass keep it.
 use mathlib.Core.Path.{◌≡◌, refl, sym, ap, ◌∙◌}
-use mathlib.Core.Bool.{Bool, true, false, not, not-not}
+use mathlib.Core.Bool.{Bool, true, false, not}
 use mathlib.Core.List.{List}
 use Prim.Native.Nat.{ℕ, suc, ◌+◌, ◌≤◌, ◌<◌}
 use native.Mathlib.Omega.{arith}
@@ -13,8 +13,8 @@ use Rattle.texts.proofs.Scanning.{Scanning, scan-start, scan-on, scan-stop, scan
 pub fails : {a b c : Bool} → a ≡ b → a ≡ c → not b ≡ not c
 fails e v = ap not (sym e ∙ v)
 
-pub passes : {a b c : Bool} → a ≡ b → not a ≡ c → b ≡ not c
-passes {a} e v = sym e ∙ sym (not-not a) ∙ ap not v
+pub passes : {a b c : Bool} → a ≡ b → a ≡ c → b ≡ c
+passes e v = sym e ∙ v
 
 module _ {p : ℕ → Bool} {s : List ℕ} {at i : ℕ} (inv : Scanning p s at i) (room : i + 4 ≤ length s) where
   -- one more byte passes

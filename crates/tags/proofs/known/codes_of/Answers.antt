@@ -1,0 +1,14 @@
+use Rattle.tags.proofs.Laws.{laws}
+use Rattle.tags.proofs.known.codes_of.Goals as goal
+
+pub returns-in-1 : goal.returns-in-1
+returns-in-1 c = search laws
+
+pub returns-in-2 : goal.returns-in-2
+returns-in-2 c = search laws
+
+pub returns-in-3 : goal.returns-in-3
+returns-in-3 c = search laws
+
+pub returns-in_default : goal.returns-in_default
+returns-in_default c = search laws

@@ -1,0 +1,12 @@
+use Prim.Native.Nat.{◌-◌}
+use lib.ListN.{length}
+use Rattle.texts.proofs.Scanning.{Scanning}
+use Rattle.texts.specs.Scan.{until}
+use Rattle.classes.specs.Class.{is_attribute_name_end}
+use Rattle.tags.proofs.scan.attribute_name_each.Given as goal
+
+abbrev pub invariant-loop-i : goal.invariant-loop-i
+invariant-loop-i l = Scanning (until is_attribute_name_end) l.doc l.at l.i
+
+abbrev pub decreases-loop-i : goal.decreases-loop-i
+decreases-loop-i l = length l.doc - l.i

@@ -1,0 +1,90 @@
+use native.Mathlib.Omega.{arith}
+use Prim.Native.Nat.{◌-◌}
+use Rattle.tags.proofs.Striding.{striding, passes, stop-first, stop-second, stop-third, stop-fourth, four-on}
+use Rattle.tags.proofs.scan.skip_space_fours.Goals as goal
+
+pub skip_space_each-requires : goal.skip_space_each-requires
+skip_space_each-requires c = search striding
+
+pub returns-then-doc-lt4 : goal.returns-then-doc-lt4
+returns-then-doc-lt4 c = search striding
+
+pub overflow_sub-last : goal.overflow_sub-last
+overflow_sub-last c = search striding
+
+pub loop-i-init : goal.loop-i-init
+loop-i-init c = search striding
+
+pub bounds-doc-i : goal.bounds-doc-i
+bounds-doc-i c = search striding
+
+pub is_space_in-requires : goal.is_space_in-requires
+is_space_in-requires c = search striding
+
+pub returns-then-not-is_space_in : goal.returns-then-not-is_space_in
+returns-then-not-is_space_in c =
+    stop-first c.loop-i.invariant.0 (omega arith) (passes c.is_space_in.ensures c.if-not-is_space_in.true)
+
+pub overflow_add-i : goal.overflow_add-i
+overflow_add-i c = search striding
+
+pub bounds-doc-i-in-loop-i : goal.bounds-doc-i-in-loop-i
+bounds-doc-i-in-loop-i c = search striding
+
+pub is_space_in-requires-in-loop-i : goal.is_space_in-requires-in-loop-i
+is_space_in-requires-in-loop-i c = search striding
+
+pub overflow_add-result : goal.overflow_add-result
+overflow_add-result c = search striding
+
+pub returns-then-not-is_space_in-2 : goal.returns-then-not-is_space_in-2
+returns-then-not-is_space_in-2 c =
+    stop-second c.loop-i.invariant.0 (omega arith) (passes c.is_space_in.ensures c.if-not-is_space_in.false) (passes c.is_space_in-in-loop-i.ensures c.if-not-is_space_in-2.true)
+
+pub overflow_add-i-in-loop-i : goal.overflow_add-i-in-loop-i
+overflow_add-i-in-loop-i c = search striding
+
+pub bounds-doc-i-in-loop-i-2 : goal.bounds-doc-i-in-loop-i-2
+bounds-doc-i-in-loop-i-2 c = search striding
+
+pub is_space_in-requires-in-loop-i-2 : goal.is_space_in-requires-in-loop-i-2
+is_space_in-requires-in-loop-i-2 c = search striding
+
+pub overflow_add-result-then-not-is_space_in-3 : goal.overflow_add-result-then-not-is_space_in-3
+overflow_add-result-then-not-is_space_in-3 c = search striding
+
+pub returns-then-not-is_space_in-3 : goal.returns-then-not-is_space_in-3
+returns-then-not-is_space_in-3 c =
+    stop-third c.loop-i.invariant.0 (omega arith) (passes c.is_space_in.ensures c.if-not-is_space_in.false) (passes c.is_space_in-in-loop-i.ensures c.if-not-is_space_in-2.false) (passes c.is_space_in-in-loop-i-2.ensures c.if-not-is_space_in-3.true)
+
+pub overflow_add-i-in-loop-i-2 : goal.overflow_add-i-in-loop-i-2
+overflow_add-i-in-loop-i-2 c = search striding
+
+pub bounds-doc-i-in-loop-i-3 : goal.bounds-doc-i-in-loop-i-3
+bounds-doc-i-in-loop-i-3 c = search striding
+
+pub is_space_in-requires-in-loop-i-3 : goal.is_space_in-requires-in-loop-i-3
+is_space_in-requires-in-loop-i-3 c = search striding
+
+pub overflow_add-result-then-not-is_space_in-4 : goal.overflow_add-result-then-not-is_space_in-4
+overflow_add-result-then-not-is_space_in-4 c = search striding
+
+pub returns-then-not-is_space_in-4 : goal.returns-then-not-is_space_in-4
+returns-then-not-is_space_in-4 c =
+    stop-fourth c.loop-i.invariant.0 (omega arith) (passes c.is_space_in.ensures c.if-not-is_space_in.false) (passes c.is_space_in-in-loop-i.ensures c.if-not-is_space_in-2.false) (passes c.is_space_in-in-loop-i-2.ensures c.if-not-is_space_in-3.false) (passes c.is_space_in-in-loop-i-3.ensures c.if-not-is_space_in-4.true)
+
+pub overflow_add-i-in-loop-i-3 : goal.overflow_add-i-in-loop-i-3
+overflow_add-i-in-loop-i-3 c = search striding
+
+pub loop-i-smaller : goal.loop-i-smaller
+loop-i-smaller c = search striding
+
+pub loop-i-preserved : goal.loop-i-preserved
+loop-i-preserved c =
+    (four-on c.loop-i.invariant.0 (omega arith) (passes c.is_space_in.ensures c.if-not-is_space_in.false) (passes c.is_space_in-in-loop-i.ensures c.if-not-is_space_in-2.false) (passes c.is_space_in-in-loop-i-2.ensures c.if-not-is_space_in-3.false) (passes c.is_space_in-in-loop-i-3.ensures c.if-not-is_space_in-4.false), omega arith)
+
+pub skip_space_each-requires-2 : goal.skip_space_each-requires-2
+skip_space_each-requires-2 c = search striding
+
+pub returns : goal.returns
+returns c = search striding

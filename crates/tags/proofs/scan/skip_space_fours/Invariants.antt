@@ -1,0 +1,12 @@
+use mathlib.Core.Path.{◌≡◌}
+use Prim.Native.Nat.{◌+◌, ◌-◌}
+use lib.ListN.{length}
+use Rattle.texts.proofs.Scanning.{Scanning}
+use Rattle.classes.specs.Class.{is_space}
+use Rattle.tags.proofs.scan.skip_space_fours.Given as goal
+
+abbrev pub invariant-loop-i : goal.invariant-loop-i
+invariant-loop-i l = Scanning is_space l.doc l.at l.i × (l.last + 4 ≡ length l.doc)
+
+abbrev pub decreases-loop-i : goal.decreases-loop-i
+decreases-loop-i l = length l.doc - l.i
