@@ -5,6 +5,8 @@
 // one equation with the definition of the same thing (specs/Builder.antt), refusals 30 and 32 to 35
 // included, and keep what the next step asks. Each has a `requires`, which the crate above meets:
 // the state is kept, and the event's texts have room.
+#![tactic(auto)]
+
 pub mod close;
 pub mod open;
 pub mod stack;

@@ -1,0 +1,25 @@
+use Rattle.builder.proofs.Laws.{opening}
+use Rattle.builder.proofs.open.open_composite.Goals as goal
+
+pub field_attributes-tag-requires : goal.field_attributes-tag-requires
+field_attributes-tag-requires c = search opening
+
+pub add_named-r-requires : goal.add_named-r-requires
+add_named-r-requires c = search opening
+
+pub with_current-requires : goal.with_current-requires
+with_current-requires c = search opening
+
+pub shape_of-rec : goal.shape_of-rec
+shape_of-rec c = search opening
+
+pub shape_of-text : goal.shape_of-text
+shape_of-text c = search opening
+
+pub returns : goal.returns
+returns c =
+    let pre = c.requires in
+    let e-field-attributes = c.field_attributes-tag.ensures in
+    let e-add-named = c.add_named-r.ensures in
+    let e-with-current = c.with_current.ensures in
+    search opening
