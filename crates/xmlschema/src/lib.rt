@@ -5,4 +5,6 @@
 // answers, and the model it leaves, equal `answer_of` of specs/Whole.antt on all inputs, whatever the
 // buffers held before; where one is too short, both hold that still. What it read is seen through
 // the accessors of `model` alone.
+#![tactic(auto)]
+
 pub mod build;
