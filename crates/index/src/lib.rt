@@ -4,6 +4,8 @@
 // promises, and `declared` what its `last_named` says of a field's type name, without walking all items. Where a chain
 // is long, as names that collide make it, the names in order (crate ordered) answer, so no name is compared with all.
 // Nothing is asked of the model: where it has more than 1,024 items, which no document gives, the model's searches answer.
+#![tactic(auto)]
+
 ghost use Rattle.std.specs.Prelude.{◌≡◌, true, ℕ, ◌+◌, ◌≤◌, ◌<◌, length, get_or, set};
 ghost use Rattle.std.proofs.Math.Option.{Option};
 ghost use Rattle.std.specs.Int.Bits.{bit_and};

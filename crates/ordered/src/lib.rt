@@ -3,6 +3,8 @@
 // `put_ordered` fills a lent array from any model of at most 1,024 items, and `number_of` promises of a name what
 // the model's `last_named` says of enums, composites and types. A search compares ten names at most, whatever the names
 // are. Beside these stands what they share with the searches by a hash: which kinds declare.
+#![tactic(auto)]
+
 ghost use Rattle.std.specs.Prelude.{◌≡◌, ◌+◌, ◌<◌, ◌≤◌, length, drop, set};
 ghost use Rattle.model.specs.Schema.{last_named, an_enum, a_composite, a_type};
 ghost use Rattle.model.specs.Store.{schema_of};

@@ -1,0 +1,32 @@
+use Rattle.index.proofs.Laws.{laws}
+use Rattle.index.proofs.two_words.Goals as goal
+
+pub overflow_sub-n : goal.overflow_sub-n
+overflow_sub-n c = search laws
+
+pub word_at-requires : goal.word_at-requires
+word_at-requires c = search laws
+
+pub mixed-requires : goal.mixed-requires
+mixed-requires c = search laws
+
+pub returns-then-n-eq8 : goal.returns-then-n-eq8
+returns-then-n-eq8 c = search laws
+
+pub word_at-requires-2 : goal.word_at-requires-2
+word_at-requires-2 c = search laws
+
+pub mixed-requires-2 : goal.mixed-requires-2
+mixed-requires-2 c = search laws
+
+pub overflow_sub-n-2 : goal.overflow_sub-n-2
+overflow_sub-n-2 c = search laws
+
+pub word_at-requires-3 : goal.word_at-requires-3
+word_at-requires-3 c = search laws
+
+pub mixed-requires-3 : goal.mixed-requires-3
+mixed-requires-3 c = search laws
+
+pub returns : goal.returns
+returns c = search laws
