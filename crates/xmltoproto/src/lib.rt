@@ -5,6 +5,8 @@
 // inputs: the answer is the one of specs/Generate.antt, and the output is the source of
 // specs/Source.antt and then what stood there, or, after a refusal, what it held. The model is seen
 // through its accessors alone.
+#![tactic(auto)]
+
 pub mod arrays;
 mod bound;
 pub mod composites;

@@ -1,0 +1,13 @@
+use Prim.Native.Nat.{◌-◌}
+use Rattle.xmltoproto.proofs.Looping.{Asking}
+use Rattle.model.specs.Schema.{under, a_group}
+use Rattle.model.specs.Store.{schema_of}
+use Rattle.xmltoproto.proofs.Walking.{under_owner}
+use Rattle.xmltoproto.specs.Arrays.{holds_array}
+use Rattle.xmltoproto.proofs.arrays.has_group_array.Given as goal
+
+abbrev pub invariant-loop-from : goal.invariant-loop-from
+invariant-loop-from l = Asking (holds_array (schema_of l.m l.rec l.text)) (under a_group l.owner (schema_of l.m l.rec l.text)) (under_owner a_group l.owner) (schema_of l.m l.rec l.text) l.from
+
+abbrev pub decreases-loop-from : goal.decreases-loop-from
+decreases-loop-from l = l.n - l.from

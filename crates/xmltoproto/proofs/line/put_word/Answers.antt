@@ -1,0 +1,74 @@
+use Rattle.xmltoproto.proofs.Laws.{line as laws}
+use Rattle.xmltoproto.proofs.line.put_word.Goals as goal
+
+pub enum_told-1 : goal.enum_told-1
+enum_told-1 c = search laws
+
+pub put_bytes-requires : goal.put_bytes-requires
+put_bytes-requires c = search laws
+
+pub enum_told-in-Foreign : goal.enum_told-in-Foreign
+enum_told-in-Foreign c = search laws
+
+pub put_bytes-requires-in-Foreign : goal.put_bytes-requires-in-Foreign
+put_bytes-requires-in-Foreign c = search laws
+
+pub enum_told-in-Raw : goal.enum_told-in-Raw
+enum_told-in-Raw c = search laws
+
+pub put_bytes-requires-in-Raw : goal.put_bytes-requires-in-Raw
+put_bytes-requires-in-Raw c = search laws
+
+pub enum_told-in-Signed : goal.enum_told-in-Signed
+enum_told-in-Signed c = search laws
+
+pub put_bytes-requires-in-Signed : goal.put_bytes-requires-in-Signed
+put_bytes-requires-in-Signed c = search laws
+
+pub enum_told-in-Unsigned : goal.enum_told-in-Unsigned
+enum_told-in-Unsigned c = search laws
+
+pub put_bytes-requires-in-Unsigned : goal.put_bytes-requires-in-Unsigned
+put_bytes-requires-in-Unsigned c = search laws
+
+pub enum_told-in-Plain : goal.enum_told-in-Plain
+enum_told-in-Plain c = search laws
+
+pub put_bytes-requires-in-Plain : goal.put_bytes-requires-in-Plain
+put_bytes-requires-in-Plain c = search laws
+
+pub shape_of-out-in-Text : goal.shape_of-out-in-Text
+shape_of-out-in-Text c = search laws
+
+pub returns-in-Text : goal.returns-in-Text
+returns-in-Text c = search laws
+
+pub shape_of-out-in-Foreign : goal.shape_of-out-in-Foreign
+shape_of-out-in-Foreign c = search laws
+
+pub returns-in-Foreign : goal.returns-in-Foreign
+returns-in-Foreign c = search laws
+
+pub shape_of-out-in-Raw : goal.shape_of-out-in-Raw
+shape_of-out-in-Raw c = search laws
+
+pub returns-in-Raw : goal.returns-in-Raw
+returns-in-Raw c = search laws
+
+pub shape_of-out-in-Signed : goal.shape_of-out-in-Signed
+shape_of-out-in-Signed c = search laws
+
+pub returns-in-Signed : goal.returns-in-Signed
+returns-in-Signed c = search laws
+
+pub shape_of-out-in-Unsigned : goal.shape_of-out-in-Unsigned
+shape_of-out-in-Unsigned c = search laws
+
+pub returns-in-Unsigned : goal.returns-in-Unsigned
+returns-in-Unsigned c = search laws
+
+pub shape_of-out-in-Plain : goal.shape_of-out-in-Plain
+shape_of-out-in-Plain c = search laws
+
+pub returns-in-Plain : goal.returns-in-Plain
+returns-in-Plain c = search laws

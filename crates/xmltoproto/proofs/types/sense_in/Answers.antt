@@ -1,0 +1,32 @@
+use Rattle.xmltoproto.proofs.Laws.{types as laws}
+use Rattle.xmltoproto.proofs.types.sense_in.Goals as goal
+
+pub declared-requires : goal.declared-requires
+declared-requires c = search laws
+
+pub enum_told-1 : goal.enum_told-1
+enum_told-1 c = search laws
+
+pub enum_known-t : goal.enum_known-t
+enum_known-t c = search laws
+
+pub enum_told-in-Nothing : goal.enum_told-in-Nothing
+enum_told-in-Nothing c = search laws
+
+pub second_at-requires : goal.second_at-requires
+second_at-requires c = search laws
+
+pub is_built_in-requires : goal.is_built_in-requires
+is_built_in-requires c = search laws
+
+pub returns-then-is_built_in : goal.returns-then-is_built_in
+returns-then-is_built_in c = search laws
+
+pub returns-in-Named : goal.returns-in-Named
+returns-in-Named c = search laws
+
+pub returns-in-Typed : goal.returns-in-Typed
+returns-in-Typed c = search laws
+
+pub returns-else-is_built_in : goal.returns-else-is_built_in
+returns-else-is_built_in c = search laws
