@@ -10,6 +10,8 @@
 //
 // The value is the one that `tags::tag::attribute` finds under the name. Nothing here is part of
 // the product; no contract is given beyond safety and termination.
+#![tactic(auto)]
+
 pub mod dump;
 
 use entities::{Decoded, decode};
