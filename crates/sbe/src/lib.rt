@@ -2,6 +2,8 @@
 //
 // Every function answers the refusal's number, 0 for accepted, and always sets offset, place and n.
 // Its contract gives these four numbers and every byte of the output, on all inputs.
+#![tactic(auto)]
+
 ghost use Rattle.std.specs.Prelude.{◌≡◌, length};
 ghost use Rattle.conversions.specs.Conversions.{camel_to_snake, snake_to_camel, camel_to_screaming_snake, screaming_snake_to_pascal, strip_enum_prefix, singular_pascal};
 ghost use Rattle.names.specs.Entry.{tested, tested_two};

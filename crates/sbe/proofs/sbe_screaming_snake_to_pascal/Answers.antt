@@ -1,0 +1,14 @@
+use Rattle.sbe.proofs.Reporting.{laws}
+use Rattle.sbe.proofs.sbe_screaming_snake_to_pascal.Goals as goal
+
+pub screaming_snake_to_pascal-answer-requires : goal.screaming_snake_to_pascal-answer-requires
+screaming_snake_to_pascal-answer-requires c = search laws
+
+pub report-requires : goal.report-requires
+report-requires c = search laws
+
+pub shape_of-output : goal.shape_of-output
+shape_of-output c = search laws
+
+pub returns : goal.returns
+returns c = search laws
