@@ -269,37 +269,3 @@ pub fn events(document: &[u8], output: &mut [u8]) -> Reading {
     }
     read_all(document, output)
 }
-
-// The same for C.
-#[unsafe(no_mangle)]
-pub extern "C" fn probe_events(
-    document: &[u8],
-    output: &mut [u8],
-    offset: &mut usize,
-    place: &mut usize,
-    n: &mut usize,
-) -> u32 {
-    let reading = events(document, output);
-    *offset = reading.offset;
-    *place = reading.place;
-    *n = reading.n;
-    reading.number
-}
-
-// The model of a document in the form of model.rt, for C.
-#[unsafe(no_mangle)]
-pub extern "C" fn probe_schema(
-    document: &[u8],
-    records: &mut [u32],
-    text: &mut [u8],
-    output: &mut [u8],
-    offset: &mut usize,
-    place: &mut usize,
-    n: &mut usize,
-) -> u32 {
-    let reading = dump::schema(document, records, text, output);
-    *offset = reading.offset;
-    *place = reading.place;
-    *n = reading.n;
-    reading.number
-}
