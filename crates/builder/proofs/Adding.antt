@@ -1,12 +1,10 @@
 -- Laws of adding an item, and of what a step may go on with.
 use mathlib.Core.Path.{◌≡◌, refl, sym, ap, ◌∙◌}
-use mathlib.Core.Bool.{Bool, true, false}
 use mathlib.Core.List.{List, [], ◌∷◌, ◌++◌}
-use mathlib.Core.Option.{Option, none, some}
-use Prim.Native.Nat.{ℕ, zero, suc, ◌+◌, ◌*◌, ◌-◌, ◌≤◌, ◌<◌}
+use mathlib.Core.Option.{some}
+use Prim.Native.Nat.{ℕ, ◌+◌, ◌*◌, ◌-◌, ◌≤◌, ◌<◌}
 use native.Mathlib.Numerals.{add-one}
 use native.Mathlib.Omega.{arith}
-use lib.Dec.{leb}
 use lib.ListN.{length}
 use lib.Seq.{sets, length-sets}
 use borrow.Author.Tests.{le-leb, lt-leb}
@@ -14,8 +12,8 @@ use Rattle.texts.specs.Text.{piece}
 use Rattle.refusals.specs.declared.Refusal.{Refusal}
 use Rattle.refusals.specs.declared.Refusal.TheVariants.{TooManyItems}
 use Rattle.model.specs.Schema.{Item, Schema}
-use Rattle.builder.specs.Builder.{Builder, Outcome, on, refused, added, and_then, with_items, next_position}
-use Rattle.model.specs.Store.{entry_at, words_of, item_of, items_of, schema_of}
+use Rattle.builder.specs.Builder.{Builder, Outcome, on, refused, added, and_then, with_items}
+use Rattle.model.specs.Store.{words_of, item_of, items_of, schema_of}
 use Rattle.builder.specs.Layout.{current, model_in, builder_of, stack_of, Alike, Kept, Ready, Steady, After, Added, outcome, used_by}
 use Rattle.builder.specs.Taking.{Made}
 use Rattle.model.specs.declared.Entry.{Entry}
@@ -26,7 +24,7 @@ use Rattle.builder.specs.declared.state.Verdict.{Verdict}
 use Rattle.builder.specs.declared.state.Verdict.TheVariants.{Fine, Refused}
 use Rattle.model.proofs.Records.{items-put, length-items}
 use Rattle.builder.proofs.Stacking.{stack-put}
-use Rattle.builder.proofs.Alikes.{alike_self, alike-wider, alike-trans, builder-alike, kept-alike}
+use Rattle.builder.proofs.Alikes.{alike_self, alike-wider, builder-alike, kept-alike}
 
 never : {q : Refusal} → Refused q ≡ Fine → ⊥
 never e = let z : ◌≡◌ {A = ℕ} 0 1 = cc in omega arith

@@ -1,13 +1,12 @@
 -- Laws of texts that are alike as far as they are used: what is kept, and the builder, do not change.
 use mathlib.Core.Path.{◌≡◌, refl, sym, ap, ◌∙◌}
 use mathlib.Core.List.{List, [], ◌∷◌}
-use Prim.Native.Nat.{ℕ, ◌+◌, ◌-◌, ◌≤◌, ◌<◌}
+use Prim.Native.Nat.{ℕ, ◌+◌, ◌-◌, ◌≤◌}
 use native.Mathlib.Omega.{arith}
-use lib.ListN.{length, take, drop, length-take}
+use lib.ListN.{length, take, drop}
 use lib.Seq.{sets, drop-drop, take-take}
 use Rattle.texts.specs.Text.{piece}
 use Rattle.texts.proofs.Stores.{take-sets, drop-sets, piece-below}
-use Rattle.tags.specs.declared.tag.Found.{Found}
 use Rattle.tags.specs.Attributes.{attribute_at, raw_length, raw_lengths}
 use Rattle.saxlite.proofs.Moving.{values-fit}
 use Rattle.tags.proofs.Ranges.{different}

@@ -1,25 +1,23 @@
 -- Laws of closing an element, and of text.
 use mathlib.Core.Path.{◌≡◌, refl, sym, ap, subst, ◌∙◌}
 use mathlib.Core.Bool.{Bool, true, false}
-use mathlib.Core.List.{List, [], ◌∷◌, ◌++◌}
+use mathlib.Core.List.{List, [], ◌++◌}
 use mathlib.Core.Option.{Option, none, some}
-use Prim.Native.Nat.{ℕ, zero, suc, ◌+◌, ◌*◌, ◌-◌, ◌≤◌, ◌<◌}
+use Prim.Native.Nat.{ℕ, ◌+◌, ◌*◌, ◌-◌, ◌≤◌, ◌<◌}
 use native.Mathlib.Omega.{arith}
 use mir.Val.{Fits}
 use mir.Syntax.{w64}
-use lib.ListN.{length, take, drop, get_or, set, length-append}
-use lib.Seq.{sets, length-sets, take-add, take-take, drop-drop}
-use Rattle.texts.specs.Choice.{pick}
+use lib.ListN.{length, take, drop, get_or, set}
+use lib.Seq.{sets, length-sets, take-add, drop-drop}
 use Rattle.texts.specs.Text.{piece, same}
 use Rattle.texts.specs.Trim.{trimmed, TrimmedTo}
 use Rattle.texts.specs.declared.Range.{Range}
-use Rattle.texts.proofs.Stores.{piece-stored, piece-below, take-sets}
-use Rattle.refusals.specs.declared.Refusal.{Refusal}
+use Rattle.texts.proofs.Stores.{piece-stored, piece-below}
 use Rattle.refusals.specs.declared.Refusal.TheVariants.{WrongClose}
 use Rattle.entities.specs.Entities.{decoded}
-use Rattle.model.specs.Schema.{Item, Schema, no_item, item_at, under, last, positions_from, a_value}
+use Rattle.model.specs.Schema.{Schema, no_item, under, last, positions_from, a_value}
 use Rattle.model.specs.Search.{last_under}
-use Rattle.builder.specs.Builder.{Builder, Currents, Outcome, on, refused, with_stack, with_text, with_schema, with_items, with_second, given_to, value_of_enum, close_value, close_by, closed, collect, top, rest, now_composite, now_enum, now_message, now_group}
+use Rattle.builder.specs.Builder.{Builder, Currents, on, refused, with_stack, with_text, with_schema, with_second, given_to, close_value, close_by, closed, collect, top, rest}
 use Rattle.model.specs.Store.{entry_at, words_of, item_of, items_of, schema_of, found}
 use Rattle.builder.specs.Layout.{current, model_in, builder_of, stack_of, recurrent, valued, given_at, higher, Alike, Kept, Ready, After, used_by}
 use Rattle.elements.specs.Elements.{element_of, other_element_of}
@@ -32,10 +30,10 @@ use Rattle.model.specs.declared.Position.TheVariants.{At, Nothing}
 use Rattle.builder.specs.declared.state.State.{State}
 use Rattle.builder.specs.declared.state.Stepped.{Stepped}
 use Rattle.builder.specs.declared.state.Verdict.TheVariants.{Fine, Refused}
-use Rattle.model.proofs.Records.{items-set, get_or-items, length-items}
+use Rattle.model.proofs.Records.{items-set, get_or-items}
 use Rattle.model.proofs.Searching.{owned_so, last-below}
 use Rattle.builder.proofs.Alikes.{alike_self, alike-sets, alike-trans, alike-lower}
-use Rattle.builder.proofs.Stacking.{stack-put, pop_kept, pop-builder}
+use Rattle.builder.proofs.Stacking.{stack-put, pop-builder}
 use Rattle.builder.proofs.Adding.{after-as, after-refused}
 use Rattle.builder.proofs.Opening.{current-zero, current-some}
 use Rattle.builder.proofs.Takes.{decoded-most}

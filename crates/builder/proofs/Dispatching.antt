@@ -1,16 +1,15 @@
 -- Laws of messageSchema, of the dispatch by element, and of a whole open.
-use mathlib.Core.Path.{◌≡◌, refl, sym, ap, ◌∙◌}
-use mathlib.Core.Bool.{Bool, true, false}
-use mathlib.Core.List.{List, [], ◌∷◌}
-use mathlib.Core.Option.{Option, none, some}
+use mathlib.Core.Path.{◌≡◌, sym, ap, ◌∙◌}
+use mathlib.Core.Bool.{Bool, false}
+use mathlib.Core.List.{List, ◌∷◌}
+use mathlib.Core.Option.{some}
 use Prim.Native.Nat.{ℕ, ◌+◌, ◌-◌, ◌≤◌, ◌<◌}
 use native.Mathlib.Omega.{arith}
 use mir.Val.{Fits}
 use mir.Syntax.{w32}
 use lib.Dec.{leb}
-use lib.ListN.{length, get_or, get_or-eq_default}
+use lib.ListN.{length, get_or-eq_default}
 use borrow.Author.Tests.{le-leb, lt-leb}
-use Rattle.texts.specs.Choice.{pick}
 use Rattle.texts.specs.Text.{ascii, piece, same}
 use Rattle.texts.proofs.Stores.{piece-above}
 use Rattle.refusals.specs.declared.Refusal.TheVariants.{TooDeep}
@@ -18,26 +17,25 @@ use Rattle.tags.specs.declared.tag.Found.{Found}
 use Rattle.tags.specs.Attributes.{attribute_at, raw_length}
 use Rattle.saxlite.specs.Event.{value_in}
 use Rattle.model.specs.Schema.{Item, Schema, no_item, item_at}
-use Rattle.builder.specs.Builder.{Builder, Outcome, on, refused, Attributes, number_in, text_in, or_empty, with_schema, open_schema, open_type, open_ref, open_composite, open_enum, open_value, open_message, open_group, open_field, open_by, opened, top, with_stack, attributes_in}
+use Rattle.builder.specs.Builder.{Builder, on, refused, Attributes, number_in, text_in, or_empty, with_schema, open_schema, open_type, open_ref, open_composite, open_enum, open_value, open_message, open_group, open_field, open_by, opened, top, with_stack, attributes_in}
 use Rattle.model.specs.Store.{entry_at, item_of, items_of, schema_of}
-use Rattle.builder.specs.Layout.{model_in, builder_of, stack_of, in_composite, deeper, pushed, Alike, Kept, Ready, Tagged, After, used_by}
+use Rattle.builder.specs.Layout.{model_in, builder_of, stack_of, in_composite, deeper, pushed, Alike, Ready, Tagged, After, used_by}
 use Rattle.builder.specs.Taking.{TakenAt, ReadAt}
 use Rattle.elements.specs.Elements.{element_of}
 use Rattle.elements.specs.declared.Element.{Element}
 use Rattle.elements.specs.declared.Element.TheVariants as element
 use Rattle.model.specs.declared.Entry.{Entry}
-use Rattle.numbers.specs.Numbers.{number_of, parsed}
 use Rattle.numbers.specs.declared.Number.{Number}
 use Rattle.numbers.specs.declared.Number.TheVariants as number
 use Rattle.builder.specs.declared.state.Limits.{Limits}
 use Rattle.builder.specs.declared.state.State.{State}
 use Rattle.builder.specs.declared.state.Stepped.{Stepped}
-use Rattle.builder.specs.declared.state.Verdict.TheVariants.{Fine, Refused}
+use Rattle.builder.specs.declared.state.Verdict.TheVariants.{Fine}
 use Rattle.builder.specs.declared.take.Taken.{Taken}
 use Rattle.model.proofs.Records.{get_or-items, length-items}
-use Rattle.builder.proofs.Alikes.{alike_self, alike-wider, alike-trans, builder-alike, kept-alike}
+use Rattle.builder.proofs.Alikes.{alike_self, alike-wider, alike-trans, builder-alike}
 use Rattle.builder.proofs.Stacking.{length-stack, push-ready, push-builder, push-below}
-use Rattle.builder.proofs.Adding.{after-refused, after_same, after-as}
+use Rattle.builder.proofs.Adding.{after-as}
 use Rattle.builder.proofs.Opening.{one-least, number_is, number-builder, number-ready}
 
 -- ---- messageSchema

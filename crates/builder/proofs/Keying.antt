@@ -1,8 +1,7 @@
 -- Laws of what the reader noted, by element: the names that each looks up.
-use mathlib.Core.Path.{◌≡◌, refl, sym, ap, ◌∙◌}
+use mathlib.Core.Path.{◌≡◌, refl, ap, ◌∙◌}
 use mathlib.Core.List.{List}
 use Prim.Native.Nat.{ℕ}
-use Rattle.texts.specs.Choice.{pick}
 use Rattle.texts.specs.Text.{ascii, piece, same}
 use Rattle.texts.proofs.Choosing.{by-test, pick_yes, pick_no}
 use Rattle.texts.proofs.Comparing.{same-equal}

@@ -1,31 +1,25 @@
 -- Laws of opening an element: what each asks of the callees, and what it makes of the builder.
 use mathlib.Core.Path.{◌≡◌, refl, sym, ap, ◌∙◌}
-use mathlib.Core.Bool.{Bool, true, false, not}
-use mathlib.Core.List.{List, [], ◌∷◌, ◌++◌}
+use mathlib.Core.Bool.{Bool, true, false}
+use mathlib.Core.List.{List, [], ◌∷◌}
 use mathlib.Core.Option.{Option, none, some}
-use Prim.Native.Nat.{ℕ, zero, suc, ◌+◌, ◌*◌, ◌-◌, ◌≤◌, ◌<◌}
+use Prim.Native.Nat.{ℕ, zero, suc, ◌+◌, ◌-◌, ◌≤◌}
 use native.Mathlib.Omega.{arith}
-use lib.Dec.{T, leb, eqb}
+use lib.Dec.{T, eqb}
 use lib.ListN.{length}
-use borrow.Author.Tests.{le-leb, lt-leb, eq-eqb, ne_eqb}
-use Rattle.texts.specs.Choice.{pick, ◌and◌}
-use Rattle.texts.specs.Text.{ascii, piece, same}
-use Rattle.refusals.specs.declared.Refusal.{Refusal}
-use Rattle.refusals.specs.declared.Refusal.TheVariants.{BadNumber, MisplacedField, TooDeep}
+use borrow.Author.Tests.{eq-eqb, ne_eqb}
+use Rattle.texts.specs.Text.{ascii, same}
+use Rattle.refusals.specs.declared.Refusal.TheVariants.{BadNumber, MisplacedField}
 use Rattle.tags.specs.declared.tag.Found.{Found}
 use Rattle.tags.specs.declared.tag.Noted.{Noted}
-use Rattle.tags.specs.Attributes.{attribute_at, raw_length, raw_lengths}
+use Rattle.tags.specs.Attributes.{attribute_at, raw_length}
 use Rattle.saxlite.specs.Event.{value_in}
 use Rattle.tags.proofs.Ranges.{different}
-use Rattle.model.specs.Schema.{Item, Schema, item_at, a_type, a_member, a_ref, a_composite, an_enum, a_value, a_message, a_group, a_field}
-use Rattle.builder.specs.Builder.{Builder, Outcome, on, refused, added, and_then, plain_item, type_item, text_in, or_empty, open_schema, open_type, open_ref, open_composite, open_enum, open_value, open_message, open_group, open_field, open_by, opened, top, Attributes, number_in, now_composite, now_enum, now_message, now_group, with_text, next_position, attributes_in}
-use Rattle.model.specs.Store.{entry_at, item_of, items_of, schema_of}
-use Rattle.builder.specs.Layout.{current, model_in, builder_of, stack_of, deeper, pushed, recurrent, Alike, Kept, Ready, Tagged, After, Added, used_by}
-use Rattle.builder.specs.Taking.{TakenAt, ReadAt, type_item_of, type_length}
-use Rattle.elements.specs.Elements.{element_of}
-use Rattle.elements.specs.declared.Element.{Element}
-use Rattle.elements.specs.declared.Element.TheVariants as element
-use Rattle.model.specs.declared.Entry.{Entry}
+use Rattle.model.specs.Schema.{item_at, a_type, a_member, a_ref, a_composite, an_enum, a_value, a_message, a_group, a_field}
+use Rattle.builder.specs.Builder.{Builder, on, refused, added, and_then, plain_item, type_item, text_in, or_empty, open_schema, open_type, open_ref, open_composite, open_enum, open_value, open_message, open_group, open_field, Attributes, number_in, now_composite, now_enum, now_message, now_group, with_text, next_position, attributes_in}
+use Rattle.model.specs.Store.{schema_of}
+use Rattle.builder.specs.Layout.{current, model_in, builder_of, recurrent, Kept, Ready, Tagged, After, Added}
+use Rattle.builder.specs.Taking.{ReadAt, type_item_of, type_length}
 use Rattle.numbers.specs.Numbers.{number_of, parsed}
 use Rattle.numbers.specs.declared.Number.{Number}
 use Rattle.numbers.specs.declared.Number.TheVariants as number
@@ -35,12 +29,9 @@ use Rattle.builder.specs.declared.state.Current.{Current}
 use Rattle.builder.specs.declared.state.Limits.{Limits}
 use Rattle.builder.specs.declared.state.State.{State}
 use Rattle.builder.specs.declared.state.Stepped.{Stepped}
-use Rattle.builder.specs.declared.state.Verdict.TheVariants.{Fine, Refused}
-use Rattle.builder.specs.declared.take.Taken.{Taken}
-use Rattle.model.proofs.Records.{get_or-items, length-items}
-use Rattle.builder.proofs.Alikes.{alike_self, alike-wider, alike-trans, builder-alike, kept-alike, tag-room, tag_one, scratch-ready, scratch-builder}
-use Rattle.builder.proofs.Stacking.{length-stack, push-ready, push-builder}
-use Rattle.builder.proofs.Adding.{after-refused, after_same, after-as, after_then, current-added, added_more}
+use Rattle.builder.specs.declared.state.Verdict.TheVariants.{Fine}
+use Rattle.builder.proofs.Alikes.{tag-room, tag_one, scratch-ready, scratch-builder}
+use Rattle.builder.proofs.Adding.{after-as, after_then, current-added, added_more}
 
 -- ---- room for the callees
 

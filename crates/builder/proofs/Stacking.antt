@@ -1,7 +1,7 @@
 -- Laws of the stack of open names.
 use mathlib.Core.Path.{◌≡◌, refl, sym, ap, ◌∙◌}
 use mathlib.Core.Bool.{Bool, true}
-use mathlib.Core.List.{List, [], ◌∷◌}
+use mathlib.Core.List.{List, ◌∷◌}
 use Prim.Native.Nat.{ℕ, zero, suc, ◌+◌, ◌*◌, ◌-◌, ◌≤◌, ◌<◌}
 use native.Mathlib.Numerals.{add-one}
 use native.Mathlib.Omega.{arith}
@@ -11,8 +11,8 @@ use Rattle.texts.specs.Text.{ascii, piece, same}
 use Rattle.texts.proofs.Comparing.{equal-same}
 use Rattle.texts.proofs.Stores.{get_or-sets-above}
 use Rattle.builder.specs.Builder.{Builder, top, rest, with_stack}
-use Rattle.model.specs.Store.{entry_at, words_of, items_of, schema_of}
-use Rattle.builder.specs.Layout.{stack_at, stack_of, in_composite, deeper, pushed, higher, model_in, builder_of, Alike, Kept, Ready}
+use Rattle.model.specs.Store.{entry_at, words_of, schema_of}
+use Rattle.builder.specs.Layout.{stack_at, stack_of, in_composite, deeper, pushed, higher, model_in, builder_of, Kept, Ready}
 use Rattle.model.specs.declared.Entry.{Entry}
 use Rattle.builder.specs.declared.state.State.{State}
 use Rattle.model.proofs.Records.{entry_set, items-frame}

@@ -3,10 +3,10 @@ use mathlib.Core.Path.{◌≡◌, refl, sym, ap, ◌∙◌}
 use mathlib.Core.Bool.{true, not}
 use mathlib.Core.List.{List, [], ◌∷◌}
 use mathlib.Core.Option.{Option, none, some}
-use Prim.Native.Nat.{ℕ, suc, ◌+◌, ◌-◌, ◌≤◌, ◌<◌}
+use Prim.Native.Nat.{ℕ, suc, ◌+◌, ◌-◌, ◌≤◌}
 use native.Mathlib.Omega.{arith}
 use lib.Dec.{eqb, leb}
-use lib.ListN.{length, take, drop, length-take}
+use lib.ListN.{length, length-take}
 use lib.Seq.{sets, length-sets}
 use borrow.Author.Tests.{eqb-true, ne_eqb, leb-true}
 use Rattle.texts.specs.Choice.{◌and◌}
@@ -32,7 +32,7 @@ use Rattle.numbers.specs.Numbers.{is_digit, all_digits, bounded_from, digits_of,
 use Rattle.numbers.specs.declared.Number.{Number}
 use Rattle.numbers.specs.declared.Number.TheVariants as number
 use Rattle.builder.specs.declared.take.Taken.{Taken}
-use Rattle.builder.proofs.Alikes.{alike_self, alike-sets, alike-wider, alike-lower, alike-trans}
+use Rattle.builder.proofs.Alikes.{alike_self, alike-sets, alike-wider, alike-trans}
 
 length-piece-le : (s : List ℕ) (a n : ℕ) → length (piece s a n) ≤ n
 length-piece-le s a n = rw length-take (omega arith)

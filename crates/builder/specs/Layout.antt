@@ -1,13 +1,12 @@
 -- How the builder's state lies in the state by value, the records and the text, and what each step keeps of it. Internal.
-use Rattle.std.specs.Prelude.{◌≡◌, Bool, true, false, List, [], ◌∷◌, ℕ, zero, suc, ◌+◌, ◌*◌, ◌-◌, ◌≤◌, length, get_or, take, drop, set}
+use Rattle.std.specs.Prelude.{◌≡◌, Bool, List, [], ◌∷◌, ℕ, zero, suc, ◌+◌, ◌*◌, ◌-◌, ◌≤◌, length, get_or, take, drop, set}
 use Rattle.std.proofs.Math.Option.{Option, none, some}
 use Rattle.std.proofs.lemmas.List.Edits.{sets}
 use Rattle.texts.specs.Text.{ascii, piece, same}
 use Rattle.texts.specs.declared.Range.{Range}
-use Rattle.refusals.specs.declared.Refusal.{Refusal}
 use Rattle.saxlite.specs.declared.step.Step.TheVariants as step
 use Rattle.saxlite.specs.Step.{step_at}
-use Rattle.model.specs.Schema.{Item, Schema}
+use Rattle.model.specs.Schema.{Item}
 use Rattle.builder.specs.Builder.{Builder, Outcome, on, refused, added, top}
 use Rattle.builder.specs.declared.state.Limits.{Limits}
 use Rattle.model.specs.Store.{entry_at, words_of, item_of, schema_of}

@@ -1,5 +1,5 @@
 -- A table's rule, shown at all of its entries by one test that is computed over the whole table.
-use mathlib.Core.Path.{◌≡◌, refl, subst, sym, ◌∙◌, ap}
+use mathlib.Core.Path.{◌≡◌, refl, sym, ◌∙◌, ap}
 use mathlib.Core.Bool.{Bool, true, false}
 use mathlib.Core.List.{List, [], ◌∷◌}
 use Prim.Native.Nat.{ℕ, zero, suc, ◌+◌, ◌<◌}

@@ -1,13 +1,12 @@
 -- Laws of raising and lowering: t is what the class test says of b.
 use mathlib.Core.Path.{◌≡◌, sym, ◌∙◌}
 use mathlib.Core.Bool.{Bool, true, false}
-use Prim.Native.Nat.{ℕ, ◌+◌, ◌-◌, ◌≤◌, ◌<◌}
+use Prim.Native.Nat.{ℕ, ◌+◌, ◌-◌, ◌≤◌}
 use native.Mathlib.Omega.{arith}
 use lib.Dec.{leb}
 use mir.Val.{Fits}
 use mir.Syntax.{w8}
 use borrow.Author.Tests.{leb-true}
-use Rattle.texts.specs.Choice.{pick}
 use Rattle.texts.proofs.Choosing.{both_true, pick_yes, pick_no}
 use Rattle.classes.specs.Class.{is_upper, is_lower}
 use Rattle.conversions.specs.Letters.{lowered, raised}

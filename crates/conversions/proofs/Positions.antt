@@ -1,20 +1,19 @@
 -- Laws of what a position of a name gives: x, u, .. are what the calls return.
-use mathlib.Core.Path.{◌≡◌, refl, sym, ◌∙◌}
+use mathlib.Core.Path.{◌≡◌}
 use mathlib.Core.Bool.{Bool, true, false}
-use mathlib.Core.List.{List, [], ◌∷◌, ◌++◌}
-use Prim.Native.Nat.{ℕ, ◌+◌, ◌-◌, ◌≤◌, ◌<◌}
+use mathlib.Core.List.{List, [], ◌∷◌}
+use Prim.Native.Nat.{ℕ, ◌+◌, ◌-◌}
 use native.Mathlib.Omega.{arith}
 use lib.Dec.{eqb, ltb}
 use lib.ListN.{length, get_or}
-use borrow.Author.Tests.{lt-ltb, le-ltb, eq-eqb, ne_eqb}
-use Rattle.texts.specs.Choice.{pick, ◌or◌, ◌and◌}
-use Rattle.texts.specs.Text.{ascii}
+use borrow.Author.Tests.{lt-ltb, eq-eqb, ne_eqb}
+use Rattle.texts.specs.Choice.{pick}
 use Rattle.classes.specs.Class.{is_upper, is_lower}
 use Rattle.printing.specs.Printed.{Printed}
 use Rattle.printing.specs.Repeated.{up_to}
 use Rattle.printing.proofs.Sequencing.{blank, ◌▸◌}
 use Rattle.conversions.specs.Letters.{lowered, raised}
-use Rattle.conversions.specs.Conversions.{breaks_snake, snake_at, breaks_screaming, screaming_at, underscore, follows, camel_at, pascal_at, camel_to_snake, camel_to_screaming_snake, snake_to_camel, screaming_snake_to_pascal}
+use Rattle.conversions.specs.Conversions.{breaks_snake, snake_at, breaks_screaming, screaming_at, follows, camel_at, pascal_at, camel_to_snake, camel_to_screaming_snake, snake_to_camel, screaming_snake_to_pascal}
 
 -- ---- the first position
 

@@ -14,13 +14,13 @@ use Rattle.texts.proofs.Choosing.{both_true}
 use Rattle.classes.specs.Class.{is_upper, is_lower}
 use Rattle.printing.specs.Printed.{last, next, past, Printed}
 use Rattle.printing.specs.Repeated.{up_to}
-use Rattle.printing.proofs.Sequencing.{blank, length-printed, printed-yes, ◌▸◌}
+use Rattle.printing.proofs.Sequencing.{blank, length-printed, printed-yes}
 use Rattle.printing.proofs.Passing.{stored}
 use Rattle.printing.proofs.Repeating.{Repeating, repeating-start, repeating-on, repeating-end, repeating-length}
 use Rattle.conversions.specs.Letters.{lowered, raised}
 use Rattle.conversions.specs.Room.{Ample, Roomy}
 use Rattle.conversions.specs.Conversions.{breaks_snake, snake_at, breaks_screaming, screaming_at, camel_to_snake, camel_to_screaming_snake}
-use Rattle.conversions.proofs.Letters.{lower-upper, lower-other, raise-lower, raise-other, lower-least}
+use Rattle.conversions.proofs.Letters.{lower-upper, lower-other, raise-lower, raise-other}
 use Rattle.conversions.proofs.Positions.{snake-printed, screaming-printed, snake-all, screaming-all}
 use Rattle.conversions.proofs.Laws.{laws}
 

@@ -1,12 +1,12 @@
 -- Runs of bytes that are shown as they stand: what is to be printed from the place a on is the run, then what is to be printed behind it.
 use mathlib.Core.Path.{◌≡◌, refl, sym, ap, ◌∙◌}
-use mathlib.Core.Bool.{Bool, true, false}
+use mathlib.Core.Bool.{Bool, true}
 use mathlib.Core.List.{List, [], ◌∷◌, ◌++◌, append_assoc}
 use Prim.Native.Nat.{ℕ, suc, ◌+◌, ◌-◌, ◌≤◌, ◌<◌}
 use native.Mathlib.Numerals.{add-one}
 use native.Mathlib.Omega.{arith}
 use lib.Dec.{eqb, ltb}
-use lib.ListN.{length, take, drop, get_or, set, length-drop, length-set}
+use lib.ListN.{length, drop, get_or, set, length-drop, length-set}
 use borrow.Author.Tests.{eqb-true, ltb-true, ltb-false}
 use Rattle.texts.proofs.Choosing.{by-test}
 use lib.Seq.{take-suc, drop-cons, get_or-drop, get_or-set_same, get_or-set_other}

@@ -15,7 +15,7 @@ use Rattle.model.specs.declared.Model.{Model}
 use Rattle.ordered.specs.Ordered.{declares, numbered}
 use Rattle.ordered.proofs.Reading.{kind-is, owner-is, name-is, second_is}
 use Rattle.index.specs.Declarations.{declared_by, declaration_of, number_of}
-use Rattle.index.specs.Index.{code, fronted, mask_of, place, HeadOf, Linked, Chained, Resolved, Blank, Naming, Settling, Indexed}
+use Rattle.index.specs.Index.{fronted, mask_of, place, HeadOf, Chained, Blank, Naming, Settling, Indexed}
 use Rattle.index.proofs.Fronting.{fronted-length, fronted-other}
 use Rattle.index.proofs.Linking.{linked-start, linked_on, linked-off, linked-frame}
 use Rattle.index.proofs.Chaining.{chained-start, chained-on, chained-off, chained-aside, chained-frame}

@@ -10,7 +10,6 @@ use lib.Dec.{T, eqb}
 use lib.ListN.{length, get_or, set}
 use lib.Seq.{get_or-set_other}
 use borrow.Author.Tests.{eqb-true, eq-eqb}
-use Rattle.texts.specs.Choice.{◌and◌}
 use Rattle.texts.proofs.Choosing.{by-test, both_true, is_true}
 use Rattle.model.specs.Schema.{Item, Schema, item_at, positions_from, last}
 use Rattle.model.proofs.Records.{by_less}

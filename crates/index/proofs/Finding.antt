@@ -17,7 +17,7 @@ use Rattle.index.specs.Declarations.{declaration_of, number_of}
 use Rattle.index.specs.declared.Declaration.{Declaration}
 use Rattle.index.specs.declared.Declaration.TheVariants as declaration
 use Rattle.index.specs.Index.{code, Indexed}
-use Rattle.ordered.proofs.Reading.{kind-is, owner-is, second_is}
+use Rattle.ordered.proofs.Reading.{kind-is, second_is}
 
 -- ---- positions
 

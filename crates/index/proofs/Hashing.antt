@@ -1,18 +1,15 @@
 -- Laws of the hash: each takes what the code knows there.
-use mathlib.Core.Path.{◌≡◌, refl, sym, ap, ◌∙◌}
-use mathlib.Core.Bool.{Bool, true, false}
+use mathlib.Core.Path.{◌≡◌, refl, ap}
 use mathlib.Core.List.{List}
 use Prim.Native.Nat.{ℕ, zero, suc, ◌+◌, ◌-◌, ◌*◌, ◌/◌, ◌%◌, ◌≤◌, ◌<◌}
 use native.Mathlib.Omega.{arith}
 use lib.Bits.{bit_and, bit_xor, and_le_l, and_le_r}
-use lib.Dec.{eqb, ltb}
 use lib.ListN.{length, get_or}
 use borrow.Author.Tests.{eq-eqb, ne_eqb, lt-ltb, le-ltb}
-use Rattle.texts.specs.Choice.{pick}
 use Rattle.texts.specs.Text.{piece}
 use Rattle.model.specs.Schema.{Schema}
 use Rattle.model.proofs.Records.{by_less}
-use Rattle.words.specs.Word.{word_of, IsWord, IsHalf}
+use Rattle.words.specs.Word.{IsWord, IsHalf}
 use Rattle.index.specs.Index.{short_word, mix, words_from, long_word, narrowed, hash, HashOf, mask_of, place, HeadOf}
 
 -- ---- less than 8 bytes

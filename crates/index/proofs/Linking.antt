@@ -1,8 +1,7 @@
 -- The links of the items from a place on, and one more item before them.
-use mathlib.Core.Path.{◌≡◌, refl, sym, ap, ◌∙◌}
-use mathlib.Core.Bool.{Bool, true, false}
-use mathlib.Core.Option.{Option, none, some}
-use mathlib.Core.List.{List, [], ◌∷◌}
+use mathlib.Core.Path.{◌≡◌, sym, ap, ◌∙◌}
+use mathlib.Core.Option.{none, some}
+use mathlib.Core.List.{List}
 use Prim.Native.Nat.{ℕ, suc, ◌+◌, ◌*◌, ◌≤◌, ◌<◌}
 use native.Mathlib.Numerals.{add-one}
 use native.Mathlib.Omega.{arith}
@@ -10,9 +9,8 @@ use lib.Dec.{eqb}
 use lib.ListN.{length, get_or, drop, drop_of_length-le}
 use lib.Seq.{drop-cons}
 use borrow.Author.Tests.{eqb-true, eq-eqb}
-use Rattle.texts.specs.Choice.{pick, ◌and◌}
 use Rattle.texts.proofs.Choosing.{by-test, both_true}
-use Rattle.model.specs.Schema.{Item, Schema, item_at, no_item, positions_from, first, next_under}
+use Rattle.model.specs.Schema.{Schema, item_at, no_item, positions_from, first, next_under}
 use Rattle.model.proofs.Records.{by_less}
 use Rattle.model.proofs.Searching.{owned_so, first-yes, first-no}
 use Rattle.ordered.proofs.Numbering.{by_equal}

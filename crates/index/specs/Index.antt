@@ -2,7 +2,7 @@
 -- owner, for each short hash of a name the declarations that have it, the last first, and for each field what its type
 -- name is declared as. Internal: what is promised to the crates above is the model's own searches (`next_under`,
 -- `last_named`).
-use Rattle.std.specs.Prelude.{◌≡◌, Bool, true, false, List, [], ◌∷◌, ℕ, zero, suc, ◌+◌, ◌-◌, ◌*◌, ◌/◌, ◌%◌, ◌≤◌, ◌<◌, T, eqb, ltb, length, get_or, take, set}
+use Rattle.std.specs.Prelude.{◌≡◌, Bool, true, false, List, ℕ, zero, suc, ◌+◌, ◌-◌, ◌*◌, ◌/◌, ◌%◌, ◌≤◌, ◌<◌, T, eqb, ltb, length, get_or, take, set}
 use Rattle.std.proofs.Math.Option.{Option, none, some}
 use Rattle.std.specs.Int.Bits.{bit_and, bit_xor}
 use Rattle.texts.specs.Choice.{pick, ◌and◌}

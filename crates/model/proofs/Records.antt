@@ -1,18 +1,16 @@
 -- Laws of the records: what a store of an entry changes, and what it leaves.
 use mathlib.Core.Path.{◌≡◌, refl, sym, ap, ◌∙◌}
-use mathlib.Core.Bool.{Bool, true, false}
 use mathlib.Core.List.{List, [], ◌∷◌, ◌++◌}
-use Prim.Native.Nat.{ℕ, zero, suc, ◌+◌, ◌*◌, ◌-◌, ◌≤◌, ◌<◌}
+use Prim.Native.Nat.{ℕ, zero, suc, ◌+◌, ◌*◌, ◌≤◌, ◌<◌}
 use native.Mathlib.Numerals.{add-one}
 use native.Mathlib.Omega.{arith}
 use lib.Dec.{ltb}
-use lib.ListN.{length, take, drop, get_or, set, length-set, length-append, get_or-append}
-use lib.Seq.{sets, get_or-set_same, get_or-set_other, set-append_left, set_at, get_or_at}
+use lib.ListN.{length, get_or, set, length-append, get_or-append}
+use lib.Seq.{sets, get_or-set_other, set-append_left, set_at, get_or_at}
 use borrow.Author.Tests.{ltb-true, ltb-false}
-use Rattle.texts.specs.Text.{piece}
 use Rattle.texts.proofs.Choosing.{by-test}
 use Rattle.texts.proofs.Stores.{get_or-sets-below, get_or-sets-above, get_or-sets-in}
-use Rattle.model.specs.Schema.{Item, no_item}
+use Rattle.model.specs.Schema.{no_item}
 use Rattle.model.specs.Store.{entry_at, words_of, item_of, items_of}
 use Rattle.model.specs.declared.Entry.{Entry}
 

@@ -1,10 +1,10 @@
 -- Laws of searches among the items, over the test p of an item: forwards for the first, backwards for the last.
 use mathlib.Core.Path.{◌≡◌, refl, sym, ap, ◌∙◌}
 use mathlib.Core.Bool.{Bool, true, false}
-use mathlib.Core.Option.{Option, none, some}
+use mathlib.Core.Option.{none, some}
 use mathlib.Core.List.{List, [], ◌∷◌, ◌++◌}
 use Prim.Native.Nat.{ℕ, zero, suc, ◌+◌, ◌-◌, ◌≤◌, ◌<◌}
-use native.Mathlib.Nat.{add-zero, add-suc, suc-add}
+use native.Mathlib.Nat.{add-zero}
 use native.Mathlib.Numerals.{add-one}
 use native.Mathlib.Omega.{arith}
 use lib.Dec.{eqb}
@@ -19,7 +19,6 @@ use Rattle.model.specs.Search.{last_under}
 use Rattle.model.specs.Store.{entry_at, item_of, items_of, schema_of, found}
 use Rattle.model.specs.declared.Entry.{Entry}
 use Rattle.model.specs.declared.Model.{Model}
-use Rattle.model.specs.declared.Position.{Position}
 use Rattle.model.specs.declared.Position.TheVariants.{At, Nothing}
 use Rattle.model.proofs.Records.{length-items, get_or-items}
 

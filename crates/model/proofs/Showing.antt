@@ -1,11 +1,10 @@
 -- Laws of the accessors.
-use mathlib.Core.Path.{◌≡◌, refl, sym, ap, ◌∙◌}
-use mathlib.Core.List.{List, [], ◌∷◌}
+use mathlib.Core.Path.{◌≡◌, sym, ap, ◌∙◌}
+use mathlib.Core.List.{List}
 use Prim.Native.Nat.{ℕ, ◌≤◌, ◌<◌}
-use native.Mathlib.Omega.{arith}
-use lib.ListN.{length, get_or, get_or-eq_default}
+use lib.ListN.{length, get_or-eq_default}
 use Rattle.texts.specs.Text.{piece}
-use Rattle.model.specs.Schema.{Item, no_item, item_at}
+use Rattle.model.specs.Schema.{no_item, item_at}
 use Rattle.model.specs.Store.{entry_at, item_of, items_of, schema_of}
 use Rattle.model.specs.declared.Entry.{Entry}
 use Rattle.model.specs.declared.Model.{Model}

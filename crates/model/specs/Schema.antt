@@ -1,5 +1,5 @@
 -- The model that a document gives: package, id and version, and the list of items in the order in which they were added.
-use Rattle.std.specs.Prelude.{Bool, true, false, List, [], ◌∷◌, ℕ, ◌+◌, eqb, get_or, drop}
+use Rattle.std.specs.Prelude.{Bool, false, List, [], ◌∷◌, ℕ, ◌+◌, eqb, get_or, drop}
 use Rattle.std.proofs.Math.Option.{Option, none, some}
 use Rattle.texts.specs.Choice.{pick, ◌and◌}
 use Rattle.texts.specs.Text.{same}

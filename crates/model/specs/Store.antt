@@ -1,10 +1,9 @@
 -- How a schema lies in the model, the records and the text. Internal: but for the builder, no crate above needs more than `schema_of` and `item_of`.
-use Rattle.std.specs.Prelude.{Bool, List, [], ◌∷◌, ◌++◌, ℕ, zero, suc, ◌+◌, ◌*◌, eqb, get_or}
+use Rattle.std.specs.Prelude.{List, [], ◌∷◌, ◌++◌, ℕ, zero, suc, ◌+◌, ◌*◌, eqb, get_or}
 use Rattle.std.proofs.Math.Option.{Option, none, some}
 use Rattle.texts.specs.Text.{piece}
 use Rattle.model.specs.Schema.{Item, Schema}
 use Rattle.model.specs.declared.Entry.{Entry}
-use Rattle.model.specs.declared.Head.{Head}
 use Rattle.model.specs.declared.Model.{Model}
 use Rattle.model.specs.declared.Position.{Position}
 use Rattle.model.specs.declared.Position.TheVariants.{At, Nothing}

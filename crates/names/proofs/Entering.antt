@@ -1,19 +1,15 @@
 -- Laws of the entries: the tests of a name, and the answer after them.
-use mathlib.Core.Path.{◌≡◌, refl, sym, ap, ◌∙◌}
-use mathlib.Core.List.{List, [], ◌∷◌}
+use mathlib.Core.Path.{◌≡◌, refl}
+use mathlib.Core.List.{List}
 use Prim.Native.Nat.{ℕ, ◌≤◌, ◌<◌, ◌^◌}
-use native.Mathlib.Omega.{arith}
-use lib.Dec.{ltb}
 use lib.ListN.{length}
 use borrow.Author.Tests.{lt-ltb, le-ltb}
-use Rattle.texts.specs.Choice.{pick}
 use Rattle.texts.specs.Scan.{scan, is_ascii}
-use Rattle.refusals.specs.declared.Answer.{Answer}
 use Rattle.refusals.specs.declared.Answer.TheVariants as answer
 use Rattle.refusals.specs.declared.Refusal.{Refusal}
 use Rattle.refusals.specs.declared.Refusal.TheVariants.{TooLong, NotAscii, NoRoom}
 use Rattle.printing.specs.Printed.{Printed}
-use Rattle.printing.specs.Output.{finished, output_after}
+use Rattle.printing.specs.Output.{output_after}
 use Rattle.printing.proofs.Finishing.{no_room, wrote, wrote-output}
 use Rattle.names.specs.declared.Tested.{Tested}
 use Rattle.names.specs.declared.Tested.TheVariants.{Fine, Refused}

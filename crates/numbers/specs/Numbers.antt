@@ -1,5 +1,5 @@
 -- Numbers: what a numeric attribute's text says.
-use Rattle.std.specs.Prelude.{Bool, true, false, List, [], ◌∷◌, ℕ, ◌+◌, ◌-◌, ◌*◌, eqb, leb}
+use Rattle.std.specs.Prelude.{Bool, true, List, [], ◌∷◌, ℕ, ◌+◌, ◌-◌, ◌*◌, eqb, leb}
 use Rattle.std.proofs.Math.Option.{Option, none, some}
 use Rattle.texts.specs.Choice.{pick, ◌and◌}
 use Rattle.numbers.specs.declared.Number.{Number}

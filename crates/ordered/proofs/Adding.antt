@@ -8,13 +8,11 @@ use lib.Dec.{eqb}
 use lib.ListN.{length, get_or, set, length-set}
 use lib.Seq.{get_or-set_same, get_or-set_other}
 use borrow.Author.Tests.{eq-eqb, ne_eqb}
-use Rattle.texts.specs.Text.{same}
 use Rattle.model.specs.Schema.{Schema, item_at, last_named, a_type, a_composite, an_enum}
 use Rattle.model.specs.Store.{item_of, schema_of}
 use Rattle.model.specs.declared.Entry.{Entry}
 use Rattle.model.specs.declared.Model.{Model}
 use Rattle.model.proofs.Records.{by_less}
-use Rattle.ordered.specs.declared.Order.{Order}
 use Rattle.ordered.specs.declared.Order.TheVariants.{Less, Same, Greater}
 use Rattle.ordered.specs.declared.Place.{Place}
 use Rattle.ordered.specs.declared.Place.TheVariants.{At, Before}

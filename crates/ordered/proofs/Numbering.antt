@@ -9,7 +9,7 @@ use lib.Dec.{eqb}
 use lib.ListN.{length}
 use lib.Seq.{take-length}
 use borrow.Author.Tests.{eqb-true, eqb-false, ne_eqb}
-use Rattle.texts.specs.Choice.{pick, ◌and◌, ◌or◌}
+use Rattle.texts.specs.Choice.{pick}
 use Rattle.texts.specs.Text.{same}
 use Rattle.texts.proofs.Choosing.{by-test}
 use Rattle.texts.proofs.Comparing.{same-equal, equal-same}

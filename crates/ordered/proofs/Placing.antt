@@ -11,7 +11,6 @@ use Rattle.model.specs.declared.Entry.{Entry}
 use Rattle.model.specs.declared.Model.{Model}
 use Rattle.ordered.specs.declared.Order.{Order}
 use Rattle.ordered.specs.declared.Order.TheVariants.{Less, Same, Greater}
-use Rattle.ordered.specs.declared.Place.{Place}
 use Rattle.ordered.specs.declared.Place.TheVariants.{At, Before}
 use Rattle.ordered.specs.Ordered.{order, name_at, Rising, Placed}
 use Rattle.ordered.proofs.Numbering.{by_equal}

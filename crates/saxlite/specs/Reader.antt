@@ -1,9 +1,8 @@
 -- The reader: one event at a time, from a cursor on. A self-closed tag is an open, then a close.
-use Rattle.std.specs.Prelude.{Bool, true, false, not, List, ℕ, leb, length}
+use Rattle.std.specs.Prelude.{Bool, false, not, List, ℕ, leb, length}
 use Rattle.texts.specs.Choice.{pick, ◌and◌}
 use Rattle.saxlite.specs.declared.step.Step.{Step}
 use Rattle.saxlite.specs.declared.step.Step.TheVariants as step
-use Rattle.saxlite.specs.declared.reader.Event.{Event}
 use Rattle.saxlite.specs.declared.reader.Event.TheVariants.{Text, Open, Close, Skipped, End, Refused}
 use Rattle.saxlite.specs.declared.reader.Cursor.{Cursor}
 use Rattle.saxlite.specs.declared.reader.Read.{Read}

@@ -14,7 +14,7 @@ use Rattle.tags.specs.declared.tag.TagPart.TheVariants.{Attribute as Part, TagEn
 use Rattle.tags.specs.declared.tag.Found.{Found}
 use Rattle.tags.specs.declared.tag.Found.TheVariants.{Value, Absent}
 use Rattle.tags.specs.declared.tag.Notes.{Notes}
-use Rattle.tags.specs.Names.{prefix_length, local_name, is_xmlns}
+use Rattle.tags.specs.Names.{prefix_length, is_xmlns}
 use Rattle.tags.specs.Attributes.{tag_part_at, Tag, with_part, tag_at, later, last_of, attribute_at}
 use Rattle.tags.specs.Noting.{found_at, noted_of, value_if_named}
 use Rattle.tags.proofs.Naming.{local-of}

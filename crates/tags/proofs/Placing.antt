@@ -4,7 +4,6 @@ use mathlib.Core.List.{List}
 use Prim.Native.Nat.{ℕ, zero, suc, ◌+◌}
 use lib.Dec.{eqb, ltb, leb}
 use lib.ListN.{length}
-use Rattle.texts.specs.Choice.{◌and◌}
 use Rattle.texts.specs.Scan.{scan, until, is}
 use Rattle.texts.proofs.Choosing.{pick-both}
 use Rattle.classes.specs.Class.{is_space, is_attribute_name_end}

@@ -5,15 +5,14 @@ use mathlib.Core.List.{List, [], ◌∷◌, ◌++◌}
 use Prim.Native.Nat.{ℕ, suc, ◌+◌, ◌-◌, ◌≤◌, ◌<◌, zero-le, suc-le-suc}
 use native.Mathlib.Nat.{zero-add}
 use native.Mathlib.Omega.{arith}
-use lib.Dec.{eqb, leb}
+use lib.Dec.{eqb}
 use lib.ListN.{length, take, drop, get_or, length-take, length-drop}
-use lib.Seq.{take-suc, take_all, take-nil, take-take, drop-drop, take-length}
+use lib.Seq.{take-suc, take_all, take-take, drop-drop, take-length}
 use borrow.Author.Tests.{le-leb, lt-leb, ne_eqb}
-use Rattle.texts.specs.Choice.{pick, ◌or◌, ◌and◌}
+use Rattle.texts.specs.Choice.{pick, ◌and◌}
 use Rattle.texts.specs.Text.{piece, same}
 use Rattle.texts.specs.Scan.{count_while, scan}
 use Rattle.texts.specs.Trim.{is_blank, trimmed_front, trimmed_back, trimmed, TrimmedTo, KeptTo}
-use Rattle.texts.specs.declared.Range.{Range}
 use Rattle.texts.proofs.Choosing.{by-test}
 use Rattle.texts.proofs.Scanning.{count_yes, count_no}
 use Rattle.texts.proofs.Stores.{piece-below}

@@ -18,7 +18,7 @@ use Rattle.refusals.specs.declared.Refusal.{Refusal}
 use Rattle.refusals.specs.declared.Refusal.TheVariants.{NoRoom}
 use Rattle.printing.specs.Output.{finished, output_after}
 use Rattle.model.specs.Schema.{Schema}
-use Rattle.xmlschema.specs.Whole.{accepted, answer_of}
+use Rattle.xmlschema.specs.Whole.{answer_of}
 use Rattle.xmltoproto.specs.Source.{source}
 use Rattle.xmltoproto.specs.Arrays.{array_refusal}
 use Rattle.xmltoproto.specs.Generate.{answer_after, generated}

@@ -1,7 +1,6 @@
 -- Demand 3, about the bytes that two whole calls write: two plain, accepted, printed schemas have the same source exactly when
 -- their wire sheets are equal.
-use Rattle.std.specs.Prelude.{◌≡◌, Bool, true, List, ℕ}
-use Rattle.refusals.specs.declared.Answer.{Answer}
+use Rattle.std.specs.Prelude.{◌≡◌, Bool, true, ℕ}
 use Rattle.refusals.specs.declared.Answer.TheVariants.{Accepted}
 use Rattle.model.specs.Schema.{Schema}
 use Rattle.xmlschema.specs.Whole.{Whole, accepted}

@@ -1,8 +1,8 @@
 -- Laws of the comparison with a text by its numbers.
 use mathlib.Core.Path.{◌≡◌, sym, ap, ◌∙◌}
-use mathlib.Core.Bool.{Bool, true, false}
+use mathlib.Core.Bool.{Bool, false}
 use mathlib.Core.List.{List}
-use Prim.Native.Nat.{ℕ, ◌+◌, ◌<◌, ◌^◌, ◌%◌}
+use Prim.Native.Nat.{ℕ, ◌+◌, ◌<◌, ◌%◌}
 use native.Mathlib.Nat.{zero-lt-suc, one-le-pow}
 use lib.Dec.{eqb}
 use lib.ListN.{length, take, drop, take-append-drop}
@@ -11,7 +11,7 @@ use borrow.Author.Tests.{eq-eqb, ne_eqb}
 use Rattle.texts.specs.Choice.{◌and◌}
 use Rattle.texts.specs.Text.{piece, starts_with}
 use Rattle.texts.proofs.Comparing.{starts-append}
-use Rattle.words.specs.Word.{word_of, IsWord}
+use Rattle.words.specs.Word.{IsWord}
 use Rattle.words.specs.Standing.{ShortText, LongText, StandsShort, StandsLong}
 use Rattle.words.proofs.Digits.{word-starts, word-starts-whole}
 

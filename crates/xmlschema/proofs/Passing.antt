@@ -11,7 +11,7 @@ use borrow.Author.Tests.{lt-leb, eq-eqb, ne_eqb, eqb-true}
 use Rattle.texts.specs.Text.{piece, same}
 use Rattle.saxlite.specs.declared.step.Step.{Step}
 use Rattle.saxlite.specs.declared.step.Step.TheVariants as move
-use Rattle.saxlite.specs.declared.reader.Event.TheVariants.{Text, Close, Skipped}
+use Rattle.saxlite.specs.declared.reader.Event.TheVariants.{Close}
 use Rattle.saxlite.specs.declared.reader.Cursor.{Cursor}
 use Rattle.saxlite.specs.declared.reader.Read.{Read}
 use Rattle.saxlite.specs.Step.{step_at}

@@ -1,5 +1,5 @@
 -- Laws of one step: by the event.
-use mathlib.Core.Path.{◌≡◌, refl, sym, ap}
+use mathlib.Core.Path.{◌≡◌, refl}
 use mathlib.Core.List.{List}
 use Prim.Native.Nat.{ℕ, ◌-◌}
 use Rattle.texts.specs.Text.{piece}
@@ -9,8 +9,8 @@ use Rattle.saxlite.specs.declared.reader.Event.TheVariants.{Text, Open, Close, S
 use Rattle.entities.specs.Entities.{decoded}
 use Rattle.builder.specs.Builder.{Builder, on, opened, closed, collect, attributes_in}
 use Rattle.xmlschema.specs.Whole.{step}
-use Rattle.builder.specs.Layout.{builder_of, Kept, Ready, After}
-use Rattle.xmlschema.specs.Driving.{takes, Inside}
+use Rattle.builder.specs.Layout.{builder_of, Kept, After}
+use Rattle.xmlschema.specs.Driving.{takes}
 use Rattle.builder.specs.declared.state.Limits.{Limits}
 use Rattle.builder.specs.declared.state.State.{State}
 use Rattle.builder.specs.declared.state.Stepped.{Stepped}

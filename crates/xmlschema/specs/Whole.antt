@@ -1,5 +1,5 @@
 -- The reading of a whole document, and 01's order of refusals up to 31.
-use Rattle.std.specs.Prelude.{Bool, true, false, List, [], ℕ, zero, suc, ◌+◌, ◌*◌, ltb, length}
+use Rattle.std.specs.Prelude.{true, false, List, [], ℕ, zero, suc, ◌+◌, ◌*◌, ltb, length}
 use Rattle.std.proofs.Math.Option.{none}
 use Rattle.texts.specs.Choice.{pick, ◌or◌}
 use Rattle.texts.specs.Text.{piece}
@@ -12,7 +12,7 @@ use Rattle.saxlite.specs.declared.reader.Cursor.{Cursor}
 use Rattle.saxlite.specs.Reader.{read_at, cursor_at, at_end}
 use Rattle.entities.specs.Entities.{decoded}
 use Rattle.model.specs.Schema.{Schema}
-use Rattle.builder.specs.Builder.{Builder, Currents, Outcome, on, refused, attributes_in, opened, closed, collect}
+use Rattle.builder.specs.Builder.{Builder, Outcome, on, refused, attributes_in, opened, closed, collect}
 use Rattle.builder.specs.declared.state.Limits.{Limits}
 
 -- what an event, read at a place, makes of the builder

@@ -1,4 +1,3 @@
-use Prim.Native.Nat.{◌-◌}
 use Rattle.charsets.proofs.Cleaning.{cleaning-on}
 use Rattle.charsets.proofs.Laws.{laws}
 use Rattle.charsets.proofs.clean.Goals as goal

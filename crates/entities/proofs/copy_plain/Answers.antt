@@ -1,4 +1,3 @@
-use Prim.Native.Nat.{◌-◌}
 use Rattle.entities.proofs.Copying.{plain}
 use Rattle.entities.proofs.Laws.{laws}
 use Rattle.entities.proofs.copy_plain.Goals as goal

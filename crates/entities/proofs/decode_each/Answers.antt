@@ -1,4 +1,3 @@
-use Prim.Native.Nat.{◌-◌}
 use Rattle.entities.proofs.Laws.{laws}
 use Rattle.entities.proofs.decode_each.Goals as goal
 

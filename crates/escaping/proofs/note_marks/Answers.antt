@@ -1,4 +1,3 @@
-use Prim.Native.Nat.{◌-◌}
 use Rattle.escaping.proofs.Laws.{laws}
 use Rattle.escaping.proofs.note_marks.Goals as goal
 

@@ -1,4 +1,3 @@
-use Prim.Native.Nat.{◌-◌}
 use Rattle.escaping.proofs.Laws.{laws}
 use Rattle.escaping.proofs.put_runs.Goals as goal
 

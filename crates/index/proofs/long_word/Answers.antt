@@ -1,4 +1,3 @@
-use Prim.Native.Nat.{◌-◌}
 use Rattle.index.proofs.Laws.{laws}
 use Rattle.index.proofs.long_word.Goals as goal
 

@@ -1,4 +1,3 @@
-use Prim.Native.Nat.{◌-◌}
 use Rattle.index.proofs.Laws.{laws}
 use Rattle.index.proofs.put_names.Goals as goal
 

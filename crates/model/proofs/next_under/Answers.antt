@@ -1,4 +1,3 @@
-use Prim.Native.Nat.{◌-◌}
 use Rattle.model.proofs.Laws.{laws}
 use Rattle.model.proofs.next_under.Goals as goal
 

@@ -1,4 +1,3 @@
-use Prim.Native.Nat.{◌-◌}
 use Rattle.numbers.proofs.Laws.{laws}
 use Rattle.numbers.proofs.digits.Goals as goal
 

@@ -1,5 +1,4 @@
 use native.Mathlib.Omega.{arith}
-use Prim.Native.Nat.{◌-◌}
 use Rattle.ordered.proofs.Comparing.{comparing-words}
 use Rattle.ordered.proofs.Laws.{laws}
 use Rattle.ordered.proofs.compared.Goals as goal

@@ -1,5 +1,4 @@
 use native.Mathlib.Omega.{arith}
-use Prim.Native.Nat.{◌-◌}
 use Rattle.ordered.proofs.Placing.{halving-less, halving-same, halving-greater}
 use Rattle.ordered.proofs.Laws.{laws}
 use Rattle.ordered.proofs.place_of.Goals as goal

@@ -1,4 +1,3 @@
-use Prim.Native.Nat.{◌-◌}
 use Rattle.ordered.proofs.Laws.{laws}
 use Rattle.ordered.proofs.put_ordered.Goals as goal
 

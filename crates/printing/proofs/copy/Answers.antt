@@ -1,4 +1,3 @@
-use Prim.Native.Nat.{◌-◌}
 use native.Mathlib.Omega.{arith}
 use Rattle.printing.proofs.Passing.{copying-start}
 use Rattle.printing.proofs.Laws.{laws}

@@ -1,4 +1,3 @@
-use Prim.Native.Nat.{◌-◌}
 use native.Mathlib.Omega.{arith}
 use Rattle.printing.proofs.Again.{copied, copied-start}
 use Rattle.printing.proofs.put_again.Goals as goal

@@ -1,4 +1,3 @@
-use Prim.Native.Nat.{◌-◌}
 use native.Mathlib.Omega.{arith}
 use Rattle.texts.proofs.Scanning.{stretch-on}
 use Rattle.texts.proofs.Laws.{laws}

@@ -1,4 +1,3 @@
-use Prim.Native.Nat.{◌-◌}
 use Rattle.texts.proofs.Laws.{laws}
 use Rattle.texts.proofs.ascii_from.Goals as goal
 

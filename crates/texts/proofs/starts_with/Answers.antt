@@ -1,4 +1,3 @@
-use Prim.Native.Nat.{◌-◌}
 use native.Mathlib.Omega.{arith}
 use Rattle.texts.proofs.Comparing.{matching-on, matching-no}
 use Rattle.texts.proofs.Laws.{laws}

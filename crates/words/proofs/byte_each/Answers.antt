@@ -1,4 +1,3 @@
-use Prim.Native.Nat.{◌-◌}
 use Rattle.words.proofs.Laws.{laws}
 use Rattle.words.proofs.byte_each.Goals as goal
 

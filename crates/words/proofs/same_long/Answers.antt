@@ -1,5 +1,4 @@
 use native.Mathlib.Omega.{arith}
-use Prim.Native.Nat.{◌-◌}
 use Rattle.words.proofs.Alike.{alike-on}
 use Rattle.words.proofs.Laws.{laws}
 use Rattle.words.proofs.same_long.Goals as goal

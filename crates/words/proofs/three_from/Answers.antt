@@ -1,4 +1,3 @@
-use Prim.Native.Nat.{◌-◌}
 use borrow.Author.Rules.{rules}
 use Rattle.words.proofs.Pairing.{three-fits}
 use Rattle.words.proofs.Laws.{laws}

@@ -1,4 +1,3 @@
-use Prim.Native.Nat.{◌-◌}
 use Rattle.conversions.proofs.Laws.{laws}
 use Rattle.conversions.proofs.convert.put_camel.Goals as goal
 

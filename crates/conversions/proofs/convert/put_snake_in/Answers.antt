@@ -1,4 +1,3 @@
-use Prim.Native.Nat.{◌-◌}
 use Rattle.conversions.proofs.Laws.{laws}
 use Rattle.conversions.proofs.Storing.{storing}
 use Rattle.conversions.proofs.convert.put_snake_in.Goals as goal

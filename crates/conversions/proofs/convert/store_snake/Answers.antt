@@ -1,4 +1,3 @@
-use Prim.Native.Nat.{◌-◌}
 use native.Mathlib.Omega.{arith}
 use Rattle.conversions.proofs.Storing.{storing, snake-start}
 use Rattle.conversions.proofs.convert.store_snake.Goals as goal

@@ -1,4 +1,3 @@
-use Prim.Native.Nat.{◌-◌}
 use Rattle.conversions.proofs.Laws.{laws}
 use Rattle.conversions.proofs.prefix.past_prefix.Goals as goal
 

@@ -1,5 +1,4 @@
 use native.Mathlib.Omega.{arith}
-use Prim.Native.Nat.{◌-◌}
 use Rattle.saxlite.proofs.Finding.{short-comment-end as text, short-stands, lacks-here, lacks-one, lacks-two, lacks-three, lacks-four, finding}
 use Rattle.saxlite.proofs.passing.comment_end.Goals as goal
 

@@ -1,5 +1,4 @@
 use native.Mathlib.Omega.{arith}
-use Prim.Native.Nat.{◌-◌}
 use Rattle.saxlite.proofs.Finding.{byte-here, byte-not, lacks-here, lacks-one, lacks-two, lacks-three, lacks-four, finding}
 use Rattle.saxlite.proofs.passing.declaration_end.Goals as goal
 

@@ -1,4 +1,3 @@
-use Prim.Native.Nat.{◌-◌}
 use Rattle.saxlite.proofs.Idling.{passing}
 use Rattle.saxlite.proofs.passing.past_idle.Goals as goal
 

@@ -1,5 +1,4 @@
 use native.Mathlib.Omega.{arith}
-use Prim.Native.Nat.{◌-◌}
 use Rattle.tags.proofs.Striding.{striding, fails, stop-first, stop-second, stop-third, stop-fourth, four-on}
 use Rattle.tags.proofs.scan.attribute_name_fours.Goals as goal
 

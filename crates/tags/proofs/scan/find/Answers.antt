@@ -1,5 +1,4 @@
 use Rattle.tags.proofs.Laws.{laws}
-use Prim.Native.Nat.{◌-◌}
 use Rattle.tags.proofs.scan.find.Goals as goal
 
 pub loop-i-init : goal.loop-i-init

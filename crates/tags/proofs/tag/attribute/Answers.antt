@@ -1,5 +1,4 @@
 use Rattle.tags.proofs.Laws.{laws}
-use Prim.Native.Nat.{◌-◌}
 use Rattle.tags.specs.Noting.{found_at}
 use Rattle.tags.proofs.Looking.{looking-start}
 use Rattle.tags.proofs.tag.attribute.Goals as goal

@@ -1,5 +1,4 @@
 use Rattle.tags.proofs.Laws.{laws}
-use Prim.Native.Nat.{◌-◌}
 use Rattle.tags.proofs.tag.tag_noting.Goals as goal
 
 pub codes_of-codes-requires : goal.codes_of-codes-requires

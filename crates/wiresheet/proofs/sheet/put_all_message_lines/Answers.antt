@@ -1,5 +1,4 @@
 use native.Mathlib.Omega.{arith}
-use Prim.Native.Nat.{◌-◌}
 use Rattle.xmltoproto.proofs.Walking.{of-within}
 use Rattle.wiresheet.proofs.Laws.{walk as laws}
 use Rattle.wiresheet.proofs.sheet.put_all_message_lines.Goals as goal

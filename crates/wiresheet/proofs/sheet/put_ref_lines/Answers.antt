@@ -1,5 +1,4 @@
 use native.Mathlib.Omega.{arith}
-use Prim.Native.Nat.{◌-◌}
 use Rattle.wiresheet.proofs.Walking.{under-within}
 use Rattle.wiresheet.proofs.Laws.{walk as laws}
 use Rattle.wiresheet.proofs.sheet.put_ref_lines.Goals as goal

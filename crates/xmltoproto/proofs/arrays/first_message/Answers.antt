@@ -1,5 +1,4 @@
 use native.Mathlib.Omega.{arith}
-use Prim.Native.Nat.{◌-◌}
 use Rattle.xmltoproto.proofs.Looping.{seeking-room}
 use Rattle.xmltoproto.proofs.Walking.{next-of, of-within}
 use Rattle.xmltoproto.proofs.Laws.{ask as laws}

@@ -1,7 +1,5 @@
 use mathlib.Core.Path.{refl}
-use mathlib.Core.Logic.{⊎_elim}
 use native.Mathlib.Omega.{arith}
-use Prim.Native.Nat.{◌-◌}
 use Rattle.xmltoproto.proofs.Viewing.{no-size-seen}
 use Rattle.xmltoproto.proofs.Refusals.{array-small}
 use Rattle.xmltoproto.proofs.Arrayless.{lacking-on}

@@ -1,5 +1,4 @@
 use native.Mathlib.Omega.{arith}
-use Prim.Native.Nat.{◌-◌}
 use Rattle.xmltoproto.proofs.Walking.{child-within}
 use Rattle.xmltoproto.proofs.Laws.{ask as laws}
 use Rattle.xmltoproto.proofs.arrays.holds_array.Goals as goal

@@ -1,4 +1,3 @@
-use Prim.Native.Nat.{◌-◌}
 use Rattle.xmltoproto.proofs.Covering.{bounds}
 use Rattle.xmltoproto.proofs.bound.source_most.Goals as goal
 

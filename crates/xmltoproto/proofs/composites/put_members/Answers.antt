@@ -1,5 +1,4 @@
 use native.Mathlib.Omega.{arith}
-use Prim.Native.Nat.{◌-◌}
 use Rattle.xmltoproto.proofs.Looping.{numbering-room}
 use Rattle.xmltoproto.proofs.Walking.{next-child, child-within}
 use Rattle.xmltoproto.proofs.Laws.{number as laws}

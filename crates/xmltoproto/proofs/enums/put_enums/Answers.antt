@@ -1,5 +1,4 @@
 use native.Mathlib.Omega.{arith}
-use Prim.Native.Nat.{◌-◌}
 use Rattle.xmltoproto.proofs.Walking.{of-within}
 use Rattle.xmltoproto.proofs.Laws.{walk as laws}
 use Rattle.xmltoproto.proofs.enums.put_enums.Goals as goal

@@ -1,5 +1,4 @@
 use native.Mathlib.Omega.{arith}
-use Prim.Native.Nat.{◌-◌}
 use Rattle.printing.proofs.Again.{standing-none}
 use Rattle.xmltoproto.proofs.Looping.{walking-length}
 use Rattle.xmltoproto.proofs.Walking.{child-within}
