@@ -5,48 +5,51 @@
 // a document in four hex digits, a space, and the document in hex. A line of the answer is number,
 // offset, place and n in decimal, then the n bytes of its events in hex, in the form that the crate
 // `probe` describes: all of them, or those before the refusal.
-ghost use Rattle.std.specs.Prelude.{◌<◌};
+#![tactic(auto)]
 
-use libc::STDIN_FILENO;
+ghost use Rattle.std.specs.Prelude.{◌<◌, IfOk};
+
 use probe::Reading;
-use replaying::{hex_number, put_unhexed, write_hexed, write_numbers};
+use replaying::{hex_number, put_unhexed, read_full, write_hexed, write_numbers};
+use std::io;
 use texts::part;
 
 // Where the document stands in a line.
 const DOCUMENT: usize = 5;
 
-fn write_reading(r: Reading) {
-    write_numbers(r.number, r.offset, r.place, r.n);
+fn write_reading(rt: &impl Print, r: Reading) -> io::Result<()> {
+    write_numbers(rt, r.number, r.offset, r.place, r.n)
 }
 
 // Reads the document that `hex` stands for, and writes its events.
-fn replay(hex: &[u8]) {
-    let mut document = io::large_buffer();
-    let mut out = io::large_buffer();
+fn replay(rt: &impl Print, hex: &[u8]) -> io::Result<()> {
+    let mut document = [0u8; 65536];
+    let mut out = [0u8; 65536];
     let n = put_unhexed(&mut document, 0, hex);
     let reading = probe::events(part(&document, 0, n), &mut out);
-    write_reading(reading);
-    write_hexed(part(&out, 0, reading.n));
+    write_reading(rt, reading)?;
+    write_hexed(rt, part(&out, 0, reading.n))
 }
 
 // Replays the line at the beginning of `s`, and answers its length.
-fn replay_line(s: &[u8]) -> usize
-    ensures { (0 < result) × (result < 1048576) }
+fn replay_line(rt: &impl Print, s: &[u8]) -> io::Result<usize>
+    ensures { IfOk result (λ n. (0 < n) × (n < 1048576)) }
 {
     let digits = 2 * hex_number(s);
-    replay(part(s, DOCUMENT, digits));
-    DOCUMENT + digits + 1
+    replay(rt, part(s, DOCUMENT, digits))?;
+    Ok(DOCUMENT + digits + 1)
 }
 
-fn replay_all(s: &[u8]) {
+fn replay_all(rt: &impl Print, s: &[u8]) -> io::Result<()> {
     let mut at = 0;
     while at < s.len() {
-        at += replay_line(part(s, at, s.len()));
+        at += replay_line(rt, part(s, at, s.len()))?;
     }
+    Ok(())
 }
 
-fn main() {
-    let mut input = io::large_buffer();
-    let n = io::read_full(STDIN_FILENO, &mut input);
-    replay_all(&input[..n]);
+fn main(rt: HostRuntime) -> io::Result<()> {
+    let mut input = [0u8; 65536];
+    let n = read_full(&mut rt.stdin(), &mut input)?;
+    replay_all(&rt, &input[..n])
 }

@@ -12,12 +12,14 @@
 //
 // A line of the answer is number, offset, place and n in decimal, then the whole output in hex: so it
 // also shows what a refusal leaves, and what stands behind the text.
-ghost use Rattle.std.specs.Prelude.{◌<◌};
+#![tactic(auto)]
 
-use libc::STDIN_FILENO;
+ghost use Rattle.std.specs.Prelude.{◌<◌, IfOk};
+
 use printing::put_byte;
 use refusals::Answer;
-use replaying::{hex_number, put_unhexed, write_answer, write_hexed};
+use replaying::{hex_number, put_unhexed, read_full, write_answer, write_hexed};
+use std::io;
 use texts::{byte_at, part};
 
 // Where the four numbers and the names stand in a line.
@@ -54,59 +56,75 @@ fn convert(c: u8, value: &[u8], enum_name: &[u8], out: &mut [u8]) -> Answer {
 }
 
 // Converts into an output of the length of `out`, and writes the answer.
-fn replay(c: u8, value: &[u8], enum_name: &[u8], out: &mut [u8]) {
+fn replay(
+    rt: &impl Print,
+    c: u8,
+    value: &[u8],
+    enum_name: &[u8],
+    out: &mut [u8],
+) -> io::Result<()> {
     fill(out, out.len(), b'#');
     let answer = convert(c, value, enum_name, out);
-    write_answer(answer);
-    write_hexed(out);
+    write_answer(rt, answer)?;
+    write_hexed(rt, out)
 }
 
 // The same with an output of `room` bytes. No line asks for more than there are.
-fn replay_in(c: u8, value: &[u8], enum_name: &[u8], out: &mut [u8], room: usize) {
+fn replay_in(
+    rt: &impl Print,
+    c: u8,
+    value: &[u8],
+    enum_name: &[u8],
+    out: &mut [u8],
+    room: usize,
+) -> io::Result<()> {
     if room < out.len() {
-        replay(c, value, enum_name, &mut out[..room]);
+        replay(rt, c, value, enum_name, &mut out[..room])?;
     }
+    Ok(())
 }
 
 // Makes the names of the line at the beginning of `s`, and replays it.
-fn replay_names(s: &[u8], value_hex: &[u8], enum_hex: &[u8]) {
-    let mut value = io::large_buffer();
-    let mut enum_name = io::large_buffer();
-    let mut out = io::large_buffer();
+fn replay_names(rt: &impl Print, s: &[u8], value_hex: &[u8], enum_hex: &[u8]) -> io::Result<()> {
+    let mut value = [0u8; 65536];
+    let mut enum_name = [0u8; 65536];
+    let mut out = [0u8; 65536];
     let p = fill(&mut value, hex_number(part(s, PAD, 4)), b'_');
     let n = put_unhexed(&mut value, p, value_hex);
     let m = put_unhexed(&mut enum_name, 0, enum_hex);
     let room = hex_number(part(s, ROOM, 4));
     replay_in(
+        rt,
         byte_at(s, 0),
         part(&value, 0, n),
         part(&enum_name, 0, m),
         &mut out,
         room,
-    );
+    )
 }
 
 // Replays the line at the beginning of `s`, and answers its length.
-fn replay_line(s: &[u8]) -> usize
-    ensures { (0 < result) × (result < 1048576) }
+fn replay_line(rt: &impl Print, s: &[u8]) -> io::Result<usize>
+    ensures { IfOk result (λ n. (0 < n) × (n < 1048576)) }
 {
     let v = 2 * hex_number(part(s, VALUE, 4));
     let e = 2 * hex_number(part(s, ENUM, 4));
     let from = NAMES + v;
     let length = from + e + 1;
-    replay_names(s, part(s, NAMES, v), part(s, from, e));
-    length
+    replay_names(rt, s, part(s, NAMES, v), part(s, from, e))?;
+    Ok(length)
 }
 
-fn replay_all(s: &[u8]) {
+fn replay_all(rt: &impl Print, s: &[u8]) -> io::Result<()> {
     let mut at = 0;
     while at < s.len() {
-        at += replay_line(part(s, at, s.len()));
+        at += replay_line(rt, part(s, at, s.len()))?;
     }
+    Ok(())
 }
 
-fn main() {
-    let mut input = io::large_buffer();
-    let n = io::read_full(STDIN_FILENO, &mut input);
-    replay_all(&input[..n]);
+fn main(rt: HostRuntime) -> io::Result<()> {
+    let mut input = [0u8; 65536];
+    let n = read_full(&mut rt.stdin(), &mut input)?;
+    replay_all(&rt, &input[..n])
 }

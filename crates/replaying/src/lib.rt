@@ -2,12 +2,29 @@
 //
 // A question is a line with numbers of four hex digits and bytes in hex; an answer is a line with
 // number, offset, place and n in decimal, then bytes in hex. Proved safe and ending.
-ghost use Rattle.std.specs.Prelude.{◌<◌};
+#![tactic(auto)]
 
-use libc::STDOUT_FILENO;
+ghost use Rattle.std.specs.Prelude.{◌<◌, ◌≤◌, length, IfOk};
+
 use printing::put_byte;
 use refusals::Answer;
+use std::io::{self, Read};
 use texts::{byte_at, part};
+
+// Reads until `buf` is full or the input ends, and answers how many bytes it put at the start.
+pub fn read_full<R: Read>(input: &mut R, buf: &mut [u8]) -> io::Result<usize>
+    ensures { IfOk result (λ n. n ≤ length buf.new) }
+{
+    let mut done = 0;
+    while done < buf.len() {
+        let n = input.read(&mut buf[done..])?;
+        if n == 0 {
+            break;
+        }
+        done += n;
+    }
+    Ok(done)
+}
 
 fn wide(b: u8) -> usize
     ensures { result < 256 }
@@ -74,24 +91,30 @@ fn put_hexed(out: &mut [u8], at: usize, s: &[u8]) -> usize {
     p
 }
 
-fn write_number(n: u64) {
-    io::print_decimal(STDOUT_FILENO, n);
-    io::write_all(STDOUT_FILENO, b" ");
+fn write_number(rt: &impl Print, n: u64) -> io::Result<()> {
+    print!(rt; "{n} ")
 }
 
-pub fn write_numbers(number: u32, offset: usize, place: usize, n: usize) {
-    write_number(number as u64);
-    write_number(offset as u64);
-    write_number(place as u64);
-    write_number(n as u64);
+pub fn write_numbers(
+    rt: &impl Print,
+    number: u32,
+    offset: usize,
+    place: usize,
+    n: usize,
+) -> io::Result<()> {
+    write_number(rt, number as u64)?;
+    write_number(rt, offset as u64)?;
+    write_number(rt, place as u64)?;
+    write_number(rt, n as u64)
 }
 
 // The four numbers of an answer.
-pub fn write_answer(answer: Answer) {
+pub fn write_answer(rt: &impl Print, answer: Answer) -> io::Result<()> {
     match answer {
-        Answer::Accepted(n) => write_numbers(0, 0, 0, n),
+        Answer::Accepted(n) => write_numbers(rt, 0, 0, 0, n),
         Answer::Refused(r) => {
             write_numbers(
+                rt,
                 refusals::number(r),
                 refusals::offset(r),
                 refusals::place(r),
@@ -102,9 +125,9 @@ pub fn write_answer(answer: Answer) {
 }
 
 // The bytes of `s` in hex, and the end of the line: up to 32,767 bytes.
-pub fn write_hexed(s: &[u8]) {
-    let mut line = io::large_buffer();
+pub fn write_hexed(rt: &impl Print, s: &[u8]) -> io::Result<()> {
+    let mut line = [0u8; 65536];
     let p = put_hexed(&mut line, 0, s);
     let n = put_byte(&mut line, p, b'\n');
-    io::write_all(STDOUT_FILENO, part(&line, 0, n));
+    rt.write_all(part(&line, 0, n))
 }

@@ -3,38 +3,53 @@
 //
 // It reads up to 32,769 bytes, one more than the converter takes, so that a longer document gets its
 // refusal 1. All the work is xmltoproto::xml_to_proto; what is read and written is not proved.
-use libc::{STDIN_FILENO, STDOUT_FILENO};
+#![tactic(auto)]
+
+ghost use Rattle.std.specs.Prelude.{◌≤◌, length, IfOk};
+
 use refusals::{Answer, Refusal};
+use std::io::{self, Read};
 
-fn print_tab() {
-    io::write_all(STDOUT_FILENO, b"\t");
-}
-
-fn print_refusal(r: Refusal) {
-    io::write_all(STDOUT_FILENO, b"refused");
-    print_tab();
-    io::print_decimal(STDOUT_FILENO, refusals::number(r) as u64);
-    print_tab();
-    io::print_decimal(STDOUT_FILENO, refusals::offset(r) as u64);
-    print_tab();
-    io::print_decimal(STDOUT_FILENO, refusals::place(r) as u64);
-    io::write_all(STDOUT_FILENO, b"\n");
-}
-
-fn convert(document: &[u8], records: &mut [u32], text: &mut [u8], output: &mut [u8]) {
-    match xmltoproto::xml_to_proto(document, records, text, output) {
-        Answer::Refused(r) => print_refusal(r),
-        Answer::Accepted(n) => {
-            io::write_all(STDOUT_FILENO, texts::part(output, 0, n));
+// Reads until `buf` is full or the input ends, and answers how many bytes it put at the start.
+fn read_full<R: Read>(input: &mut R, buf: &mut [u8]) -> io::Result<usize>
+    ensures { IfOk result (λ n. n ≤ length buf.new) }
+{
+    let mut done = 0;
+    while done < buf.len() {
+        let n = input.read(&mut buf[done..])?;
+        if n == 0 {
+            break;
         }
+        done += n;
+    }
+    Ok(done)
+}
+
+fn print_refusal(rt: &impl Print, r: Refusal) -> io::Result<()> {
+    let number = refusals::number(r);
+    let offset = refusals::offset(r);
+    let place = refusals::place(r);
+    println!(rt; "refused\t{number}\t{offset}\t{place}")
+}
+
+fn convert(
+    rt: &impl Print,
+    document: &[u8],
+    records: &mut [u32],
+    text: &mut [u8],
+    output: &mut [u8],
+) -> io::Result<()> {
+    match xmltoproto::xml_to_proto(document, records, text, output) {
+        Answer::Refused(r) => print_refusal(rt, r),
+        Answer::Accepted(n) => rt.write_all(texts::part(output, 0, n)),
     }
 }
 
-fn main() {
+fn main(rt: HostRuntime) -> io::Result<()> {
     let mut buffer = [0u8; 32769];
     let mut records = [0u32; 16384];
     let mut text = [0u8; 65536];
     let mut output = [0u8; 65536];
-    let n = io::read_full(STDIN_FILENO, &mut buffer);
-    convert(&buffer[..n], &mut records, &mut text, &mut output);
+    let n = read_full(&mut rt.stdin(), &mut buffer)?;
+    convert(&rt, &buffer[..n], &mut records, &mut text, &mut output)
 }
