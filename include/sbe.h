@@ -1,4 +1,4 @@
-/* The converter and the name conversions of the static library libsbe.a (`rt staticlib sbe` writes target/staticlib/libsbe.a,
+/* The converter and the name conversions of the static library libsbe.a (`bin/build sbe` writes target/staticlib/libsbe.a,
  * for x86-64 Linux). The functions allocate nothing, keep nothing between calls, and call nothing.
  *
  * Each function converts a name into `output` and answers a number:

@@ -1,4 +1,4 @@
-//! Links the proved static libraries: SBE_LIBRARIES, or where `rt staticlib` writes them.
+//! Links the proved static libraries: SBE_LIBRARIES, or where `bin/build` writes them.
 
 use std::env;
 use std::path::{Path, PathBuf};
@@ -15,7 +15,7 @@ fn main() {
         let archive = folder.join(format!("lib{name}.a"));
         let archive = archive
             .canonicalize()
-            .unwrap_or_else(|e| panic!("{}: {e} (rt staticlib {name} writes it)", archive.display()));
+            .unwrap_or_else(|e| panic!("{}: {e} (bin/build {name} writes it)", archive.display()));
         println!("cargo:rerun-if-changed={}", archive.display());
         println!("cargo:rustc-link-arg={}", archive.display());
     }
