@@ -544,7 +544,8 @@ fn open_field(
             text,
         );
     }
-    if owner_of(s, group - 1, rec) == message - 1 {
+    let ours = owner_of(s, group - 1, rec) == message - 1;
+    if ours {
         return add_typed(
             s,
             l,

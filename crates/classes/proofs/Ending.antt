@@ -24,12 +24,12 @@ colon = refl
 
 module _ (b k : ℕ) (c : ClassOf b k) where
   pub end_none : 4 ≤ k → false ≡ is_attribute_name_end b
-  end_none h = neither (is_attribute_name_end b) (eqb b 58) (sym (le-ltb k 4 h) ∙ c.attribute-name-end)
+  end_none h = neither (is_attribute_name_end b) (eqb b 58) (sym (le-ltb k 4 h) ∙ c.attribute_name_end)
 
   pub end-some : k < 4 → not (eqb b 58) ≡ is_attribute_name_end b
   end-some h =
       by-test (eqb b 58)
       (λ t. ap not t ∙ sym (ap is_attribute_name_end (eqb-true b 58 t) ∙ colon))
-      (λ f. ap not f ∙ either (is_attribute_name_end b) (sym (lt-ltb k 4 h) ∙ c.attribute-name-end ∙ ap (λ x. is_attribute_name_end b or x) f))
+      (λ f. ap not f ∙ either (is_attribute_name_end b) (sym (lt-ltb k 4 h) ∙ c.attribute_name_end ∙ ap (λ x. is_attribute_name_end b or x) f))
 
 pub ruleset ending = (end_none, end-some, rules)

@@ -11,9 +11,9 @@ is_name_stop b = is_tag_name_end b or eqb b 58
 -- k is the class number of the byte b
 pub record ClassOf (b k : ℕ) : Type 0 where
   pub space : eqb k 0 ≡ is_space b
-  pub tag-name-end : ltb k 2 ≡ is_tag_name_end b
-  pub name-stop : ltb k 3 ≡ is_name_stop b
-  pub attribute-name-end : ltb k 4 ≡ is_attribute_name_end b or eqb b 58
+  pub tag_name_end : ltb k 2 ≡ is_tag_name_end b
+  pub name_stop : ltb k 3 ≡ is_name_stop b
+  pub attribute_name_end : ltb k 4 ≡ is_attribute_name_end b or eqb b 58
   pub upper : eqb k 4 ≡ is_upper b
   pub lower : eqb k 5 ≡ is_lower b
 

@@ -294,6 +294,7 @@ fn put_capitalized(out: &mut [u8], at: usize, name: &[u8]) -> usize
     put_bytes(out, p, &name[1..])
 }
 
+#[tactic(auto, using(crate::proofs::Laws::laws))]
 fn ends_in_ies(name: &[u8]) -> bool
     ensures { result ≡ ends_in_ies name.now }
 {

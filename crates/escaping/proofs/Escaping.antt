@@ -71,6 +71,16 @@ module _ (b : ℕ) where
         let e = low h in
         record { shown = sym e; long = rw (e, le-ltb b 16 g) }
 
+  -- the last two stretches of low bytes by their bounds alone, field by field
+  pub stretch-shown : 14 ≤ b → b < 32 → shown_as Hex b ≡ escaped b
+  stretch-shown g h = sym (low (λ e. omega arith) (λ e. omega arith) (λ e. omega arith) (λ e. omega arith) h)
+
+  pub stretch-short : 14 ≤ b → b < 16 → length (escaped b) ≡ 5
+  stretch-short g h = sym (escapes-short (λ e. omega arith) (λ e. omega arith) (λ e. omega arith) (λ e. omega arith) h).long
+
+  pub stretch-long : 16 ≤ b → b < 32 → length (escaped b) ≡ 6
+  stretch-long g h = sym (escapes-long (λ e. omega arith) (λ e. omega arith) (λ e. omega arith) (λ e. omega arith) g h).long
+
   pub escapes-plain : 32 ≤ b → (b ≡ 34 → ⊥) → (b ≡ 92 → ⊥) → (b ≡ 127 → ⊥) → Escapes b (record { kind = Plain; len = 1 })
   unfolding escaped
   escapes-plain h n34 n92 n127 =

@@ -35,6 +35,7 @@ pub struct Escape {
     pub len: usize,
 }
 
+#[tactic(auto, using(crate::proofs::Laws::stretches))]
 fn escape_of(b: u8) -> Escape
     ensures { Escapes b result }
 {

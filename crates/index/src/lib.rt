@@ -270,7 +270,8 @@ fn resolved(m: Model, rec: &[u32], text: &[u8], ix: &[u16], name: &[u8]) -> u32
         left -= 1;
         let i = p - 1;
         kept = kept_at(m, rec, text, i, name, kept);
-        if kept == 1 {
+        let settled = kept == 1;
+        if settled {
             return kept;
         }
         p = word(ix, EACH * (i as usize) + CHAIN);

@@ -144,7 +144,8 @@ fn meet(m: Model, rec: &[u32], text: &[u8], names: &mut [u16], n: usize, p: usiz
     ensures { Ordered (schema_of m rec.now text.now) (i + 1) names.new n }
 {
     let old = item(m, rec, number(names[p]));
-    if old.kind == TYPE {
+    let by_type = old.kind == TYPE;
+    if by_type {
         put_at(names, p, i);
     }
 }

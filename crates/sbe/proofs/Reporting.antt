@@ -17,9 +17,9 @@ pub refused-reports : {a : Answer} {q : Refusal} {x y z : ℕ} → a ≡ Refused
 refused-reports f ex ey ez =
     record {
       the_number = ex ∙ ap number_in (sym f);
-      the-offset = ey ∙ ap offset_in (sym f);
-      the-place = ez ∙ ap place_in (sym f);
-      the-n = ap written_in (sym f);
+      the_offset = ey ∙ ap offset_in (sym f);
+      the_place = ez ∙ ap place_in (sym f);
+      the_n = ap written_in (sym f);
     }
 
 pub name-reports : {t : Tested} {text out out' : List ℕ} {a : Answer} {x y z w : ℕ} → Answers t text out out' a → Reports a x y z w → NameReports t text out out' x y z w

@@ -10,9 +10,9 @@ use Rattle.names.specs.Entry.{answer_after}
 
 pub record Reports (answer : Answer) (number offset place n : ℕ) : Type 0 where
   pub the_number : number ≡ number_in answer
-  pub the-offset : offset ≡ offset_in answer
-  pub the-place : place ≡ place_in answer
-  pub the-n : n ≡ written_in answer
+  pub the_offset : offset ≡ offset_in answer
+  pub the_place : place ≡ place_in answer
+  pub the_n : n ≡ written_in answer
 
 pub record NameReports (t : Tested) (text out out' : List ℕ) (number offset place n : ℕ) : Type 0 where
   pub figures : Reports (answer_after t text (length out)) number offset place n

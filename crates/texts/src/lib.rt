@@ -114,6 +114,7 @@ fn is_ascii_block(s: &[u8], i: usize) -> bool
 }
 
 // Where the first byte of 128 or more stands from `from` on, or the end.
+#[tactic(auto, using(crate::proofs::Laws::laws))]
 fn ascii_from(s: &[u8], from: usize) -> usize
     ensures { result ≡ scan is_ascii s.now from }
 {

@@ -34,9 +34,9 @@ unfolding classes is_space is_tag_name_end is_name_stop is_attribute_name_end is
 rule b h =
     record {
       space = agree (λ k. eqb k 0) is_space classes tt b h;
-      tag-name-end = agree (λ k. ltb k 2) is_tag_name_end classes tt b h;
-      name-stop = agree (λ k. ltb k 3) is_name_stop classes tt b h;
-      attribute-name-end = agree (λ k. ltb k 4) (λ c. is_attribute_name_end c or eqb c 58) classes tt b h;
+      tag_name_end = agree (λ k. ltb k 2) is_tag_name_end classes tt b h;
+      name_stop = agree (λ k. ltb k 3) is_name_stop classes tt b h;
+      attribute_name_end = agree (λ k. ltb k 4) (λ c. is_attribute_name_end c or eqb c 58) classes tt b h;
       upper = agree (λ k. eqb k 4) is_upper classes tt b h;
       lower = agree (λ k. eqb k 5) is_lower classes tt b h;
     }

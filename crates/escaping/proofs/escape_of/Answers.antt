@@ -28,11 +28,5 @@ returns-in-1-to-8 c = search laws
 pub returns-in-11-to-12 : goal.returns-in-11-to-12
 returns-in-11-to-12 c = search laws
 
-pub returns-in-14-to-15 : goal.returns-in-14-to-15
-returns-in-14-to-15 c = search laws
-
-pub returns-in-16-to-31 : goal.returns-in-16-to-31
-returns-in-16-to-31 c = search laws
-
 pub returns-in_default : goal.returns-in_default
 returns-in_default c = search laws

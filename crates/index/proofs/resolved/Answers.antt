@@ -22,8 +22,8 @@ overflow_sub-i c = search laws
 pub kept_at-kept-requires : goal.kept_at-kept-requires
 kept_at-kept-requires c = search laws
 
-pub returns-then-kept-eq1 : goal.returns-then-kept-eq1
-returns-then-kept-eq1 c = search laws
+pub returns-then-settled : goal.returns-then-settled
+returns-then-settled c = search laws
 
 pub overflow_cast-i : goal.overflow_cast-i
 overflow_cast-i c = search laws

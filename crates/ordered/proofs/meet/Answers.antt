@@ -20,9 +20,9 @@ put_at-requires c = search laws
 pub shape_of-names : goal.shape_of-names
 shape_of-names c = search laws
 
-pub returns-then-old-eq-TYPE : goal.returns-then-old-eq-TYPE
-returns-then-old-eq-TYPE c = search laws
+pub returns-then-by_type : goal.returns-then-by_type
+returns-then-by_type c = search laws
 
-pub returns-else-old-eq-TYPE : goal.returns-else-old-eq-TYPE
-returns-else-old-eq-TYPE c =
-    meet-other _ _ _ _ _ _ _ c.requires c.number.ensures _ c.item-old.ensures c.if-old-eq-TYPE.false
+pub returns-else-by_type : goal.returns-else-by_type
+returns-else-by_type c =
+    meet-other _ _ _ _ _ _ _ c.requires c.number.ensures _ c.item-old.ensures c.if-by_type.false

@@ -16,8 +16,5 @@ loop-i-smaller c = search laws
 pub loop-i-preserved : goal.loop-i-preserved
 loop-i-preserved c = search laws
 
-pub returns-else-s-i-lt128 : goal.returns-else-s-i-lt128
-returns-else-s-i-lt128 c = search laws
-
 pub returns : goal.returns
 returns c = search laws

@@ -62,14 +62,14 @@ overflow_sub-group c = search opening
 pub owner_of-requires : goal.owner_of-requires
 owner_of-requires c = search opening
 
-pub overflow_sub-message-2 : goal.overflow_sub-message-2
-overflow_sub-message-2 c = search opening
+pub overflow_sub-ours : goal.overflow_sub-ours
+overflow_sub-ours c = search opening
 
-pub overflow_sub-group-then-owner_of-message : goal.overflow_sub-group-then-owner_of-message
-overflow_sub-group-then-owner_of-message c = search opening
+pub overflow_sub-group-then-ours : goal.overflow_sub-group-then-ours
+overflow_sub-group-then-ours c = search opening
 
-pub add_typed-requires-then-owner_of-message : goal.add_typed-requires-then-owner_of-message
-add_typed-requires-then-owner_of-message c =
+pub add_typed-requires-then-ours : goal.add_typed-requires-then-ours
+add_typed-requires-then-ours c =
     let pre = c.requires in
     let args = c.args in
     let e-field-attributes = c.field_attributes-tag.ensures in
@@ -78,18 +78,18 @@ add_typed-requires-then-owner_of-message c =
     let l-if1 = c.if-message-eq0.false in
     let l-if2 = c.if-group-eq0.false in
     let e-owner-of = c.owner_of.ensures in
-    let t-if3 = c.if-owner_of-message.true in
+    let t-if3 = c.if-ours.true in
     let r = number-ready args.s args.doc.now args.rec.now args.text.now args.attributes args.next pre.0 pre.1 (ascii "id") e-field-attributes.0 e-read-number in
     (field-ready args.s args.doc.now args.rec.now _ args.attributes args.next r pre.1 e-field-attributes.1 e-field-attributes.2, pre.2)
 
-pub shape_of-rec-then-owner_of-message : goal.shape_of-rec-then-owner_of-message
-shape_of-rec-then-owner_of-message c = search opening
+pub shape_of-rec-then-ours : goal.shape_of-rec-then-ours
+shape_of-rec-then-ours c = search opening
 
-pub shape_of-text-then-owner_of-message : goal.shape_of-text-then-owner_of-message
-shape_of-text-then-owner_of-message c = search opening
+pub shape_of-text-then-ours : goal.shape_of-text-then-ours
+shape_of-text-then-ours c = search opening
 
-pub returns-then-owner_of-message : goal.returns-then-owner_of-message
-returns-then-owner_of-message c =
+pub returns-then-ours : goal.returns-then-ours
+returns-then-ours c =
     let pre = c.requires in
     let e-field-attributes = c.field_attributes-tag.ensures in
     let e-read-number = c.read_number.ensures in
@@ -97,8 +97,8 @@ returns-then-owner_of-message c =
     let l-if1 = c.if-message-eq0.false in
     let l-if2 = c.if-group-eq0.false in
     let e-owner-of = c.owner_of.ensures in
-    let t-if3 = c.if-owner_of-message.true in
-    let e-add-typed2 = c.add_typed-then-owner_of-message.ensures in
+    let t-if3 = c.if-ours.true in
+    let e-add-typed2 = c.add_typed-then-ours.ensures in
     search opening fits 4000
 
 pub refuse-requires-2 : goal.refuse-requires-2
@@ -120,7 +120,7 @@ returns c =
     let l-if1 = c.if-message-eq0.false in
     let l-if2 = c.if-group-eq0.false in
     let e-owner-of = c.owner_of.ensures in
-    let l-if3 = c.if-owner_of-message.false in
+    let l-if3 = c.if-ours.false in
     let e-refuse2 = c.refuse-2.ensures in
     let h = field-misplaced args.l args.place args.s args.doc.now args.rec.now args.text.now args.attributes args.next pre.0 pre.1 _ g-id e-field-attributes.0 e-read-number l-if1 l-if2 e-owner-of l-if3 in
     search opening
