@@ -1,4 +1,4 @@
--- The laws that this crate's proofs cite, in one set: `search laws` at each need.
+-- The laws that this crate's proofs cite, in one set: `search laws` at each goal.
 use Rattle.printing.proofs.Laws.{laws as printing}
 use Rattle.conversions.proofs.Letters.{upper_fits, lower-upper, lower-other, lower-least, raise-lower, raise-other}
 use Rattle.conversions.proofs.Positions.{first-snake, first-screaming, first-follows, later-follows, other-snake, other-screaming, upper-screaming, upper-after-lower, upper-before, snake-printed, screaming-printed, camel-dropped, pascal-dropped, camel-raised, camel-kept, pascal-first, pascal-raised, pascal-lowered, snake-all, screaming-all, camel-all, pascal-all}

@@ -1,4 +1,4 @@
--- The laws that the proofs of functions cite, in one set: `search laws` at each need.
+-- The laws that the proofs of functions cite, in one set: `search laws` at each goal.
 use borrow.Author.Rules.{rules}
 use Rattle.printing.proofs.Sequencing.{length-printed}
 use Rattle.printing.proofs.Going.{bytes-start, bytes-end, bytes-length}

@@ -1,4 +1,4 @@
--- The laws that the proofs of functions cite, in one set: `search laws` at each need.
+-- The laws that the proofs of functions cite, in one set: `search laws` at each goal.
 use borrow.Author.Rules.{rules}
 use Rattle.texts.proofs.Pieces.{byte_past}
 use Rattle.index.proofs.Building.{kind-told, owner-told, naming-start, naming-end, name-off, name-on, settling-start, settling-here, settling-told, settling-untold, settling-end, settling-chained, link-kind, link-owner, link_on, resolve-off, resolve-short, resolve-ordered, zeros-long, indexed-built, indexed-not}

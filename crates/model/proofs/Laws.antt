@@ -1,4 +1,4 @@
--- The laws that the proofs of functions cite, in one set: `search laws` at each need.
+-- The laws that the proofs of functions cite, in one set: `search laws` at each goal.
 use borrow.Author.Rules.{rules}
 use Rattle.texts.proofs.Pieces.{byte_past}
 use Rattle.model.proofs.Showing.{count-shown, item-shown, no-item-shown, package-shown, name-shown, second-shown, encoding-shown}

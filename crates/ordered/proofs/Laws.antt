@@ -1,4 +1,4 @@
--- The laws that the proofs of functions cite, in one set: `search laws` at each need.
+-- The laws that the proofs of functions cite, in one set: `search laws` at each goal.
 use borrow.Author.Rules.{rules}
 use Rattle.ordered.proofs.Comparing.{comparing-start, comparing-short, comparing-less, comparing-greater, comparing-on, comparing-front, comparing-end, comparing-words, comparing-rest}
 use Rattle.ordered.proofs.Numbering.{declares-type, declares-composite, declares-enum}

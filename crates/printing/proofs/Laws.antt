@@ -1,4 +1,4 @@
--- The laws that the proofs of printing functions cite, in one set: `search laws` at each need.
+-- The laws that the proofs of printing functions cite, in one set: `search laws` at each goal.
 use borrow.Author.Rules.{rules}
 use Rattle.printing.proofs.Sequencing.{blank, ◌▸◌, length-printed, printed-yes, printed-no}
 use Rattle.printing.proofs.Finishing.{no_room, no-room-output, wrote, wrote-output}

@@ -1,4 +1,4 @@
--- The laws that the proofs of functions over texts cite, in one set: `search laws` at each need.
+-- The laws that the proofs of functions over texts cite, in one set: `search laws` at each goal.
 use borrow.Author.Rules.{rules}
 use Rattle.texts.proofs.Pieces.{piece-none, piece-rest, byte_past}
 use Rattle.texts.proofs.Comparing.{same-lengths, equating-start, equating-on, equating-no, equating-end, matching-start, matching-on, matching-no, matching-end, starts-past, starts-long}

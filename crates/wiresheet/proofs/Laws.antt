@@ -1,4 +1,4 @@
--- The laws that the proofs of functions cite, one set a topic: `search laws` at each need.
+-- The laws that the proofs of functions cite, one set a topic: `search laws` at each goal.
 use borrow.Author.Rules.{rules}
 use Rattle.printing.proofs.Sequencing.{length-printed}
 use Rattle.xmltoproto.proofs.Typing.{sense-declared, sense-typed, sense-built-in, sense-unknown}

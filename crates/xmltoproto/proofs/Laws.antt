@@ -1,4 +1,4 @@
--- The laws that the proofs of functions cite, one set a topic: `search laws` at each need.
+-- The laws that the proofs of functions cite, one set a topic: `search laws` at each goal.
 use borrow.Author.Rules.{rules}
 use Rattle.texts.proofs.Among.{among-here, among_later, among-last}
 use Rattle.printing.proofs.Sequencing.{length-printed, printed-yes, printed-no, ◌▸◌}
