@@ -1,4 +1,4 @@
--- The laws that the proofs of functions cite, in one set for each part: `search taking`, `search opening` and so on at each need.
+-- The laws that the proofs of functions cite, in one set for each part: `search taking`, `search opening` and so on at each goal.
 use borrow.Author.Rules.{rules}
 use Rattle.builder.proofs.Takes.{value-least, value_room, taken-absent, taken-value, number-absent, number-value, number-told, digit-told, number_fits, number_at, given-not, given_yes, made-named, made-typed, made-type}
 use Rattle.builder.proofs.Stacking.{top-none, top-some, top-here, top-same, parent-same, pop-none, pop_kept}

@@ -1,4 +1,4 @@
--- The laws that the proofs of functions cite, in one set: `search driving` at each need.
+-- The laws that the proofs of functions cite, in one set: `search driving` at each goal.
 use borrow.Author.Rules.{rules}
 use Rattle.xmlschema.proofs.Driving.{mark-owed, mark-free, ended_at, reading-ready, reading-inside, reading-refused, reading-less, reading-on, reading-open, reading-done, answer-long, answer-records, answer-text, answer-high, answer-read}
 use Rattle.xmlschema.proofs.Passing.{reading-first, pass-none, pass-idle, shut-same, shut-leaf, turned-deep, passing-on, passing-less}
