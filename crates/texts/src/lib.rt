@@ -5,6 +5,8 @@
 // a definition of specs/.
 #![tactic(auto)]
 
+pub mod scan;
+
 ghost use Rattle.std.specs.Prelude.{◌≡◌, true, ◌+◌, ◌≤◌, ◌<◌, length, drop, get_or};
 ghost use Rattle.texts.specs.Text.{piece, same, starts_with};
 ghost use Rattle.texts.specs.Scan.{scan, is_ascii};

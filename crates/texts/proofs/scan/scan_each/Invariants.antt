@@ -1,0 +1,5 @@
+use Rattle.texts.proofs.Scanning.{Scanning}
+use Rattle.texts.proofs.scan.scan_each.Given as goal
+
+abbrev pub invariant-loop-i : goal.invariant-loop-i
+invariant-loop-i g l = Scanning g.T.ByteTest.test l.s l.from l.i
