@@ -1,8 +1,8 @@
 // Classes of bytes: space, tag-name end, attribute-name end, upper case, lower case.
 //
-// One constant table of 256 class numbers decides them all. Its rule is proved once over the whole
-// table (proofs/table). Each test takes the table lent, and promises the predicate of specs/Class.antt
-// for every byte; `is_name_stop_in` promises that of two classes at once (`is_name_stop`, specs/Table.antt).
+// `Classes` holds a table of 256 class numbers that decides them all, and keeps its rule, which is proved once over the
+// whole table (proofs/table). Each test promises the predicate of specs/Class.antt for every byte; `is_name_stop` promises
+// that of two classes at once (specs/Table.antt).
 #![tactic(auto)]
 
 ghost use Rattle.std.specs.Prelude.{◌≡◌};
@@ -21,6 +21,65 @@ const CLASSES: [u8; 256] = [
     6, 6, 6, 6, 6, 6, 6, 6, 6, 6, 6, 6, 6, 6, 6, 6, 6, 6, 6, 6, 6, 6, 6, 6, 6, 6, 6, 6, 6, 6, 6, 6,
     6, 6, 6, 6, 6, 6, 6, 6, 6, 6, 6, 6, 6, 6, 6, 6, 6, 6, 6, 6, 6, 6, 6, 6, 6, 6, 6, 6, 6, 6, 6, 6,
 ];
+
+// The table of classes, with the class number of every byte. A constant is built anew on the stack wherever it is used, so
+// who looks up many bytes makes the table once and lends it.
+#[derive(Clone, Copy)]
+pub struct Classes {
+    table: [u8; 256],
+    ghost ruled: { IsTable table },
+}
+
+impl Classes {
+    pub fn new() -> Classes {
+        Classes { table: CLASSES }
+    }
+
+    fn class_of(&self, b: u8) -> u8
+        ensures { ClassOf b result }
+    {
+        self.table[b as usize]
+    }
+
+    pub fn is_upper(&self, b: u8) -> bool
+        ensures { result ≡ is_upper b }
+    {
+        self.class_of(b) == 4
+    }
+
+    pub fn is_lower(&self, b: u8) -> bool
+        ensures { result ≡ is_lower b }
+    {
+        self.class_of(b) == 5
+    }
+
+    pub fn is_space(&self, b: u8) -> bool
+        ensures { result ≡ is_space b }
+    {
+        self.class_of(b) == 0
+    }
+
+    pub fn is_tag_name_end(&self, b: u8) -> bool
+        ensures { result ≡ is_tag_name_end b }
+    {
+        self.class_of(b) < 2
+    }
+
+    // Where a tag's raw name ends, or its prefix does.
+    pub fn is_name_stop(&self, b: u8) -> bool
+        ensures { result ≡ is_name_stop b }
+    {
+        self.class_of(b) < 3
+    }
+
+    pub fn is_attribute_name_end(&self, b: u8) -> bool
+        ensures { result ≡ is_attribute_name_end b }
+    {
+        self.class_of(b) < 4 && b != b':'
+    }
+}
+
+// ---- the table lent as an array
 
 // The table. A constant is built anew on the stack wherever it is used, so a loop that looks up many bytes
 // has the table made once and lends it.
