@@ -1,76 +1,80 @@
 -- Laws of the entries: the tests of a name, and the answer after them.
-use mathlib.Core.Path.{◌≡◌, refl}
+use mathlib.Core.Path.{◌≡◌, refl, ap, ◌∙◌}
 use mathlib.Core.List.{List}
 use Prim.Native.Nat.{ℕ, ◌≤◌, ◌<◌, ◌^◌}
 use lib.ListN.{length}
 use borrow.Author.Tests.{lt-ltb, le-ltb}
 use Rattle.texts.specs.Scan.{scan, is_ascii}
-use Rattle.refusals.specs.declared.Answer.TheVariants as answer
+use Rattle.std.specs.Prelude.{Ok, Err, IsErrAnd}
+use Rattle.std.proofs.lemmas.Result.{err_from_is_err_and}
+use Rattle.refusals.specs.Figures.{Answer}
 use Rattle.refusals.specs.declared.Refusal.{Refusal}
 use Rattle.refusals.specs.declared.Refusal.TheVariants.{TooLong, NotAscii, NoRoom}
 use Rattle.printing.specs.Printed.{Printed}
 use Rattle.printing.specs.Output.{output_after}
 use Rattle.printing.proofs.Finishing.{no_room, wrote, wrote-output}
-use Rattle.names.specs.declared.Tested.{Tested}
-use Rattle.names.specs.declared.Tested.TheVariants.{Fine, Refused}
-use Rattle.names.specs.Entry.{tested, tested_two, answer_after, Answers}
+use Rattle.names.specs.Entry.{Tested, tested, tested_two, answer_after, Answers}
 
 -- ---- one name
 
-pub test-long : (s : List ℕ) → 32768 < length s → Refused TooLong ≡ tested s
+pub test-long : (s : List ℕ) → 32768 < length s → Err TooLong ≡ tested s
 unfolding tested
 test-long s h = rw (lt-ltb 32768 (length s) h)
 
 module _ (s : List ℕ) (h : length s ≤ 32768) {at : ℕ} (e : at ≡ scan is_ascii s 0) where
-  pub test-high : at < length s → Refused (NotAscii at) ≡ tested s
+  pub test-high : at < length s → Err (NotAscii at) ≡ tested s
   unfolding tested
   test-high l = rw (le-ltb 32768 (length s) h, ← e, lt-ltb at (length s) l)
 
-  pub test-fine : length s ≤ at → Fine ≡ tested s
+  pub test-fine : length s ≤ at → Ok tt ≡ tested s
   unfolding tested
   test-fine l = rw (le-ltb 32768 (length s) h, ← e, le-ltb at (length s) l)
 
 -- ---- two names
 
-pub two-long : (v n : List ℕ) → 32768 < length v → Refused TooLong ≡ tested_two v n
+pub two-long : (v n : List ℕ) → 32768 < length v → Err TooLong ≡ tested_two v n
 unfolding tested_two
 two-long v n h = rw (lt-ltb 32768 (length v) h)
 
 module _ (v n : List ℕ) (h : length v ≤ 32768) where
-  pub two-other-long : 32768 < length n → Refused TooLong ≡ tested_two v n
+  pub two-other-long : 32768 < length n → Err TooLong ≡ tested_two v n
   unfolding tested_two
   two-other-long k = rw (le-ltb 32768 (length v) h, lt-ltb 32768 (length n) k)
 
   module _ (k : length n ≤ 32768) {at : ℕ} (e : at ≡ scan is_ascii v 0) where
-    pub two-high : at < length v → Refused (NotAscii at) ≡ tested_two v n
+    pub two-high : at < length v → Err (NotAscii at) ≡ tested_two v n
     unfolding tested_two
     two-high l = rw (le-ltb 32768 (length v) h, le-ltb 32768 (length n) k, ← e, lt-ltb at (length v) l)
 
     module _ (l : length v ≤ at) {at₂ : ℕ} (e₂ : at₂ ≡ scan is_ascii n 0) where
-      pub two-other-high : at₂ < length n → Refused (NotAscii at₂) ≡ tested_two v n
+      pub two-other-high : at₂ < length n → Err (NotAscii at₂) ≡ tested_two v n
       unfolding tested_two
       two-other-high m = rw (le-ltb 32768 (length v) h, le-ltb 32768 (length n) k, ← e, le-ltb at (length v) l, ← e₂, lt-ltb at₂ (length n) m)
 
-      pub two-fine : length n ≤ at₂ → Fine ≡ tested_two v n
+      pub two-fine : length n ≤ at₂ → Ok tt ≡ tested_two v n
       unfolding tested_two
       two-fine m = rw (le-ltb 32768 (length v) h, le-ltb 32768 (length n) k, ← e, le-ltb at (length v) l, ← e₂, le-ltb at₂ (length n) m)
 
--- ---- the answer: t is what the tests say, d what the code was told
+-- ---- the answer: t is what the tests say
 
-module _ {t : Tested} (text out : List ℕ) {d : Tested} (e : d ≡ t) where
-  pub entry-refused : {q : Refusal} → d ≡ Refused q → Answers t text out out (answer.Refused q)
+module _ {t : Tested} (text out : List ℕ) where
+  -- what a `?` hands on
+  pub entry-refused : {q : Refusal} → Err q ≡ t → {r : Answer} → IsErrAnd r (λ e. e ≡ q) → Answers t text out out r
   unfolding answer_after output_after
-  entry-refused f = record { is = rw (← e, f); output = refl }
+  entry-refused {q} e {r} h =
+      let p = err_from_is_err_and r h in
+      let g : r ≡ Err q = p.1 ∙ ap (λ x. Err x) p.2 in
+      record { is = rw (← e) g; output = rw g refl }
 
-  module _ (f : d ≡ Fine) {z z' : List ℕ} {n : ℕ} (m : Printed z 0 z' n text) where
-    pub entry-no-room : length out < n → Answers t text out out (answer.Refused NoRoom)
+  module _ {u : Unit {0}} (e : Ok u ≡ t) {z z' : List ℕ} {n : ℕ} (m : Printed z 0 z' n text) where
+    pub entry-no-room : length out < n → Answers t text out out (Err NoRoom)
     unfolding answer_after output_after
-    entry-no-room h = record { is = rw (← e, f) (no_room out m h); output = refl }
+    entry-no-room h = record { is = rw (← e) (no_room out m h); output = refl }
 
-    pub entry-wrote : n ≤ length out → length out < 2 ^ 63 → {out' : List ℕ} {k : ℕ} → Printed out 0 out' k text → Answers t text out out' (answer.Accepted k)
+    pub entry-wrote : n ≤ length out → length out < 2 ^ 63 → {out' : List ℕ} {k : ℕ} → Printed out 0 out' k text → Answers t text out out' (Ok k)
     unfolding answer_after
     entry-wrote h l w =
         record {
-          is = rw (← e, f) (wrote m h l w);
+          is = rw (← e) (wrote m h l w);
           output = rw (wrote m h l w) (wrote-output m h l w);
         }

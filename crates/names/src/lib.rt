@@ -12,151 +12,120 @@ ghost use Rattle.conversions.specs.Conversions.{camel_to_snake, snake_to_camel, 
 ghost use Rattle.names.specs.Entry.{tested, tested_two, Answers};
 
 use conversions::{convert, prefix};
-use refusals::{Answer, Refusal};
+use refusals::Refusal;
 
 // The longest name that is taken.
 const MAX_NAME: usize = 32768;
 
-// What is said of a name before it is converted.
-#[derive(Clone, Copy)]
-pub enum Tested {
-    Fine,
-    Refused(Refusal),
-}
-
 // 1 and 10 of one name.
-fn test(name: &[u8]) -> Tested
+fn test(name: &[u8]) -> Result<(), Refusal>
     ensures { result ≡ tested name.now }
 {
     if MAX_NAME < name.len() {
-        return Tested::Refused(Refusal::TooLong);
+        return Err(Refusal::TooLong);
     }
     let at = texts::ascii_end(name);
     if at < name.len() {
-        return Tested::Refused(Refusal::NotAscii { at });
+        return Err(Refusal::NotAscii { at });
     }
-    Tested::Fine
+    Ok(())
 }
 
 // 1 of both names, then 10 of both.
-fn test_two(value: &[u8], enum_name: &[u8]) -> Tested
+fn test_two(value: &[u8], enum_name: &[u8]) -> Result<(), Refusal>
     ensures { result ≡ tested_two value.now enum_name.now }
 {
     if MAX_NAME < value.len() {
-        return Tested::Refused(Refusal::TooLong);
+        return Err(Refusal::TooLong);
     }
     if MAX_NAME < enum_name.len() {
-        return Tested::Refused(Refusal::TooLong);
+        return Err(Refusal::TooLong);
     }
     let at = texts::ascii_end(value);
     if at < value.len() {
-        return Tested::Refused(Refusal::NotAscii { at });
+        return Err(Refusal::NotAscii { at });
     }
     let at = texts::ascii_end(enum_name);
     if at < enum_name.len() {
-        return Tested::Refused(Refusal::NotAscii { at });
+        return Err(Refusal::NotAscii { at });
     }
-    Tested::Fine
+    Ok(())
 }
 
-pub fn camel_to_snake(name: &[u8], out: &mut [u8]) -> Answer
+pub fn camel_to_snake(name: &[u8], out: &mut [u8]) -> Result<usize, Refusal>
     ensures { Answers (tested name.now) (camel_to_snake name.now) out.old out.new result }
 {
-    match test(name) {
-        Tested::Refused(r) => Answer::Refused(r),
-        Tested::Fine => {
-            let mut none = [0u8; 0];
-            let n = convert::put_snake(&mut none, 0, name);
-            if out.len() < n {
-                return Answer::Refused(Refusal::NoRoom);
-            }
-            let m = convert::put_snake(out, 0, name);
-            Answer::Accepted(m)
-        }
+    test(name)?;
+    let mut none = [0u8; 0];
+    let n = convert::put_snake(&mut none, 0, name);
+    if out.len() < n {
+        return Err(Refusal::NoRoom);
     }
+    let m = convert::put_snake(out, 0, name);
+    Ok(m)
 }
 
-pub fn snake_to_camel(name: &[u8], out: &mut [u8]) -> Answer
+pub fn snake_to_camel(name: &[u8], out: &mut [u8]) -> Result<usize, Refusal>
     ensures { Answers (tested name.now) (snake_to_camel name.now) out.old out.new result }
 {
-    match test(name) {
-        Tested::Refused(r) => Answer::Refused(r),
-        Tested::Fine => {
-            let mut none = [0u8; 0];
-            let n = convert::put_camel(&mut none, 0, name);
-            if out.len() < n {
-                return Answer::Refused(Refusal::NoRoom);
-            }
-            let m = convert::put_camel(out, 0, name);
-            Answer::Accepted(m)
-        }
+    test(name)?;
+    let mut none = [0u8; 0];
+    let n = convert::put_camel(&mut none, 0, name);
+    if out.len() < n {
+        return Err(Refusal::NoRoom);
     }
+    let m = convert::put_camel(out, 0, name);
+    Ok(m)
 }
 
-pub fn camel_to_screaming_snake(name: &[u8], out: &mut [u8]) -> Answer
+pub fn camel_to_screaming_snake(name: &[u8], out: &mut [u8]) -> Result<usize, Refusal>
     ensures { Answers (tested name.now) (camel_to_screaming_snake name.now) out.old out.new result }
 {
-    match test(name) {
-        Tested::Refused(r) => Answer::Refused(r),
-        Tested::Fine => {
-            let mut none = [0u8; 0];
-            let n = convert::put_screaming(&mut none, 0, name);
-            if out.len() < n {
-                return Answer::Refused(Refusal::NoRoom);
-            }
-            let m = convert::put_screaming(out, 0, name);
-            Answer::Accepted(m)
-        }
+    test(name)?;
+    let mut none = [0u8; 0];
+    let n = convert::put_screaming(&mut none, 0, name);
+    if out.len() < n {
+        return Err(Refusal::NoRoom);
     }
+    let m = convert::put_screaming(out, 0, name);
+    Ok(m)
 }
 
-pub fn screaming_snake_to_pascal(name: &[u8], out: &mut [u8]) -> Answer
+pub fn screaming_snake_to_pascal(name: &[u8], out: &mut [u8]) -> Result<usize, Refusal>
     ensures { Answers (tested name.now) (screaming_snake_to_pascal name.now) out.old out.new result }
 {
-    match test(name) {
-        Tested::Refused(r) => Answer::Refused(r),
-        Tested::Fine => {
-            let mut none = [0u8; 0];
-            let n = convert::put_pascal(&mut none, 0, name);
-            if out.len() < n {
-                return Answer::Refused(Refusal::NoRoom);
-            }
-            let m = convert::put_pascal(out, 0, name);
-            Answer::Accepted(m)
-        }
+    test(name)?;
+    let mut none = [0u8; 0];
+    let n = convert::put_pascal(&mut none, 0, name);
+    if out.len() < n {
+        return Err(Refusal::NoRoom);
     }
+    let m = convert::put_pascal(out, 0, name);
+    Ok(m)
 }
 
-pub fn singular_pascal(name: &[u8], out: &mut [u8]) -> Answer
+pub fn singular_pascal(name: &[u8], out: &mut [u8]) -> Result<usize, Refusal>
     ensures { Answers (tested name.now) (singular_pascal name.now) out.old out.new result }
 {
-    match test(name) {
-        Tested::Refused(r) => Answer::Refused(r),
-        Tested::Fine => {
-            let mut none = [0u8; 0];
-            let n = convert::put_singular(&mut none, 0, name);
-            if out.len() < n {
-                return Answer::Refused(Refusal::NoRoom);
-            }
-            let m = convert::put_singular(out, 0, name);
-            Answer::Accepted(m)
-        }
+    test(name)?;
+    let mut none = [0u8; 0];
+    let n = convert::put_singular(&mut none, 0, name);
+    if out.len() < n {
+        return Err(Refusal::NoRoom);
     }
+    let m = convert::put_singular(out, 0, name);
+    Ok(m)
 }
 
-pub fn strip_enum_prefix(value: &[u8], enum_name: &[u8], out: &mut [u8]) -> Answer
+pub fn strip_enum_prefix(value: &[u8], enum_name: &[u8], out: &mut [u8]) -> Result<usize, Refusal>
     ensures { Answers (tested_two value.now enum_name.now) (strip_enum_prefix value.now enum_name.now) out.old out.new result }
 {
-    match test_two(value, enum_name) {
-        Tested::Refused(r) => Answer::Refused(r),
-        Tested::Fine => {
-            let mut none = [0u8; 0];
-            let n = prefix::put_stripped(&mut none, 0, value, enum_name);
-            if out.len() < n {
-                return Answer::Refused(Refusal::NoRoom);
-            }
-            let m = prefix::put_stripped(out, 0, value, enum_name);
-            Answer::Accepted(m)
-        }
+    test_two(value, enum_name)?;
+    let mut none = [0u8; 0];
+    let n = prefix::put_stripped(&mut none, 0, value, enum_name);
+    if out.len() < n {
+        return Err(Refusal::NoRoom);
     }
+    let m = prefix::put_stripped(out, 0, value, enum_name);
+    Ok(m)
 }

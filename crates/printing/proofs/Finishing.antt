@@ -6,7 +6,7 @@ use native.Mathlib.Omega.{arith}
 use lib.ListN.{length, take, drop, set}
 use lib.Seq.{sets, sets-eq}
 use borrow.Author.Tests.{lt-ltb, le-ltb}
-use Rattle.refusals.specs.declared.Answer.TheVariants.{Accepted, Refused}
+use Rattle.std.specs.Prelude.{Ok, Err}
 use Rattle.refusals.specs.declared.Refusal.TheVariants.{NoRoom}
 use Rattle.printing.specs.Printed.{last, next, past, laid, Printed}
 use Rattle.printing.specs.Output.{finished, output_after}
@@ -34,7 +34,7 @@ module _ (out : List ℕ) {e e' : List ℕ} {n : ℕ} {t : List ℕ} (m : Printe
   longer : length out < length t
   longer = omega (arith, m.to, past-le 0 t)
 
-  pub no_room : Refused NoRoom ≡ finished t (length out)
+  pub no_room : Err NoRoom ≡ finished t (length out)
   unfolding finished
   no_room = rw (lt-ltb (length out) (length t) longer)
 
@@ -52,7 +52,7 @@ module _ {e e' out out' : List ℕ} {n k : ℕ} {t : List ℕ} (m : Printed e 0 
   fits : length t ≤ length out
   fits = omega (arith, m.to, size)
 
-  pub wrote : Accepted k ≡ finished t (length out)
+  pub wrote : Ok k ≡ finished t (length out)
   unfolding finished
   wrote = rw (le-ltb (length out) (length t) fits, w.to, size)
 

@@ -1,15 +1,14 @@
 -- What an entry whose text is finished answers, and what its output holds afterwards (01: refusal 3, and demand 1).
-use Rattle.std.specs.Prelude.{List, ◌++◌, ℕ, ltb, length, drop}
+use Rattle.std.specs.Prelude.{List, ◌++◌, ℕ, ltb, length, drop, Ok, Err}
 use Rattle.texts.specs.Choice.{pick}
-use Rattle.refusals.specs.declared.Answer.{Answer}
-use Rattle.refusals.specs.declared.Answer.TheVariants.{Accepted, Refused}
+use Rattle.refusals.specs.Figures.{Answer}
 use Rattle.refusals.specs.declared.Refusal.TheVariants.{NoRoom}
 
 -- a finished text for an output of `room` bytes: 3 where the output is shorter than the text
 unfoldable pub finished : List ℕ → ℕ → Answer
-finished text room = pick (ltb room (length text)) (Refused NoRoom) (Accepted (length text))
+finished text room = pick (ltb room (length text)) (Err NoRoom) (Ok (length text))
 
 -- the output after an answer: the text and then the rest as it was, or, after a refusal, what it held
 unfoldable pub output_after : Answer → List ℕ → List ℕ → List ℕ
-output_after (Accepted n) text out = text ++ drop n out
-output_after (Refused r) text out = out
+output_after (Ok n) text out = text ++ drop n out
+output_after (Err r) text out = out

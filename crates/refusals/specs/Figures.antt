@@ -1,9 +1,7 @@
 -- 01, "What a box answers, by who caused it": number, offset and place of each refusal.
-use Rattle.std.specs.Prelude.{ℕ}
+use Rattle.std.specs.Prelude.{ℕ, Result, Ok, Err}
 use Rattle.refusals.specs.declared.Refusal.{Refusal}
 use Rattle.refusals.specs.declared.Refusal.TheVariants.{TooLong, NoWorkSpace, NoRoom, NotAscii, OpenComment, OpenInstruction, OpenDeclaration, NoCloseTagEnd, NoTagName, OpenTag, NoAttributeName, NoEquals, NoQuote, OpenValue, WrongClose, OpenElements, BadNumber, MisplacedField, TooDeep, TooManyItems, ArrayInComposite, ArrayInMessage}
-use Rattle.refusals.specs.declared.Answer.{Answer}
-use Rattle.refusals.specs.declared.Answer.TheVariants.{Accepted, Refused}
 
 abbrev pub number_of : Refusal → ℕ
 number_of TooLong = 1
@@ -79,19 +77,23 @@ place_of (TooManyItems place) = place
 place_of (ArrayInComposite place) = place
 place_of (ArrayInMessage place) = place
 
+-- what an entry answers: the output's length, or the refusal. 01's "answer".
+abbrev pub Answer : Type 0
+Answer = Result ℕ Refusal
+
 -- the same figures of a whole answer: an acceptance has number, offset and place 0, a refusal n 0
 abbrev pub number_in : Answer → ℕ
-number_in (Accepted n) = 0
-number_in (Refused r) = number_of r
+number_in (Ok n) = 0
+number_in (Err r) = number_of r
 
 abbrev pub offset_in : Answer → ℕ
-offset_in (Accepted n) = 0
-offset_in (Refused r) = offset_of r
+offset_in (Ok n) = 0
+offset_in (Err r) = offset_of r
 
 abbrev pub place_in : Answer → ℕ
-place_in (Accepted n) = 0
-place_in (Refused r) = place_of r
+place_in (Ok n) = 0
+place_in (Err r) = place_of r
 
 abbrev pub written_in : Answer → ℕ
-written_in (Accepted n) = n
-written_in (Refused r) = 0
+written_in (Ok n) = n
+written_in (Err r) = 0

@@ -1,4 +1,4 @@
-// What a box answers: accepted with the output's length, or one numbered refusal.
+// What a box answers: the output's length, or one numbered refusal, as a `Result<usize, Refusal>`.
 //
 // A refusal is a case of `Refusal` with the places it carries; code never passes bare numbers
 // around. `number`, `offset` and `place` give the figures of 01, "What a box answers", and promise
@@ -11,7 +11,7 @@ ghost use Rattle.refusals.specs.Figures.{number_of, offset_of, place_of};
 
 // One case for each number of 01. `at` is both offset and place; a case without `offset` has the
 // offset 0.
-#[derive(Clone, Copy)]
+#[derive(Clone, Copy, Debug, PartialEq, Eq)]
 pub enum Refusal {
     // 1: the document, or a name, is longer than 32,768 bytes.
     TooLong,
@@ -59,117 +59,79 @@ pub enum Refusal {
     ArrayInMessage { place: usize },
 }
 
-// What an entry answers: the output's length, or the refusal.
-#[derive(Clone, Copy)]
-pub enum Answer {
-    Accepted(usize),
-    Refused(Refusal),
-}
-
-pub fn number(r: Refusal) -> u32
-    ensures { result ≡ number_of r }
-{
-    match r {
-        Refusal::TooLong => 1,
-        Refusal::NoWorkSpace => 2,
-        Refusal::NoRoom => 3,
-        Refusal::NotAscii { at: _ } => 10,
-        Refusal::OpenComment { at: _ } => 11,
-        Refusal::OpenInstruction { at: _ } => 12,
-        Refusal::OpenDeclaration { at: _ } => 13,
-        Refusal::NoCloseTagEnd {
-            offset: _,
-            place: _,
-        } => 14,
-        Refusal::NoTagName {
-            offset: _,
-            place: _,
-        } => 15,
-        Refusal::OpenTag {
-            offset: _,
-            place: _,
-        } => 16,
-        Refusal::NoAttributeName {
-            offset: _,
-            place: _,
-        } => 17,
-        Refusal::NoEquals {
-            offset: _,
-            place: _,
-        } => 18,
-        Refusal::NoQuote {
-            offset: _,
-            place: _,
-        } => 19,
-        Refusal::OpenValue {
-            offset: _,
-            place: _,
-        } => 20,
-        Refusal::WrongClose { place: _ } => 30,
-        Refusal::OpenElements { place: _ } => 31,
-        Refusal::BadNumber { place: _ } => 32,
-        Refusal::MisplacedField { place: _ } => 33,
-        Refusal::TooDeep { place: _ } => 34,
-        Refusal::TooManyItems { place: _ } => 35,
-        Refusal::ArrayInComposite { place: _ } => 40,
-        Refusal::ArrayInMessage { place: _ } => 41,
+impl Refusal {
+    pub fn number(self) -> u32
+        ensures { result ≡ number_of self }
+    {
+        match self {
+            Refusal::TooLong => 1,
+            Refusal::NoWorkSpace => 2,
+            Refusal::NoRoom => 3,
+            Refusal::NotAscii { .. } => 10,
+            Refusal::OpenComment { .. } => 11,
+            Refusal::OpenInstruction { .. } => 12,
+            Refusal::OpenDeclaration { .. } => 13,
+            Refusal::NoCloseTagEnd { .. } => 14,
+            Refusal::NoTagName { .. } => 15,
+            Refusal::OpenTag { .. } => 16,
+            Refusal::NoAttributeName { .. } => 17,
+            Refusal::NoEquals { .. } => 18,
+            Refusal::NoQuote { .. } => 19,
+            Refusal::OpenValue { .. } => 20,
+            Refusal::WrongClose { .. } => 30,
+            Refusal::OpenElements { .. } => 31,
+            Refusal::BadNumber { .. } => 32,
+            Refusal::MisplacedField { .. } => 33,
+            Refusal::TooDeep { .. } => 34,
+            Refusal::TooManyItems { .. } => 35,
+            Refusal::ArrayInComposite { .. } => 40,
+            Refusal::ArrayInMessage { .. } => 41,
+        }
     }
-}
 
-pub fn offset(r: Refusal) -> usize
-    ensures { result ≡ offset_of r }
-{
-    match r {
-        Refusal::TooLong => 0,
-        Refusal::NoWorkSpace => 0,
-        Refusal::NoRoom => 0,
-        Refusal::NotAscii { at } => at,
-        Refusal::OpenComment { at } => at,
-        Refusal::OpenInstruction { at } => at,
-        Refusal::OpenDeclaration { at } => at,
-        Refusal::NoCloseTagEnd { offset, place: _ } => offset,
-        Refusal::NoTagName { offset, place: _ } => offset,
-        Refusal::OpenTag { offset, place: _ } => offset,
-        Refusal::NoAttributeName { offset, place: _ } => offset,
-        Refusal::NoEquals { offset, place: _ } => offset,
-        Refusal::NoQuote { offset, place: _ } => offset,
-        Refusal::OpenValue { offset, place: _ } => offset,
-        Refusal::WrongClose { place: _ } => 0,
-        Refusal::OpenElements { place: _ } => 0,
-        Refusal::BadNumber { place: _ } => 0,
-        Refusal::MisplacedField { place: _ } => 0,
-        Refusal::TooDeep { place: _ } => 0,
-        Refusal::TooManyItems { place: _ } => 0,
-        Refusal::ArrayInComposite { place: _ } => 0,
-        Refusal::ArrayInMessage { place: _ } => 0,
+    pub fn offset(self) -> usize
+        ensures { result ≡ offset_of self }
+    {
+        match self {
+            Refusal::NotAscii { at }
+            | Refusal::OpenComment { at }
+            | Refusal::OpenInstruction { at }
+            | Refusal::OpenDeclaration { at } => at,
+            Refusal::NoCloseTagEnd { offset, .. }
+            | Refusal::NoTagName { offset, .. }
+            | Refusal::OpenTag { offset, .. }
+            | Refusal::NoAttributeName { offset, .. }
+            | Refusal::NoEquals { offset, .. }
+            | Refusal::NoQuote { offset, .. }
+            | Refusal::OpenValue { offset, .. } => offset,
+            _ => 0,
+        }
     }
-}
 
-pub fn place(r: Refusal) -> usize
-    ensures { result ≡ place_of r }
-{
-    match r {
-        Refusal::TooLong => 0,
-        Refusal::NoWorkSpace => 0,
-        Refusal::NoRoom => 0,
-        Refusal::NotAscii { at } => at,
-        Refusal::OpenComment { at } => at,
-        Refusal::OpenInstruction { at } => at,
-        Refusal::OpenDeclaration { at } => at,
-        Refusal::NoCloseTagEnd { offset: _, place } => place,
-        Refusal::NoTagName { offset: _, place } => place,
-        Refusal::OpenTag { offset: _, place } => place,
-        Refusal::NoAttributeName { offset: _, place } => place,
-        Refusal::NoEquals { offset: _, place } => place,
-        Refusal::NoQuote { offset: _, place } => place,
-        Refusal::OpenValue { offset: _, place } => place,
-        Refusal::WrongClose { place } => place,
-        Refusal::OpenElements { place } => place,
-        Refusal::BadNumber { place } => place,
-        Refusal::MisplacedField { place } => place,
-        Refusal::TooDeep { place } => place,
-        Refusal::TooManyItems { place } => place,
-        Refusal::ArrayInComposite { place } => place,
-        Refusal::ArrayInMessage { place } => place,
+    pub fn place(self) -> usize
+        ensures { result ≡ place_of self }
+    {
+        match self {
+            Refusal::TooLong | Refusal::NoWorkSpace | Refusal::NoRoom => 0,
+            Refusal::NotAscii { at }
+            | Refusal::OpenComment { at }
+            | Refusal::OpenInstruction { at }
+            | Refusal::OpenDeclaration { at } => at,
+            Refusal::NoCloseTagEnd { place, .. }
+            | Refusal::NoTagName { place, .. }
+            | Refusal::OpenTag { place, .. }
+            | Refusal::NoAttributeName { place, .. }
+            | Refusal::NoEquals { place, .. }
+            | Refusal::NoQuote { place, .. }
+            | Refusal::OpenValue { place, .. }
+            | Refusal::WrongClose { place }
+            | Refusal::OpenElements { place }
+            | Refusal::BadNumber { place }
+            | Refusal::MisplacedField { place }
+            | Refusal::TooDeep { place }
+            | Refusal::TooManyItems { place }
+            | Refusal::ArrayInComposite { place }
+            | Refusal::ArrayInMessage { place } => place,
+        }
     }
 }

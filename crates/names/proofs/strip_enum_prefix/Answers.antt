@@ -1,37 +1,12 @@
-use Prim.Native.Nat.{◌<◌, ◌^◌}
 use native.Mathlib.Omega.{arith}
-use lib.ListN.{length}
-use Rattle.names.proofs.Laws.{laws}
+use Rattle.names.proofs.Entering.{entry-refused, entry-no-room, entry-wrote}
 use Rattle.names.proofs.strip_enum_prefix.Goals as goal
 
-pub test_two-requires : goal.test_two-requires
-test_two-requires c = search laws
-
-pub enum_known-r : goal.enum_known-r
-enum_known-r c = search laws
-
-pub enum_told-1 : goal.enum_told-1
-enum_told-1 c = search laws
-
-pub slice_bounds-put_stripped-end : goal.slice_bounds-put_stripped-end
-slice_bounds-put_stripped-end c = search laws
-
-pub put_stripped-n-requires : goal.put_stripped-n-requires
-put_stripped-n-requires c = search laws
+pub returns-in_err-test_two : goal.returns-in_err-test_two
+returns-in_err-test_two c = entry-refused _ _ c.in_err-test_two.ensures c.from_residual.ensures.1
 
 pub returns-then-out-n : goal.returns-then-out-n
-returns-then-out-n c = search laws
+returns-then-out-n c = entry-no-room _ _ c.in_ok-test_two.ensures c.put_stripped-n.ensures c.if-out-n.true
 
-pub put_stripped-m-requires : goal.put_stripped-m-requires
-put_stripped-m-requires c = search laws
-
-pub returns-in-Refused : goal.returns-in-Refused
-returns-in-Refused c = search laws
-
-pub shape_of-out : goal.shape_of-out
-shape_of-out c = search laws
-
-pub returns-else-out-n : goal.returns-else-out-n
-returns-else-out-n c =
-    let l : length c.args.out.now < 2 ^ 63 = omega arith in
-    search laws
+pub returns : goal.returns
+returns c = entry-wrote _ _ c.in_ok-test_two.ensures c.put_stripped-n.ensures c.if-out-n.false (omega arith) c.put_stripped-m.ensures

@@ -7,14 +7,8 @@ returns-then-value-gt-MAX_NAME c = search laws
 pub returns-then-enum_name-gt-MAX_NAME : goal.returns-then-enum_name-gt-MAX_NAME
 returns-then-enum_name-gt-MAX_NAME c = search laws
 
-pub ascii_end-at-requires : goal.ascii_end-at-requires
-ascii_end-at-requires c = search laws
-
 pub returns-then-at-value : goal.returns-then-at-value
 returns-then-at-value c = search laws
-
-pub ascii_end-at-requires-2 : goal.ascii_end-at-requires-2
-ascii_end-at-requires-2 c = search laws
 
 pub returns-then-at-enum_name : goal.returns-then-at-enum_name
 returns-then-at-enum_name c = search laws
