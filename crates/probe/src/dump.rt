@@ -14,7 +14,7 @@ use model::{
     encoding_of, item, name_of, next_of, next_under, package_of, second_of,
 };
 use printing::{put_byte, put_decimal};
-use xmlschema::build::{Schema, read_schema};
+use xmlschema::build::read_schema;
 
 const PACKAGE: u8 = 0x80;
 
@@ -154,10 +154,10 @@ fn put_model(out: &mut [u8], m: Model, rec: &[u32], text: &[u8]) -> usize {
 pub fn schema(document: &[u8], records: &mut [u32], text: &mut [u8], output: &mut [u8]) -> Reading {
     let read = read_schema(document, records, text);
     match read {
-        Schema::Accepted(m) => {
+        Ok(m) => {
             let n = put_model(output, m, records, text);
             finished(n, output.len())
         }
-        Schema::Refused(r) => refused(0, r),
+        Err(r) => refused(0, r),
     }
 }

@@ -45,9 +45,9 @@ pub struct Reading {
 pub fn refused(n: usize, r: Refusal) -> Reading {
     Reading {
         n,
-        number: refusals::number(r),
-        offset: refusals::offset(r),
-        place: refusals::place(r),
+        number: r.number(),
+        offset: r.offset(),
+        place: r.place(),
     }
 }
 

@@ -17,7 +17,7 @@
 ghost use Rattle.std.specs.Prelude.{◌<◌, IfOk};
 
 use printing::put_byte;
-use refusals::Answer;
+use refusals::Refusal;
 use replaying::{hex_number, put_unhexed, read_full, write_answer, write_hexed};
 use std::io;
 use texts::{byte_at, part};
@@ -44,7 +44,7 @@ fn fill(out: &mut [u8], n: usize, b: u8) -> usize {
     p
 }
 
-fn convert(c: u8, value: &[u8], enum_name: &[u8], out: &mut [u8]) -> Answer {
+fn convert(c: u8, value: &[u8], enum_name: &[u8], out: &mut [u8]) -> Result<usize, Refusal> {
     match c {
         b'n' => names::camel_to_snake(value, out),
         b'c' => names::snake_to_camel(value, out),

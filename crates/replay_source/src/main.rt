@@ -10,7 +10,7 @@
 
 ghost use Rattle.std.specs.Prelude.{◌<◌, IfOk};
 
-use refusals::Answer;
+use refusals::Refusal;
 use replaying::{hex_number, put_unhexed, read_full, write_answer, write_hexed};
 use std::io;
 use texts::part;
@@ -19,10 +19,10 @@ use xmltoproto::xml_to_proto;
 // Where the document stands in a line.
 const DOCUMENT: usize = 5;
 
-fn length(answer: Answer) -> usize {
+fn length(answer: Result<usize, Refusal>) -> usize {
     match answer {
-        Answer::Accepted(n) => n,
-        Answer::Refused(_) => 0,
+        Ok(n) => n,
+        Err(_) => 0,
     }
 }
 

@@ -7,7 +7,7 @@
 ghost use Rattle.std.specs.Prelude.{◌<◌, ◌≤◌, length, IfOk};
 
 use printing::put_byte;
-use refusals::Answer;
+use refusals::Refusal;
 use std::io::{self, Read};
 use texts::{byte_at, part};
 
@@ -109,18 +109,10 @@ pub fn write_numbers(
 }
 
 // The four numbers of an answer.
-pub fn write_answer(rt: &impl Print, answer: Answer) -> io::Result<()> {
+pub fn write_answer(rt: &impl Print, answer: Result<usize, Refusal>) -> io::Result<()> {
     match answer {
-        Answer::Accepted(n) => write_numbers(rt, 0, 0, 0, n),
-        Answer::Refused(r) => {
-            write_numbers(
-                rt,
-                refusals::number(r),
-                refusals::offset(r),
-                refusals::place(r),
-                0,
-            )
-        }
+        Ok(n) => write_numbers(rt, 0, 0, 0, n),
+        Err(r) => { write_numbers(rt, r.number(), r.offset(), r.place(), 0) }
     }
 }
 

@@ -3,17 +3,15 @@ use mathlib.Core.Path.{◌≡◌, ◌∙◌, ap, sym}
 use mathlib.Core.List.{List}
 use Prim.Native.Nat.{ℕ}
 use borrow.Author.Rules.{rules}
-use Rattle.refusals.specs.declared.Answer.{Answer}
-use Rattle.refusals.specs.declared.Answer.TheVariants.{Refused}
+use Rattle.std.specs.Prelude.{Err}
 use Rattle.refusals.specs.declared.Refusal.{Refusal}
-use Rattle.refusals.specs.Figures.{number_of, offset_of, place_of, number_in, offset_in, place_in, written_in}
-use Rattle.names.specs.declared.Tested.{Tested}
-use Rattle.names.specs.Entry.{Answers}
+use Rattle.refusals.specs.Figures.{Answer, number_of, offset_of, place_of, number_in, offset_in, place_in, written_in}
+use Rattle.names.specs.Entry.{Tested, Answers}
 use Rattle.xmlschema.specs.Whole.{answer_of}
 use Rattle.xmltoproto.specs.Convert.{Converts}
 use Rattle.sbe.specs.Report.{Reports, NameReports, ConversionReports}
 
-pub refused-reports : {a : Answer} {q : Refusal} {x y z : ℕ} → a ≡ Refused q → x ≡ number_of q → y ≡ offset_of q → z ≡ place_of q → Reports a x y z 0
+pub refused-reports : {a : Answer} {q : Refusal} {x y z : ℕ} → a ≡ Err q → x ≡ number_of q → y ≡ offset_of q → z ≡ place_of q → Reports a x y z 0
 refused-reports f ex ey ez =
     record {
       the_number = ex ∙ ap number_in (sym f);

@@ -1,12 +1,10 @@
 -- The four numbers of an answer, and what a name conversion and the converter report.
 use Rattle.std.specs.Prelude.{◌≡◌, List, ℕ, length}
-use Rattle.refusals.specs.declared.Answer.{Answer}
-use Rattle.refusals.specs.Figures.{number_in, offset_in, place_in, written_in}
+use Rattle.refusals.specs.Figures.{Answer, number_in, offset_in, place_in, written_in}
 use Rattle.printing.specs.Output.{output_after}
 use Rattle.xmlschema.specs.Whole.{Whole}
 use Rattle.xmltoproto.specs.Convert.{converted, source_in}
-use Rattle.names.specs.declared.Tested.{Tested}
-use Rattle.names.specs.Entry.{answer_after}
+use Rattle.names.specs.Entry.{Tested, answer_after}
 
 pub record Reports (answer : Answer) (number offset place n : ℕ) : Type 0 where
   pub the_number : number ≡ number_in answer

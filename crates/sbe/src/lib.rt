@@ -10,24 +10,29 @@ ghost use Rattle.names.specs.Entry.{tested, tested_two};
 ghost use Rattle.xmlschema.specs.Whole.{answer_of};
 ghost use Rattle.sbe.specs.Report.{Reports, NameReports, ConversionReports};
 
-use refusals::Answer;
+use refusals::Refusal;
 
 // An answer as the four numbers that C takes.
-fn report(answer: Answer, offset: &mut usize, place: &mut usize, n: &mut usize) -> u32
+fn report(
+    answer: Result<usize, Refusal>,
+    offset: &mut usize,
+    place: &mut usize,
+    n: &mut usize,
+) -> u32
     ensures { Reports answer result offset.new place.new n.new }
 {
     match answer {
-        Answer::Accepted(k) => {
+        Ok(k) => {
             *offset = 0;
             *place = 0;
             *n = k;
             0
         }
-        Answer::Refused(r) => {
-            *offset = refusals::offset(r);
-            *place = refusals::place(r);
+        Err(r) => {
+            *offset = r.offset();
+            *place = r.place();
             *n = 0;
-            refusals::number(r)
+            r.number()
         }
     }
 }

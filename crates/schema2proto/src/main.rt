@@ -7,7 +7,7 @@
 
 ghost use Rattle.std.specs.Prelude.{◌≤◌, length, IfOk};
 
-use refusals::{Answer, Refusal};
+use refusals::Refusal;
 use std::io::{self, Read};
 
 // Reads until `buf` is full or the input ends, and answers how many bytes it put at the start.
@@ -26,9 +26,9 @@ fn read_full<R: Read>(input: &mut R, buf: &mut [u8]) -> io::Result<usize>
 }
 
 fn print_refusal(rt: &impl Print, r: Refusal) -> io::Result<()> {
-    let number = refusals::number(r);
-    let offset = refusals::offset(r);
-    let place = refusals::place(r);
+    let number = r.number();
+    let offset = r.offset();
+    let place = r.place();
     println!(rt; "refused\t{number}\t{offset}\t{place}")
 }
 
@@ -40,8 +40,8 @@ fn convert(
     output: &mut [u8],
 ) -> io::Result<()> {
     match xmltoproto::xml_to_proto(document, records, text, output) {
-        Answer::Refused(r) => print_refusal(rt, r),
-        Answer::Accepted(n) => rt.write_all(texts::part(output, 0, n)),
+        Err(r) => print_refusal(rt, r),
+        Ok(n) => rt.write_all(texts::part(output, 0, n)),
     }
 }
 

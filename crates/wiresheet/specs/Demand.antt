@@ -1,7 +1,6 @@
 -- Demand 3, about the bytes that two whole calls write: two plain, accepted, printed schemas have the same source exactly when
 -- their wire sheets are equal.
-use Rattle.std.specs.Prelude.{◌≡◌, Bool, true, ℕ}
-use Rattle.refusals.specs.declared.Answer.TheVariants.{Accepted}
+use Rattle.std.specs.Prelude.{◌≡◌, Bool, true, ℕ, Ok}
 use Rattle.model.specs.Schema.{Schema}
 use Rattle.xmlschema.specs.Whole.{Whole, accepted}
 use Rattle.xmltoproto.specs.Generate.{generated}
@@ -13,7 +12,7 @@ pub record PrintedAs (read : Whole) (room : ℕ) (s : Schema) : Type 0 where
   pub is : read ≡ accepted s
   pub plain : Plain s
   pub n : ℕ
-  pub printed : generated s room ≡ Accepted n
+  pub printed : generated s room ≡ Ok n
 
 -- r tells whether the sheets are equal
 pub record Decides (a : Whole) (roomA : ℕ) (b : Whole) (roomB : ℕ) (r : Bool) : Type 0 where

@@ -13,7 +13,6 @@ ghost use Rattle.std.specs.Prelude.{length};
 ghost use Rattle.xmlschema.specs.Whole.{answer_of};
 ghost use Rattle.wiresheet.specs.Demand.{Decides};
 
-use refusals::Answer;
 use texts::{equal, part};
 use xmltoproto::xml_to_proto;
 
@@ -33,11 +32,8 @@ pub fn same_source(
 {
     let a = xml_to_proto(document_a, records_a, text_a, output_a);
     let b = xml_to_proto(document_b, records_b, text_b, output_b);
-    match a {
-        Answer::Accepted(n) => match b {
-            Answer::Accepted(m) => equal(part(output_a, 0, n), part(output_b, 0, m)),
-            Answer::Refused(_) => false,
-        },
-        Answer::Refused(_) => false,
+    match (a, b) {
+        (Ok(n), Ok(m)) => equal(part(output_a, 0, n), part(output_b, 0, m)),
+        _ => false,
     }
 }

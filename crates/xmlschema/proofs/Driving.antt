@@ -25,8 +25,8 @@ use Rattle.xmlschema.specs.Whole.{step, accepted, refused_by, ending, run, readi
 use Rattle.model.specs.Store.{items_of, schema_of}
 use Rattle.builder.specs.Layout.{builder_of, stack_of, current, Kept, Ready, After, outcome, used_by}
 use Rattle.xmlschema.specs.Driving.{takes, Inside, first, shown, ReadInto, cursor_of}
-use Rattle.xmlschema.specs.declared.build.Schema.{Schema as Read-schema}
-use Rattle.xmlschema.specs.declared.build.Schema.TheVariants as read
+use Rattle.std.specs.Prelude.{Result, Ok, Err}
+use Rattle.model.specs.declared.Model.{Model}
 use Rattle.xmlschema.specs.declared.build.Mark.{Mark}
 use Rattle.builder.specs.declared.state.Limits.{Limits}
 use Rattle.builder.specs.declared.state.State.{State}
@@ -264,26 +264,26 @@ module _ (l : Limits) (doc : List ℕ) (c : Cursor) (s : State) (rec text : List
 
 module _ (doc rec text : List ℕ) where
   -- a refusal before anything is written
-  pub answer-long : 32768 < length doc → ReadInto doc rec text (read.Refused TooLong) rec text
+  pub answer-long : 32768 < length doc → ReadInto doc rec text (Err TooLong) rec text
   unfolding answer_of
   answer-long h = record { is = rw (lt-ltb 32768 (length doc) h); untouched = λ z. (refl, refl) }
 
   module _ (h : length doc ≤ 32768) where
-    pub answer-records : length rec < 16384 → ReadInto doc rec text (read.Refused NoWorkSpace) rec text
+    pub answer-records : length rec < 16384 → ReadInto doc rec text (Err NoWorkSpace) rec text
     unfolding answer_of
     answer-records k = record { is = rw (le-ltb 32768 (length doc) h, lt-ltb (length rec) 16384 k); untouched = λ z. (refl, refl) }
 
     module _ (k : 16384 ≤ length rec) where
-      pub answer-text : length text < 65536 → ReadInto doc rec text (read.Refused NoWorkSpace) rec text
+      pub answer-text : length text < 65536 → ReadInto doc rec text (Err NoWorkSpace) rec text
       unfolding answer_of
       answer-text t = record { is = rw (le-ltb 32768 (length doc) h, le-ltb (length rec) 16384 k, lt-ltb (length text) 65536 t); untouched = λ z. (refl, refl) }
 
       module _ (t : 65536 ≤ length text) {at : ℕ} (e : at ≡ scan is_ascii doc 0) where
-        pub answer-high : at < length doc → ReadInto doc rec text (read.Refused (NotAscii at)) rec text
+        pub answer-high : at < length doc → ReadInto doc rec text (Err (NotAscii at)) rec text
         unfolding answer_of
         answer-high l = record { is = rw (le-ltb 32768 (length doc) h, le-ltb (length rec) 16384 k, le-ltb (length text) 65536 t, ← e, lt-ltb at (length doc) l); untouched = λ z. (refl, refl) }
 
-        pub answer-read : length doc ≤ at → {r : Read-schema} {rec' text' : List ℕ} → shown r rec' text' ≡ reading the_limits doc → ReadInto doc rec text r rec' text'
+        pub answer-read : length doc ≤ at → {r : Result Model Refusal} {rec' text' : List ℕ} → shown r rec' text' ≡ reading the_limits doc → ReadInto doc rec text r rec' text'
         unfolding answer_of
         answer-read l q =
             record {

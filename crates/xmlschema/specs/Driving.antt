@@ -1,10 +1,12 @@
 -- What one event takes and where it lies, and what reading a document shows. Internal.
-use Rattle.std.specs.Prelude.{◌≡◌, Bool, true, false, List, ◌⊎◌, ℕ, ◌+◌, ◌-◌, ◌≤◌, ◌<◌, eqb, length}
+use Rattle.std.specs.Prelude.{◌≡◌, Bool, true, false, List, ◌⊎◌, ℕ, ◌+◌, ◌-◌, ◌≤◌, ◌<◌, eqb, length, Result, Ok, Err}
+use Rattle.refusals.specs.declared.Refusal.{Refusal}
 use Rattle.saxlite.specs.declared.reader.Event.{Event}
 use Rattle.saxlite.specs.declared.reader.Event.TheVariants.{Text, Open, Close, Skipped, End, Refused}
 use Rattle.saxlite.specs.declared.reader.Cursor.{Cursor}
 use Rattle.saxlite.specs.Passing.{Idle}
 use Rattle.model.specs.Store.{schema_of}
+use Rattle.model.specs.declared.Model.{Model}
 use Rattle.xmlschema.specs.Whole.{Whole, accepted, refused_by, answer_of}
 use Rattle.texts.specs.Text.{piece, same}
 use Rattle.elements.specs.Leaf.{IsLeaf}
@@ -13,8 +15,6 @@ use Rattle.builder.specs.Layout.{Tagged, stack_of, higher}
 use Rattle.builder.specs.declared.state.State.{State}
 use Rattle.xmlschema.specs.declared.build.Mark.{Mark}
 use Rattle.xmlschema.specs.declared.build.Reached.{Reached}
-use Rattle.xmlschema.specs.declared.build.Schema.{Schema}
-use Rattle.xmlschema.specs.declared.build.Schema.TheVariants as read
 
 -- the bytes of text that an event may take
 abbrev pub takes : Event → ℕ
@@ -65,11 +65,11 @@ pub record Shuts (doc rec : List ℕ) (s : State) (m : Mark) (r : Reached) : Typ
       × (r ≡ record { state = higher s; mark = record { at = m.at; owed = 0; place = 0; name = 0; len = 0 } }))
 
 -- what an answer says, with the records and the text as they are then
-abbrev pub shown : Schema → List ℕ → List ℕ → Whole
-shown (read.Accepted m) rec text = accepted (schema_of m rec text)
-shown (read.Refused r) rec text = refused_by r
+abbrev pub shown : Result Model Refusal → List ℕ → List ℕ → Whole
+shown (Ok m) rec text = accepted (schema_of m rec text)
+shown (Err r) rec text = refused_by r
 
 -- what reading a document promises: the answer, and where a buffer is too short, both hold what they held
-pub record ReadInto (doc rec text : List ℕ) (r : Schema) (rec' text' : List ℕ) : Type 0 where
+pub record ReadInto (doc rec text : List ℕ) (r : Result Model Refusal) (rec' text' : List ℕ) : Type 0 where
   pub is : shown r rec' text' ≡ answer_of doc (length rec) (length text)
   pub untouched : (length rec < 16384) ⊎ (length text < 65536) → (rec' ≡ rec) × (text' ≡ text)

@@ -30,12 +30,6 @@ const MIN_RECORDS: usize = 16384;
 
 const MIN_TEXT: usize = 65536;
 
-#[derive(Clone, Copy)]
-pub enum Schema {
-    Accepted(Model),
-    Refused(Refusal),
-}
-
 fn unchanged(s: State) -> Stepped
     ensures { result ≡ record { state = s; verdict = Verdict.Fine } }
 {
@@ -270,7 +264,7 @@ fn past_text(doc: &[u8], collecting: bool, depth: usize, m: Mark) -> Mark
 }
 
 // Reads a document whose length and bytes, and the buffers, are tested.
-fn read_tested(l: Limits, doc: &[u8], rec: &mut [u32], text: &mut [u8]) -> Schema
+fn read_tested(l: Limits, doc: &[u8], rec: &mut [u32], text: &mut [u8]) -> Result<Model, Refusal>
     requires { (length doc.now ≤ 32768) × (16384 ≤ length rec.old) × (65536 ≤ length text.old) × (l.items ≤ 1024) × (l.depth ≤ 64) }
     ensures { shown result rec.new text.new ≡ reading l doc.now }
 {
@@ -289,16 +283,16 @@ fn read_tested(l: Limits, doc: &[u8], rec: &mut [u32], text: &mut [u8]) -> Schem
                 mark = on;
             }
             Verdict::Refused(why) => {
-                return Schema::Refused(why);
+                return Err(why);
             }
         }
     }
     let depth = state.place.depth;
     if 0 < depth {
-        return Schema::Refused(Refusal::OpenElements { place: doc.len() });
+        return Err(Refusal::OpenElements { place: doc.len() });
     }
     let head = state.head;
-    Schema::Accepted(Model {
+    Ok(Model {
         head,
         count: state.place.count,
     })
@@ -334,21 +328,21 @@ fn first_state() -> State
 // The whole document: 1, 2, 10, then 11 to 35 as it is read, then 31. Where it is accepted, the two
 // buffers hold the model that the accessors of `model` show; where one is too short, nothing is
 // written to either.
-pub fn read_schema(doc: &[u8], rec: &mut [u32], text: &mut [u8]) -> Schema
+pub fn read_schema(doc: &[u8], rec: &mut [u32], text: &mut [u8]) -> Result<Model, Refusal>
     ensures { ReadInto doc.now rec.old text.old result rec.new text.new }
 {
     if MAX_DOCUMENT < doc.len() {
-        return Schema::Refused(Refusal::TooLong);
+        return Err(Refusal::TooLong);
     }
     if rec.len() < MIN_RECORDS {
-        return Schema::Refused(Refusal::NoWorkSpace);
+        return Err(Refusal::NoWorkSpace);
     }
     if text.len() < MIN_TEXT {
-        return Schema::Refused(Refusal::NoWorkSpace);
+        return Err(Refusal::NoWorkSpace);
     }
     let at = ascii_end(doc);
     if at < doc.len() {
-        return Schema::Refused(Refusal::NotAscii { at });
+        return Err(Refusal::NotAscii { at });
     }
     let l = Limits {
         items: MAX_ITEMS,

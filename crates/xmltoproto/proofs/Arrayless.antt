@@ -16,7 +16,7 @@ use Rattle.xmltoproto.specs.Types.{form_of, built_in, built_ins, is_array, is_de
 use Rattle.xmltoproto.specs.Composites.{is_printed}
 use Rattle.xmltoproto.specs.Arrays.{first_from, refused_composite, is_array_type, holds_array, refused_message, array_refusal}
 use Rattle.xmltoproto.specs.Refusing.{refusing, Arrayless}
-use Rattle.xmltoproto.specs.declared.arrays.Arrays.TheVariants.{Fine}
+use Rattle.std.specs.Prelude.{Ok, Err}
 
 -- ---- a test that holds of nothing
 
@@ -83,9 +83,9 @@ module _ (s : Schema) (a : Arrayless s) where
   unfolding refused_composite
   composite-none c = rw (any_none (λ m. is_array (form_of (item_at s m))) (under a_member c s) a.none) (by-test (is_printed (item_at s c)) (λ t. rw t) (λ f. rw f))
 
-  none-refused : Fine ≡ refusing (array_refusal s)
+  none-refused : Ok tt ≡ refusing (array_refusal s)
   unfolding array_refusal
   none-refused = rw (first-none 0 (refused_composite s) (all_of a_composite s) composite-none, first-none 0 (refused_message s) (all_of a_message s) message-none)
 
-pub none_told : (s : Schema) {b : Bool} → (b ≡ false → Arrayless s) → b ≡ false → Fine ≡ refusing (array_refusal s)
+pub none_told : (s : Schema) {b : Bool} → (b ≡ false → Arrayless s) → b ≡ false → Ok tt ≡ refusing (array_refusal s)
 none_told s h f = none-refused s (h f)

@@ -9,7 +9,9 @@ use lib.Dec.{eqb, leb}
 use lib.ListN.{length}
 use borrow.Author.Tests.{le-leb, leb-true, leb-false}
 use Rattle.texts.proofs.Choosing.{by-test}
-use Rattle.refusals.specs.declared.Answer.TheVariants as answer
+use Rattle.std.specs.Prelude.{Ok, Err, IsErrAnd}
+use Rattle.std.proofs.lemmas.Result.{err_from_is_err_and}
+use Rattle.refusals.specs.Figures.{Answer}
 use Rattle.refusals.specs.declared.Refusal.{Refusal}
 use Rattle.refusals.specs.declared.Refusal.TheVariants.{NoRoom}
 use Rattle.printing.specs.Printed.{past, skipped, laid, Printed}
@@ -22,32 +24,34 @@ use Rattle.xmltoproto.specs.Source.{source}
 use Rattle.xmltoproto.specs.Arrays.{array_refusal}
 use Rattle.xmltoproto.specs.Refusing.{refusing}
 use Rattle.xmltoproto.specs.Generate.{generated, Generated}
-use Rattle.xmltoproto.specs.declared.arrays.Arrays.{Arrays}
-use Rattle.xmltoproto.specs.declared.arrays.Arrays.TheVariants.{Fine, Refused}
 
-some-refused : (o : Option Refusal) (q : Refusal) → refusing o ≡ Refused q → o ≡ some q
+some-refused : (o : Option Refusal) (q : Refusal) → Err q ≡ refusing o → o ≡ some q
 some-refused none q e = absurd (let z : ◌≡◌ {A = ℕ} 0 1 = cc in omega arith)
 some-refused (some r) q e = cc
 
-none-fine : (o : Option Refusal) → refusing o ≡ Fine → o ≡ none
+none-fine : (o : Option Refusal) {u : Unit {0}} → Ok u ≡ refusing o → o ≡ none
 none-fine none e = refl
 none-fine (some r) e = absurd (let z : ◌≡◌ {A = ℕ} 0 1 = cc in omega arith)
 
-module _ (s : Schema) (out : List ℕ) {d : Arrays} (e : d ≡ refusing (array_refusal s)) where
-  pub generated-refused : {q : Refusal} → d ≡ Refused q → Generated s out out (answer.Refused q)
+module _ (s : Schema) (out : List ℕ) where
+  -- what a `?` hands on
+  pub generated-refused : {q : Refusal} → Err q ≡ refusing (array_refusal s) → {r : Answer} → IsErrAnd r (λ e. e ≡ q) → Generated s out out r
   unfolding generated output_after
-  generated-refused {q} f = record { is = rw (some-refused (array_refusal s) q (sym e ∙ f)); output = refl }
+  generated-refused {q} e {r} h =
+      let p = err_from_is_err_and r h in
+      let g : r ≡ Err q = p.1 ∙ ap (λ x. Err x) p.2 in
+      record { is = rw (some-refused (array_refusal s) q e) g; output = rw g refl }
 
-  module _ (f : d ≡ Fine) {b : Bool} (eb : b ≡ leb (past 0 (source s)) (length out)) where
+  module _ {u : Unit {0}} (e : Ok u ≡ refusing (array_refusal s)) {b : Bool} (eb : b ≡ leb (past 0 (source s)) (length out)) where
     accepted : generated s (length out) ≡ finished (source s) (length out)
     unfolding generated
-    accepted = rw (none-fine (array_refusal s) (sym e ∙ f))
+    accepted = rw (none-fine (array_refusal s) e)
 
-    pub generated-no-room : b ≡ false → Generated s out out (answer.Refused NoRoom)
+    pub generated-no-room : b ≡ false → Generated s out out (Err NoRoom)
     unfolding output_after
     generated-no-room v = record { is = no_room out (first_part {o = []}) (leb-false (past 0 (source s)) (length out) (sym eb ∙ v)) ∙ sym accepted; output = refl }
 
-    pub generated-wrote : b ≡ true → length out < 2 ^ 63 → {out' : List ℕ} {k : ℕ} → Printed out 0 out' k (source s) → Generated s out out' (answer.Accepted k)
+    pub generated-wrote : b ≡ true → length out < 2 ^ 63 → {out' : List ℕ} {k : ℕ} → Printed out 0 out' k (source s) → Generated s out out' (Ok k)
     generated-wrote v l w =
         let m : Printed [] 0 (laid [] 0 (source s)) (past 0 (source s)) (source s) = first_part in
         let h = leb-true (past 0 (source s)) (length out) (sym eb ∙ v) in

@@ -19,7 +19,7 @@ use Rattle.xmltoproto.specs.Shapes.{form, meaning_in}
 use Rattle.xmltoproto.specs.Refusing.{refusing}
 use Rattle.xmltoproto.specs.declared.types.Sense.{Sense}
 use Rattle.xmltoproto.specs.declared.types.Sense.TheVariants as sense
-use Rattle.xmltoproto.specs.declared.arrays.Arrays.TheVariants.{Fine, Refused}
+use Rattle.std.specs.Prelude.{Ok, Err}
 
 -- ---- one type
 
@@ -83,32 +83,32 @@ module _ (s : Schema) (i : ℕ) {a : Bool} (ea : a ≡ holds_array s i) where
 -- ---- the first
 
 module _ (s : Schema) {q : Position} (eq : q ≡ found (first_from 0 (refused_composite s) (all_of a_composite s))) where
-  pub refused-composite : {c : ℕ} → q ≡ At c → Refused (ArrayInComposite c) ≡ refusing (array_refusal s)
+  pub refused-composite : {c : ℕ} → q ≡ At c → Err (ArrayInComposite c) ≡ refusing (array_refusal s)
   unfolding array_refusal
   refused-composite {c} f = go (first_from 0 (refused_composite s) (all_of a_composite s)) (first_from 0 (refused_message s) (all_of a_message s)) (sym eq ∙ f)
     where
-      go : (o u : Option ℕ) → found o ≡ At c → Refused (ArrayInComposite c) ≡ refusing (first_of o u)
+      go : (o u : Option ℕ) → found o ≡ At c → Err (ArrayInComposite c) ≡ refusing (first_of o u)
       go none none g = absurd (let z : ◌≡◌ {A = ℕ} 0 1 = cc in omega arith)
       go none (some j) g = absurd (let z : ◌≡◌ {A = ℕ} 0 1 = cc in omega arith)
       go (some j) none g = let e : c ≡ j = cc in rw e
       go (some j) (some k) g = let e : c ≡ j = cc in rw e
 
   module _ (nq : q ≡ Nothing) {r : Position} (er : r ≡ found (first_from 0 (refused_message s) (all_of a_message s))) where
-    pub refused-message : {c : ℕ} → r ≡ At c → Refused (ArrayInMessage c) ≡ refusing (array_refusal s)
+    pub refused-message : {c : ℕ} → r ≡ At c → Err (ArrayInMessage c) ≡ refusing (array_refusal s)
     unfolding array_refusal
     refused-message {c} f = go (first_from 0 (refused_composite s) (all_of a_composite s)) (first_from 0 (refused_message s) (all_of a_message s)) (sym eq ∙ nq) (sym er ∙ f)
       where
-        go : (o u : Option ℕ) → found o ≡ Nothing → found u ≡ At c → Refused (ArrayInMessage c) ≡ refusing (first_of o u)
+        go : (o u : Option ℕ) → found o ≡ Nothing → found u ≡ At c → Err (ArrayInMessage c) ≡ refusing (first_of o u)
         go none none g h = absurd (let z : ◌≡◌ {A = ℕ} 0 1 = cc in omega arith)
         go none (some j) g h = let e : c ≡ j = cc in rw e
         go (some j) none g h = absurd (let z : ◌≡◌ {A = ℕ} 0 1 = cc in omega arith)
         go (some j) (some k) g h = absurd (let z : ◌≡◌ {A = ℕ} 0 1 = cc in omega arith)
 
-    pub refused_none : r ≡ Nothing → Fine ≡ refusing (array_refusal s)
+    pub refused_none : r ≡ Nothing → Ok tt ≡ refusing (array_refusal s)
     unfolding array_refusal
     refused_none f = go (first_from 0 (refused_composite s) (all_of a_composite s)) (first_from 0 (refused_message s) (all_of a_message s)) (sym eq ∙ nq) (sym er ∙ f)
       where
-        go : (o u : Option ℕ) → found o ≡ Nothing → found u ≡ Nothing → Fine ≡ refusing (first_of o u)
+        go : (o u : Option ℕ) → found o ≡ Nothing → found u ≡ Nothing → Ok tt ≡ refusing (first_of o u)
         go none none g h = refl
         go none (some j) g h = absurd (let z : ◌≡◌ {A = ℕ} 0 1 = cc in omega arith)
         go (some j) none g h = absurd (let z : ◌≡◌ {A = ℕ} 0 1 = cc in omega arith)

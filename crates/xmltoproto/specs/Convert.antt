@@ -1,8 +1,7 @@
 -- The converter: what it answers for a document, and what its output holds afterwards. 01's order: 1, 2, 10, 11 to 35 as the
 -- document is read, 31, 40, 41, then 3.
-use Rattle.std.specs.Prelude.{◌≡◌, List, [], ℕ, length}
-use Rattle.refusals.specs.declared.Answer.{Answer}
-use Rattle.refusals.specs.declared.Answer.TheVariants.{Refused}
+use Rattle.std.specs.Prelude.{◌≡◌, List, [], ℕ, length, Err}
+use Rattle.refusals.specs.Figures.{Answer}
 use Rattle.printing.specs.Output.{output_after}
 use Rattle.xmlschema.specs.Whole.{Whole, accepted, refused_by, answer_of}
 use Rattle.xmltoproto.specs.Source.{source}
@@ -11,7 +10,7 @@ use Rattle.xmltoproto.specs.Generate.{generated}
 -- the answer for what was read, with an output of `room` bytes
 abbrev pub converted : Whole → ℕ → Answer
 converted (accepted s) room = generated s room
-converted (refused_by r) room = Refused r
+converted (refused_by r) room = Err r
 
 abbrev pub source_in : Whole → List ℕ
 source_in (accepted s) = source s

@@ -1,8 +1,7 @@
 -- What the generator answers for a schema: 40, 41, then 3, in this order; and what its output holds afterwards.
-use Rattle.std.specs.Prelude.{◌≡◌, List, ℕ, length}
+use Rattle.std.specs.Prelude.{◌≡◌, List, ℕ, length, Err}
 use Rattle.std.proofs.Math.Option.{Option, none, some}
-use Rattle.refusals.specs.declared.Answer.{Answer}
-use Rattle.refusals.specs.declared.Answer.TheVariants.{Refused}
+use Rattle.refusals.specs.Figures.{Answer}
 use Rattle.refusals.specs.declared.Refusal.{Refusal}
 use Rattle.printing.specs.Output.{finished, output_after}
 use Rattle.model.specs.Schema.{Schema}
@@ -11,7 +10,7 @@ use Rattle.xmltoproto.specs.Arrays.{array_refusal}
 
 -- the answer after the array refusals, where the source is `text` and the output has `room` bytes
 abbrev pub answer_after : Option Refusal → List ℕ → ℕ → Answer
-answer_after (some r) text room = Refused r
+answer_after (some r) text room = Err r
 answer_after none text room = finished text room
 
 unfoldable pub generated : Schema → ℕ → Answer

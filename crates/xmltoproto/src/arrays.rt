@@ -15,13 +15,6 @@ use index::child;
 use model::{COMPOSITE, FIELD, GROUP, MEMBER, MESSAGE, Model, Position, count, item, next_of};
 use refusals::Refusal;
 
-// What is said of a schema before it is printed.
-#[derive(Clone, Copy)]
-pub enum Arrays {
-    Fine,
-    Refused(Refusal),
-}
-
 // ---- composites
 
 fn is_member_array(m: Model, rec: &[u32], text: &[u8], i: u32) -> bool
@@ -207,26 +200,26 @@ fn has_arrays(m: Model, rec: &[u32], text: &[u8]) -> bool
 }
 
 // 40 by composite, then 41 by message.
-fn first_refusal(m: Model, rec: &[u32], text: &[u8], ix: &[u16]) -> Arrays
+fn first_refusal(m: Model, rec: &[u32], text: &[u8], ix: &[u16]) -> Result<(), Refusal>
     requires { Indexed (schema_of m rec.now text.now) ix.now }
     ensures { result ≡ refusing (array_refusal (schema_of m rec.now text.now)) }
 {
     match first_composite(m, rec, text, ix) {
-        Position::At(c) => Arrays::Refused(Refusal::ArrayInComposite { place: c as usize }),
+        Position::At(c) => Err(Refusal::ArrayInComposite { place: c as usize }),
         Position::Nothing => match first_message(m, rec, text, ix) {
-            Position::At(i) => Arrays::Refused(Refusal::ArrayInMessage { place: i as usize }),
-            Position::Nothing => Arrays::Fine,
+            Position::At(i) => Err(Refusal::ArrayInMessage { place: i as usize }),
+            Position::Nothing => Ok(()),
         },
     }
 }
 
 // The same, where there is anything to look for.
-pub fn array_refusal(m: Model, rec: &[u32], text: &[u8], ix: &[u16]) -> Arrays
+pub fn array_refusal(m: Model, rec: &[u32], text: &[u8], ix: &[u16]) -> Result<(), Refusal>
     requires { Indexed (schema_of m rec.now text.now) ix.now }
     ensures { result ≡ refusing (array_refusal (schema_of m rec.now text.now)) }
 {
     if has_arrays(m, rec, text) {
         return first_refusal(m, rec, text, ix);
     }
-    Arrays::Fine
+    Ok(())
 }

@@ -26,13 +26,13 @@ ghost use Rattle.xmltoproto.specs.Source.{source};
 ghost use Rattle.xmltoproto.specs.Generate.{Generated};
 ghost use Rattle.xmltoproto.specs.Convert.{Converts};
 
-use crate::arrays::{Arrays, array_refusal};
+use crate::arrays::array_refusal;
 use crate::bound::source_most;
 use crate::source::put_source;
 use index::{FEW, FEW_SIZE, LEAST, LEAST_SIZE, MOST, SIZE, SOME, SOME_SIZE, build};
 use model::{Model, count};
-use refusals::{Answer, Refusal};
-use xmlschema::build::{Schema, read_schema};
+use refusals::Refusal;
+use xmlschema::build::read_schema;
 
 // Whether the source fits into `room` bytes: by its bound where that is enough, else it is measured.
 fn has_room(m: Model, rec: &[u32], text: &[u8], ix: &[u16], room: usize) -> bool
@@ -49,23 +49,25 @@ fn has_room(m: Model, rec: &[u32], text: &[u8], ix: &[u16], room: usize) -> bool
 }
 
 // The array refusals, then the source, where it fits.
-fn generate_in(m: Model, rec: &[u32], text: &[u8], ix: &[u16], out: &mut [u8]) -> Answer
+fn generate_in(
+    m: Model,
+    rec: &[u32],
+    text: &[u8],
+    ix: &[u16],
+    out: &mut [u8],
+) -> Result<usize, Refusal>
     requires { Indexed (schema_of m rec.now text.now) ix.now }
     ensures { Generated (schema_of m rec.now text.now) out.old out.new result }
 {
-    match array_refusal(m, rec, text, ix) {
-        Arrays::Refused(r) => Answer::Refused(r),
-        Arrays::Fine => {
-            if has_room(m, rec, text, ix, out.len()) {
-                let written = put_source(out, 0, m, rec, text, ix);
-                return Answer::Accepted(written);
-            }
-            Answer::Refused(Refusal::NoRoom)
-        }
+    array_refusal(m, rec, text, ix)?;
+    if has_room(m, rec, text, ix, out.len()) {
+        let written = put_source(out, 0, m, rec, text, ix);
+        return Ok(written);
     }
+    Err(Refusal::NoRoom)
 }
 
-pub fn generate(m: Model, rec: &[u32], text: &[u8], out: &mut [u8]) -> Answer
+pub fn generate(m: Model, rec: &[u32], text: &[u8], out: &mut [u8]) -> Result<usize, Refusal>
     ensures { Generated (schema_of m rec.now text.now) out.old out.new result }
 {
     let n = count(m, rec, text);
@@ -96,11 +98,9 @@ pub fn xml_to_proto(
     records: &mut [u32],
     text: &mut [u8],
     output: &mut [u8],
-) -> Answer
+) -> Result<usize, Refusal>
     ensures { Converts document.now (length records.old) (length text.old) output.old output.new result }
 {
-    match read_schema(document, records, text) {
-        Schema::Refused(r) => Answer::Refused(r),
-        Schema::Accepted(m) => generate(m, records, text, output),
-    }
+    let m = read_schema(document, records, text)?;
+    generate(m, records, text, output)
 }
