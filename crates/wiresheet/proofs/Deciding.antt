@@ -56,9 +56,6 @@ module _ (doc : List ℕ) (R B : ℕ) (out out' : List ℕ) {r : Answer} (c : Co
       let o : out' ≡ source s ++ drop n out = c.output ∙ ap (λ x. output_after x (source_in (answer_of doc R B)) out) e ∙ ap (λ x. source_in x ++ drop n out) p.is in
       ew ∙ ap (take n) o ∙ take_at (source s) (drop n out) n l
 
-  pub not-refused : {q : Refusal} → r ≡ Err q → ⊥
-  not-refused e = let z : ◌≡◌ {A = ℕ} 0 1 = cc (accepts) in omega arith
-
 -- ---- two calls
 
 module _ (docA : List ℕ) (Ra BA : ℕ) (outA outA' : List ℕ) (docB : List ℕ) (RB BB : ℕ) (outB outB' : List ℕ) {a b : Answer} (ca : Converts docA Ra BA outA outA' a) (cb : Converts docB RB BB outB outB' b) where
@@ -69,11 +66,3 @@ module _ (docA : List ℕ) (Ra BA : ℕ) (outA outA' : List ℕ) (docB : List �
         same = λ s t p q v. source-decides s t p.plain q.plain (sym (left-source docA Ra BA outA outA' ca s p ea ex) ∙ same-equal x y (sym er ∙ v) ∙ left-source docB RB BB outB outB' cb t q eb ey);
         told = λ s t p q v. er ∙ equal-same (left-source docA Ra BA outA outA' ca s p ea ex ∙ sheet-decides s t v ∙ sym (left-source docB RB BB outB outB' cb t q eb ey));
       }
-
-  pub first-refused : {q : Refusal} → a ≡ Err q → Decides (answer_of docA Ra BA) (length outA) (answer_of docB RB BB) (length outB) false
-  first-refused e = record { same = λ s t p q v. absurd (not-refused docA Ra BA outA outA' ca s p e); told = λ s t p q v. absurd (not-refused docA Ra BA outA outA' ca s p e) }
-
-  pub second-refused : {q : Refusal} → b ≡ Err q → Decides (answer_of docA Ra BA) (length outA) (answer_of docB RB BB) (length outB) false
-  second-refused e = record { same = λ s t p q v. absurd (not-refused docB RB BB outB outB' cb t q e); told = λ s t p q v. absurd (not-refused docB RB BB outB outB' cb t q e) }
-
-pub ruleset deciding = (both-printed, first-refused, second-refused, rules)
