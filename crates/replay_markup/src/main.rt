@@ -7,22 +7,18 @@
 // `probe` describes: all of them, or those before the refusal.
 #![tactic(auto)]
 
-ghost use Rattle.std.specs.Prelude.{◌<◌, IfOk};
-
+use inputs::read_full;
 use probe::Reading;
-use replaying::{hex_number, put_unhexed, read_full, write_hexed, write_numbers};
+use replaying::{put_unhexed, replay_documents, write_hexed, write_numbers};
 use std::io;
 use texts::part;
-
-// Where the document stands in a line.
-const DOCUMENT: usize = 5;
 
 fn write_reading(rt: &impl Print, r: Reading) -> io::Result<()> {
     write_numbers(rt, r.number, r.offset, r.place, r.n)
 }
 
 // Reads the document that `hex` stands for, and writes its events.
-fn replay(rt: &impl Print, hex: &[u8]) -> io::Result<()> {
+fn replay<R: Print>(rt: &R, hex: &[u8]) -> io::Result<()> {
     let mut document = [0u8; 65536];
     let mut out = [0u8; 65536];
     let n = put_unhexed(&mut document, 0, hex);
@@ -31,25 +27,8 @@ fn replay(rt: &impl Print, hex: &[u8]) -> io::Result<()> {
     write_hexed(rt, part(&out, 0, reading.n))
 }
 
-// Replays the line at the beginning of `s`, and answers its length.
-fn replay_line(rt: &impl Print, s: &[u8]) -> io::Result<usize>
-    ensures { IfOk result (λ n. (0 < n) × (n < 1048576)) }
-{
-    let digits = 2 * hex_number(s);
-    replay(rt, part(s, DOCUMENT, digits))?;
-    Ok(DOCUMENT + digits + 1)
-}
-
-fn replay_all(rt: &impl Print, s: &[u8]) -> io::Result<()> {
-    let mut at = 0;
-    while at < s.len() {
-        at += replay_line(rt, part(s, at, s.len()))?;
-    }
-    Ok(())
-}
-
 fn main(rt: HostRuntime) -> io::Result<()> {
     let mut input = [0u8; 65536];
     let n = read_full(&mut rt.stdin(), &mut input)?;
-    replay_all(&rt, &input[..n])
+    replay_documents(&rt, &input[..n], replay)
 }

@@ -16,9 +16,10 @@
 
 ghost use Rattle.std.specs.Prelude.{◌<◌, IfOk};
 
+use inputs::read_full;
 use printing::put_byte;
 use refusals::Refusal;
-use replaying::{hex_number, put_unhexed, read_full, write_answer, write_hexed};
+use replaying::{hex_number, put_unhexed, write_answer, write_hexed};
 use std::io;
 use texts::{byte_at, part};
 
@@ -36,10 +37,8 @@ const NAMES: usize = 22;
 // Fills `out` with `b`, up to `n` bytes, and answers how many there are.
 fn fill(out: &mut [u8], n: usize, b: u8) -> usize {
     let mut p = 0;
-    let mut i = 0;
-    while i < n {
+    for _ in 0..n {
         p = put_byte(out, p, b);
-        i += 1;
     }
     p
 }

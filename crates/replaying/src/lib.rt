@@ -4,33 +4,12 @@
 // number, offset, place and n in decimal, then bytes in hex. Proved safe and ending.
 #![tactic(auto)]
 
-ghost use Rattle.std.specs.Prelude.{◌<◌, ◌≤◌, length, IfOk};
+ghost use Rattle.std.specs.Prelude.{◌<◌};
 
 use printing::put_byte;
 use refusals::Refusal;
-use std::io::{self, Read};
+use std::io;
 use texts::{byte_at, part};
-
-// Reads until `buf` is full or the input ends, and answers how many bytes it put at the start.
-pub fn read_full<R: Read>(input: &mut R, buf: &mut [u8]) -> io::Result<usize>
-    ensures { IfOk result (λ n. n ≤ length buf.new) }
-{
-    let mut done = 0;
-    while done < buf.len() {
-        let n = input.read(&mut buf[done..])?;
-        if n == 0 {
-            break;
-        }
-        done += n;
-    }
-    Ok(done)
-}
-
-fn wide(b: u8) -> usize
-    ensures { result < 256 }
-{
-    b as usize
-}
 
 // What a hex digit stands for. Any other byte counts as 0.
 fn digit(b: u8) -> u8
@@ -54,7 +33,7 @@ pub fn hex_number(s: &[u8]) -> usize
 {
     let high = hex_byte(byte_at(s, 0), byte_at(s, 1));
     let low = hex_byte(byte_at(s, 2), byte_at(s, 3));
-    wide(high) * 256 + wide(low)
+    usize::from(high) * 256 + usize::from(low)
 }
 
 // The hex digit of a number below 16.
@@ -69,11 +48,8 @@ fn hex_digit(n: u8) -> u8 {
 // Puts the bytes that `hex` stands for, two digits each.
 pub fn put_unhexed(out: &mut [u8], at: usize, hex: &[u8]) -> usize {
     let mut p = at;
-    let mut i = 0;
-    while i < hex.len() {
-        let b = hex_byte(byte_at(hex, i), byte_at(hex, i + 1));
-        p = put_byte(out, p, b);
-        i += 2;
+    for pair in hex.chunks(2) {
+        p = put_byte(out, p, hex_byte(byte_at(pair, 0), byte_at(pair, 1)));
     }
     p
 }
@@ -81,18 +57,11 @@ pub fn put_unhexed(out: &mut [u8], at: usize, hex: &[u8]) -> usize {
 // Puts the bytes of `s` in hex.
 fn put_hexed(out: &mut [u8], at: usize, s: &[u8]) -> usize {
     let mut p = at;
-    let mut i = 0;
-    while i < s.len() {
-        let b = s[i];
-        let q = put_byte(out, p, hex_digit(b / 16));
-        p = put_byte(out, q, hex_digit(b % 16));
-        i += 1;
+    for b in s {
+        let q = put_byte(out, p, hex_digit(*b / 16));
+        p = put_byte(out, q, hex_digit(*b % 16));
     }
     p
-}
-
-fn write_number(rt: &impl Print, n: u64) -> io::Result<()> {
-    print!(rt; "{n} ")
 }
 
 pub fn write_numbers(
@@ -102,10 +71,7 @@ pub fn write_numbers(
     place: usize,
     n: usize,
 ) -> io::Result<()> {
-    write_number(rt, number as u64)?;
-    write_number(rt, offset as u64)?;
-    write_number(rt, place as u64)?;
-    write_number(rt, n as u64)
+    print!(rt; "{number} {offset} {place} {n} ")
 }
 
 // The four numbers of an answer.
@@ -122,4 +88,25 @@ pub fn write_hexed(rt: &impl Print, s: &[u8]) -> io::Result<()> {
     let p = put_hexed(&mut line, 0, s);
     let n = put_byte(&mut line, p, b'\n');
     rt.write_all(part(&line, 0, n))
+}
+
+// Where the document stands in a line that has one alone, behind its length in four hex digits and a space.
+const DOCUMENT: usize = 5;
+
+// Replays each line of `s`, which has a document in hex.
+pub fn replay_documents<R: Print, F: Fn(&R, &[u8]) -> io::Result<()>>(
+    rt: &R,
+    s: &[u8],
+    replay: F,
+) -> io::Result<()>
+    requires { F.IsAlwaysCallable replay }
+{
+    let mut at = 0;
+    while at < s.len() {
+        let line = part(s, at, s.len());
+        let digits = 2 * hex_number(line);
+        replay(rt, part(line, DOCUMENT, digits))?;
+        at += DOCUMENT + digits + 1;
+    }
+    Ok(())
 }

@@ -5,25 +5,9 @@
 // refusal 1. All the work is xmltoproto::xml_to_proto; what is read and written is not proved.
 #![tactic(auto)]
 
-ghost use Rattle.std.specs.Prelude.{◌≤◌, length, IfOk};
-
+use inputs::read_full;
 use refusals::Refusal;
-use std::io::{self, Read};
-
-// Reads until `buf` is full or the input ends, and answers how many bytes it put at the start.
-fn read_full<R: Read>(input: &mut R, buf: &mut [u8]) -> io::Result<usize>
-    ensures { IfOk result (λ n. n ≤ length buf.new) }
-{
-    let mut done = 0;
-    while done < buf.len() {
-        let n = input.read(&mut buf[done..])?;
-        if n == 0 {
-            break;
-        }
-        done += n;
-    }
-    Ok(done)
-}
+use std::io;
 
 fn print_refusal(rt: &impl Print, r: Refusal) -> io::Result<()> {
     let number = r.number();

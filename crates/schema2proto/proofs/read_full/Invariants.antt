@@ -1,9 +1,0 @@
--- What is read lies in the buffer, and each turn leaves less of it to fill.
-use Rattle.std.proofs.Common.{length, ◌-◌, ◌≤◌}
-use Rattle.schema2proto.proofs.read_full.Given as goal
-
-abbrev pub invariant-loop-done : goal.invariant-loop-done
-invariant-loop-done g l = l.done ≤ length l.buf
-
-abbrev pub decreases-loop-done : goal.decreases-loop-done
-decreases-loop-done g l = length l.buf - l.done
