@@ -1,17 +1,19 @@
--- Laws of comparing two texts: what the loops of `equal` and `starts_with` keep, and what the answers mean.
+-- Laws of comparing two texts: what the library's comparisons of slices say, and what the answers mean.
 use mathlib.Core.Path.{◌≡◌, refl, sym, ap, ◌∙◌}
-use mathlib.Core.Bool.{Bool, true, false}
+use mathlib.Core.Bool.{Bool, true, false, true≢false}
 use mathlib.Core.List.{List, [], ◌∷◌, ◌++◌}
 use Prim.Native.Nat.{ℕ, suc, ◌+◌, ◌-◌, ◌≤◌, ◌<◌, zero-le, suc-le-suc}
 use native.Mathlib.Nat.{add-zero}
 use native.Mathlib.Numerals.{add-one}
 use native.Mathlib.Omega.{arith}
 use lib.Dec.{eqb}
-use lib.ListN.{length, drop, get_or, length-drop, drop_of_length-le}
-use lib.Seq.{drop-cons}
+use lib.Pointwise.{pointwise}
+use Rattle.std.specs.Prelude.{nat_eq, ◌&&◌}
+use lib.ListN.{length, take, drop, length-drop, drop_of_length-le}
+use lib.Seq.{take_all}
 use borrow.Author.Tests.{eq-eqb, ne_eqb, eqb-true}
 use Rattle.texts.specs.Choice.{◌and◌}
-use Rattle.texts.specs.Text.{same, starts_with}
+use Rattle.texts.specs.Text.{piece, same, starts_with}
 use Rattle.texts.proofs.Choosing.{by-test}
 
 -- ---- two texts
@@ -49,31 +51,19 @@ same-lengths a b n =
     (λ t. absurd (n (ap length (same-equal a b t))))
     (λ f. sym f)
 
--- a loop that compares a with b stands at i
-pub record Equating (a b : List ℕ) (i : ℕ) : Type 0 where
-  pub rest : same (drop i a) (drop i b) ≡ same a b
+-- the library's `==` of two slices
+same-step : (x y : ℕ) (xs ys : List ℕ) (b : Bool) → b ≡ same xs ys → (eqb x y && b) ≡ same (x ∷ xs) (y ∷ ys)
+same-step x y xs ys b e =
+    by-test (eqb x y)
+    (λ t. rw t (e ∙ sym (same-yes x y xs ys t)))
+    (λ f. rw f (sym (same-no x y xs ys f)))
 
-pub equating-start : {a b : List ℕ} → Equating a b 0
-equating-start = record { rest = refl }
-
-module _ {a b : List ℕ} {i : ℕ} (inv : Equating a b i) (l : length a ≡ length b) where
-  pub equating-on : i < length a → get_or a i 0 ≡ get_or b i 0 → Equating a b (i + 1)
-  equating-on h e =
-      let t = eq-eqb _ _ e in
-      let k : i < length b = omega arith in
-      record { rest = rw (← inv.rest, drop-cons a i 0, drop-cons b i 0, same-yes, add-one) }
-
-  pub equating-no : i < length a → (get_or a i 0 ≡ get_or b i 0 → ⊥) → false ≡ same a b
-  equating-no h e =
-      let t = ne_eqb _ _ e in
-      let k : i < length b = omega arith in
-      rw (← inv.rest, drop-cons a i 0, drop-cons b i 0, same-no)
-
-  pub equating-end : length a ≤ i → true ≡ same a b
-  unfolding same
-  equating-end h =
-      let k : length b ≤ i = omega arith in
-      rw (← inv.rest, drop_of_length-le a h, drop_of_length-le b k)
+pub pointwise-same : (a b : List ℕ) → pointwise nat_eq a b ≡ same a b
+unfolding same
+pointwise-same [] [] = refl
+pointwise-same [] (y ∷ ys) = refl
+pointwise-same (x ∷ xs) [] = refl
+pointwise-same (x ∷ xs) (y ∷ ys) = same-step x y xs ys (pointwise nat_eq xs ys) (pointwise-same xs ys)
 
 -- ---- a text at the front of another
 
@@ -117,25 +107,20 @@ starts-long n s at h =
     (λ t. absurd (let k : length n ≤ length (drop at s) = starts-length n (drop at s) t in omega (arith, length-drop at s)))
     (λ f. sym f)
 
--- a loop that compares n with s at `at` has passed j bytes
-pub record Matching (n s : List ℕ) (at j : ℕ) : Type 0 where
-  pub rest : starts_with (drop j n) (drop (at + j) s) ≡ starts_with n (drop at s)
+-- the library's `starts_with`
+starts-step : (n x : ℕ) (ns xs : List ℕ) (b : Bool) → b ≡ starts_with ns xs → (eqb n x && b) ≡ starts_with (n ∷ ns) (x ∷ xs)
+starts-step n x ns xs b e =
+    by-test (eqb x n)
+    (λ t. let u : eqb n x ≡ true = eq-eqb n x (sym (eqb-true x n t)) in rw u (e ∙ sym (starts-yes n x ns xs t)))
+    (λ f. let u : eqb n x ≡ false = ne_eqb n x (λ z. let w : eqb x n ≡ true = eq-eqb x n (sym z) in absurd (let y : ◌≡◌ {A = Bool} true false = cc in true≢false y)) in rw u (sym (starts-no n x ns xs f)))
 
-pub matching-start : {n s : List ℕ} {at : ℕ} → Matching n s at 0
-matching-start = record { rest = rw add-zero }
+pub pointwise-starts : (n s : List ℕ) → pointwise nat_eq n (take (length n) s) ≡ starts_with n s
+unfolding starts_with
+pointwise-starts [] s = refl
+pointwise-starts (n ∷ ns) [] = refl
+pointwise-starts (n ∷ ns) (x ∷ xs) = starts-step n x ns xs (pointwise nat_eq ns (take (length ns) xs)) (pointwise-starts ns xs)
 
-module _ {n s : List ℕ} {at j : ℕ} (inv : Matching n s at j) where
-  pub matching-on : at + j < length s → j < length n → get_or s (at + j) 0 ≡ get_or n j 0 → Matching n s at (j + 1)
-  matching-on h k e =
-      let t = eq-eqb _ _ e in
-      let z : at + suc j ≡ suc (at + j) = omega arith in
-      record { rest = rw (← inv.rest, drop-cons s (at + j) 0, drop-cons n j 0, starts-yes, add-one, z) }
-
-  pub matching-no : at + j < length s → j < length n → (get_or s (at + j) 0 ≡ get_or n j 0 → ⊥) → false ≡ starts_with n (drop at s)
-  matching-no h k e =
-      let t = ne_eqb _ _ e in
-      rw (← inv.rest, drop-cons s (at + j) 0, drop-cons n j 0, starts-no)
-
-  pub matching-end : length n ≤ j → true ≡ starts_with n (drop at s)
-  unfolding starts_with
-  matching-end k = rw (← inv.rest, drop_of_length-le n k)
+pub starts-rest : (n s : List ℕ) (at : ℕ) {r : List ℕ} → r ≡ piece s at (length s) → pointwise nat_eq n (take (length n) r) ≡ starts_with n (drop at s)
+starts-rest n s at {r} e =
+    let all : take (length s) (drop at s) ≡ drop at s = take_all (length s) (drop at s) (omega (arith, length-drop at s)) in
+    rw (e ∙ all) (pointwise-starts n (drop at s))

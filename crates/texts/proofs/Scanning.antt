@@ -73,48 +73,14 @@ module _ {s : List ℕ} {at i : ℕ} (inv : Scanning is_ascii s at i) (h : i < l
 or-below : (a b : ℕ) → bit_or a b < 128 → (a < 128) × (b < 128)
 or-below a b h = (omega (arith, or_add_and a b, and_le_r a b), omega (arith, or_add_and a b, and_le_l a b))
 
-module _ (s : List ℕ) (i : ℕ) (h : i + 8 ≤ length s) where
-  next : (k : ℕ) → k < 8 → Scanning is_ascii s i (i + k) → get_or s (i + k) 0 < 128 → Scanning is_ascii s i (i + suc k)
-  next k l inv b =
-      let e : i + k + 1 ≡ i + suc k = omega arith in
-      rw e at (ascii-on inv (omega arith) b)
-
-  pub ascii-eight : bit_or (bit_or (bit_or (bit_or (get_or s i 0) (get_or s (i + 1) 0)) (bit_or (get_or s (i + 2) 0) (get_or s (i + 3) 0))) (bit_or (get_or s (i + 4) 0) (get_or s (i + 5) 0))) (bit_or (get_or s (i + 6) 0) (get_or s (i + 7) 0)) < 128
-      → scan is_ascii s (i + 8) ≡ scan is_ascii s i
-  ascii-eight all =
-      let g : ℕ → ℕ = λ k. get_or s (i + k) 0 in
-      let ab = bit_or (get_or s i 0) (g 1) in
-      let cd = bit_or (g 2) (g 3) in
-      let ef = bit_or (g 4) (g 5) in
-      let gh = bit_or (g 6) (g 7) in
-      let most = or-below (bit_or (bit_or ab cd) ef) gh all in
-      let more = or-below (bit_or ab cd) ef most.0 in
-      let some = or-below ab cd more.0 in
-      let a = or-below (get_or s i 0) (g 1) some.0 in
-      let b = or-below (g 2) (g 3) some.1 in
-      let c = or-below (g 4) (g 5) more.1 in
-      let d = or-below (g 6) (g 7) most.1 in
-      (next 7 (omega arith) (next 6 (omega arith) (next 5 (omega arith) (next 4 (omega arith) (next 3 (omega arith) (next 2 (omega arith) (next 1 (omega arith) (ascii-on scan-start (omega arith) a.0) a.1) b.0) b.1) c.0) c.1) d.0) d.1).rest
-
--- what four stretches of n bytes give, one after the other
-module _ (s : List ℕ) (n i j k l m : ℕ) (hj : i + n ≡ j) (hk : j + n ≡ k) (hl : k + n ≡ l) (hm : l + n ≡ m) where
-  pub ascii-four : (a b c d : ℕ)
-      → (a < 128 → scan is_ascii s (i + n) ≡ scan is_ascii s i) → (b < 128 → scan is_ascii s (j + n) ≡ scan is_ascii s j)
-      → (c < 128 → scan is_ascii s (k + n) ≡ scan is_ascii s k) → (d < 128 → scan is_ascii s (l + n) ≡ scan is_ascii s l)
-      → bit_or (bit_or (bit_or a b) c) d < 128 → scan is_ascii s m ≡ scan is_ascii s i
-  ascii-four a b c d ha hb hc hd all =
-      let most = or-below (bit_or (bit_or a b) c) d all in
-      let more = or-below (bit_or a b) c most.0 in
-      let some = or-below a b more.0 in
-      let at : ℕ → ℕ = scan is_ascii s in
-      ap at (sym hm) ∙ hd most.1 ∙ ap at (sym hl) ∙ hc more.1 ∙ ap at (sym hk) ∙ hb some.1 ∙ ap at (sym hj) ∙ ha some.0
-
-module _ {s : List ℕ} {at i : ℕ} (inv : Scanning is_ascii s at i) where
-  pub stretch-on : (n : ℕ) → scan is_ascii s (i + n) ≡ scan is_ascii s i → Scanning is_ascii s at (i + n)
-  stretch-on n e = record { rest = e ∙ inv.rest }
-
-  pub scan-rest : {r : ℕ} → r ≡ scan is_ascii s i → r ≡ scan is_ascii s at
-  scan-rest e = e ∙ inv.rest
+-- the bits of k bytes from i on, and one byte more
+pub bits-on : (s : List ℕ) (i k all : ℕ) → i + k < length s → (all < 128 → scan is_ascii s (i + k) ≡ scan is_ascii s i)
+    → bit_or all (get_or s (i + k) 0) < 128 → scan is_ascii s (i + (k + 1)) ≡ scan is_ascii s i
+bits-on s i k all h inv l =
+    let both = or-below all (get_or s (i + k) 0) l in
+    let at : Scanning is_ascii s i (i + k) = record { rest = inv both.0 } in
+    let e : i + k + 1 ≡ i + (k + 1) = omega arith in
+    (rw e at (ascii-on at h both.1)).rest
 
 -- a scan goes on, and ends within the text where it starts there
 pub scan-from : (p : ℕ → Bool) (s : List ℕ) (at : ℕ) → at ≤ scan p s at

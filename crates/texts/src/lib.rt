@@ -12,6 +12,8 @@ ghost use Rattle.texts.specs.Text.{piece, same, starts_with};
 ghost use Rattle.texts.specs.Scan.{scan, is_ascii};
 ghost use Rattle.texts.specs.Trim.{is_blank, trimmed, TrimmedTo, KeptTo};
 
+use crate::scan::{ByteTest, scan_each};
+
 // `len` bytes from `from` on.
 #[derive(Clone, Copy)]
 pub struct Range {
@@ -45,17 +47,7 @@ pub fn byte_at(s: &[u8], i: usize) -> u8
 pub fn equal(a: &[u8], b: &[u8]) -> bool
     ensures { result ≡ same a.now b.now }
 {
-    if a.len() != b.len() {
-        return false;
-    }
-    let mut i = 0;
-    while i < a.len() {
-        if a[i] != b[i] {
-            return false;
-        }
-        i += 1;
-    }
-    true
+    a == b
 }
 
 // Whether `needle` stands at `at`.
@@ -63,103 +55,60 @@ pub fn starts_with(s: &[u8], at: usize, needle: &[u8]) -> bool
     ensures { result ≡ starts_with needle.now (drop at s.now) }
 {
     if s.len() <= at {
-        return needle.len() == 0;
+        return needle.is_empty();
     }
-    if s.len() - at < needle.len() {
-        return false;
+    let rest = part(s, at, s.len());
+    rest.starts_with(needle)
+}
+
+// ---- ASCII
+
+struct Ascii;
+
+impl ByteTest for Ascii {
+    ghost test = { is_ascii };
+
+    fn passes(&self, b: u8) -> bool {
+        b < 128
     }
-    let mut j = 0;
-    while j < needle.len() {
-        if s[at + j] != needle[j] {
-            return false;
-        }
-        j += 1;
+}
+
+// The bits of the `N` bytes from `i` on: one test tells of all of them.
+fn bits<const N: usize>(s: &[u8], i: usize) -> u8
+    requires { i + N ≤ length s.now }
+    ensures { result < 128 → scan is_ascii s.now (i + N) ≡ scan is_ascii s.now i }
+{
+    let mut all = 0;
+    for k in 0..N {
+        all |= s[i + k];
     }
-    true
+    all
 }
 
-// The bits of the 8 bytes from `i` on: below 128 where all of them are ASCII.
-fn bits_eight(s: &[u8], i: usize) -> u8
-    requires { i + 8 ≤ length s.now }
-    ensures { result < 128 → scan is_ascii s.now (i + 8) ≡ scan is_ascii s.now i }
-{
-    let a = s[i] | s[i + 1];
-    let b = s[i + 2] | s[i + 3];
-    let c = s[i + 4] | s[i + 5];
-    let d = s[i + 6] | s[i + 7];
-    a | b | c | d
-}
-
-// The same of 32 bytes.
-fn bits_block(s: &[u8], i: usize) -> u8
-    requires { i + 32 ≤ length s.now }
-    ensures { result < 128 → scan is_ascii s.now (i + 32) ≡ scan is_ascii s.now i }
-{
-    let a = bits_eight(s, i);
-    let b = bits_eight(s, i + 8);
-    let c = bits_eight(s, i + 16);
-    let d = bits_eight(s, i + 24);
-    a | b | c | d
-}
-
-// Whether the 128 bytes from `i` on are ASCII: one test for all of them.
-fn is_ascii_block(s: &[u8], i: usize) -> bool
-    requires { i + 128 ≤ length s.now }
-    ensures { result ≡ true → scan is_ascii s.now (i + 128) ≡ scan is_ascii s.now i }
-{
-    let a = bits_block(s, i);
-    let b = bits_block(s, i + 32);
-    let c = bits_block(s, i + 64);
-    let d = bits_block(s, i + 96);
-    let all = a | b | c | d;
-    all < 128
-}
-
-// Where the first byte of 128 or more stands from `from` on, or the end.
-#[tactic(auto, using(crate::proofs::Laws::laws))]
-fn ascii_from(s: &[u8], from: usize) -> usize
-    ensures { result ≡ scan is_ascii s.now from }
+// From `from` on past blocks of `N` bytes that are ASCII.
+fn past_blocks<const N: usize>(s: &[u8], from: usize) -> usize
+    requires some { 0 < N }
+    requires within { from ≤ length s.now }
+    ensures within { result ≤ length s.now }
+    ensures same { scan is_ascii s.now result ≡ scan is_ascii s.now from }
 {
     let mut i = from;
-    while i < s.len() {
-        if s[i] < 128 {
-            i += 1;
-        } else {
+    while N <= s.len() - i {
+        if 128 <= bits::<N>(s, i) {
             return i;
         }
+        i += N;
     }
     i
-}
-
-// The same, eight bytes at once.
-fn ascii_eights(s: &[u8], from: usize) -> usize
-    requires { from ≤ length s.now }
-    ensures { result ≡ scan is_ascii s.now from }
-{
-    let mut i = from;
-    while i + 8 <= s.len() {
-        if bits_eight(s, i) < 128 {
-            i += 8;
-        } else {
-            return ascii_from(s, i);
-        }
-    }
-    ascii_from(s, i)
 }
 
 // Where the first byte of 128 or more stands, or the end.
 pub fn ascii_end(s: &[u8]) -> usize
     ensures { result ≡ scan is_ascii s.now 0 }
 {
-    let mut i = 0;
-    while i + 128 <= s.len() {
-        if is_ascii_block(s, i) {
-            i += 128;
-        } else {
-            return ascii_eights(s, i);
-        }
-    }
-    ascii_eights(s, i)
+    let wide = past_blocks::<128>(s, 0);
+    let near = past_blocks::<8>(s, wide);
+    scan_each(s, near, &Ascii)
 }
 
 // ---- trimming
@@ -177,42 +126,33 @@ fn is_blank(b: u8) -> bool
     b == 32
 }
 
-// Where the first byte stands that is not blank, or the end.
-fn blank_end(s: &[u8]) -> usize
-    ensures { result ≡ scan is_blank s.now 0 }
-{
-    let mut i = 0;
-    while i < s.len() {
-        if is_blank(s[i]) {
-            i += 1;
-        } else {
-            return i;
-        }
+struct Blank;
+
+impl ByteTest for Blank {
+    ghost test = { is_blank };
+
+    fn passes(&self, b: u8) -> bool {
+        is_blank(b)
     }
-    i
 }
 
 // How many bytes are left when those at the back that are blank are dropped.
 fn kept(s: &[u8]) -> usize
     ensures { KeptTo s.now result }
 {
-    let mut n = s.len();
-    while 0 < n {
-        let i = n - 1;
-        if is_blank(s[i]) {
-            n = i;
-        } else {
-            return n;
+    for i in (0..s.len()).rev() {
+        if !is_blank(s[i]) {
+            return i + 1;
         }
     }
-    n
+    0
 }
 
 // A text trimmed.
 pub fn trim(s: &[u8]) -> &[u8]
     ensures { result.now ≡ trimmed s.now }
 {
-    let a = blank_end(s);
+    let a = scan_each(s, 0, &Blank);
     let rest = part(s, a, s.len());
     part(rest, 0, kept(rest))
 }
@@ -222,7 +162,7 @@ pub fn trim_range(s: &[u8], from: usize, len: usize) -> Range
     ensures { TrimmedTo s.now from len result }
 {
     let whole = part(s, from, len);
-    let a = blank_end(whole);
+    let a = scan_each(whole, 0, &Blank);
     let rest = part(whole, a, whole.len());
     let start = from + a;
     Range {

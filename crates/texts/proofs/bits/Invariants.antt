@@ -1,0 +1,7 @@
+use mathlib.Core.Path.{◌≡◌}
+use Prim.Native.Nat.{◌+◌, ◌<◌}
+use Rattle.texts.specs.Scan.{scan, is_ascii}
+use Rattle.texts.proofs.bits.Given as goal
+
+abbrev pub invariant-loop-k : goal.invariant-loop-k
+invariant-loop-k g l = l.all < 128 → scan is_ascii l.s (l.i + l.k) ≡ scan is_ascii l.s l.i
