@@ -1,7 +1,7 @@
 -- Laws of adding an item, and of what a step may go on with.
+use Rattle.std.specs.Prelude.{Some}
 use mathlib.Core.Path.{◌≡◌, refl, sym, ap, ◌∙◌}
 use mathlib.Core.List.{List, [], ◌∷◌, ◌++◌}
-use mathlib.Core.Option.{some}
 use Prim.Native.Nat.{ℕ, ◌+◌, ◌*◌, ◌-◌, ◌≤◌, ◌<◌}
 use native.Mathlib.Numerals.{add-one}
 use native.Mathlib.Omega.{arith}
@@ -155,7 +155,7 @@ after_then f {r = r} t a e k u =
     }
 
 -- the item that was added is current
-pub current-added : (s : State) (rec text : List ℕ) {n : ℕ} → n ≡ s.place.count + 1 → current n ≡ some (length (schema_of (model_in s) rec text).items)
+pub current-added : (s : State) (rec text : List ℕ) {n : ℕ} → n ≡ s.place.count + 1 → current n ≡ Some (length (schema_of (model_in s) rec text).items)
 unfolding current schema_of
 current-added s rec text e = rw (e, add-one, length-items)
 

@@ -1,4 +1,5 @@
 -- Laws of closing an element, and of text.
+use Rattle.std.specs.Prelude.{Some, None}
 use mathlib.Core.Path.{◌≡◌, refl, sym, ap, subst, ◌∙◌}
 use mathlib.Core.Bool.{Bool, true, false}
 use mathlib.Core.List.{List, [], ◌++◌}
@@ -125,11 +126,11 @@ cleared s =
       head = s.head;
     }
 
-value_none : (b : Builder) → b.current.enum ≡ none → with_text false [] b ≡ close_value b
+value_none : (b : Builder) → b.current.enum ≡ None → with_text false [] b ≡ close_value b
 unfolding close_value
 value_none b e = rw e
 
-value-some : (b : Builder) {e : ℕ} → b.current.enum ≡ some e → with_text false [] (with_schema (given_to (last (under a_value e b.schema)) (trimmed b.collected) b.schema) b) ≡ close_value b
+value-some : (b : Builder) {e : ℕ} → b.current.enum ≡ Some e → with_text false [] (with_schema (given_to (last (under a_value e b.schema)) (trimmed b.collected) b.schema) b) ≡ close_value b
 unfolding close_value
 value-some b e = rw e
 

@@ -1,8 +1,9 @@
 -- Laws of messageSchema, of the dispatch by element, and of a whole open.
+use Rattle.texts.specs.declared.Range.{Range}
+use Rattle.std.specs.Prelude.{Option, Some}
 use mathlib.Core.Path.{◌≡◌, sym, ap, ◌∙◌}
 use mathlib.Core.Bool.{Bool, false}
 use mathlib.Core.List.{List, ◌∷◌}
-use mathlib.Core.Option.{some}
 use Prim.Native.Nat.{ℕ, ◌+◌, ◌-◌, ◌≤◌, ◌<◌}
 use native.Mathlib.Omega.{arith}
 use mir.Val.{Fits}
@@ -13,7 +14,6 @@ use borrow.Author.Tests.{le-leb, lt-leb}
 use Rattle.texts.specs.Text.{ascii, piece, same}
 use Rattle.texts.proofs.Stores.{piece-above}
 use Rattle.refusals.specs.declared.Refusal.TheVariants.{TooDeep}
-use Rattle.tags.specs.declared.tag.Found.{Found}
 use Rattle.tags.specs.Attributes.{attribute_at, raw_length}
 use Rattle.saxlite.specs.Event.{value_in}
 use Rattle.model.specs.Schema.{Item, Schema, no_item, item_at}
@@ -25,8 +25,6 @@ use Rattle.elements.specs.Elements.{element_of}
 use Rattle.elements.specs.declared.Element.{Element}
 use Rattle.elements.specs.declared.Element.TheVariants as element
 use Rattle.model.specs.declared.Entry.{Entry}
-use Rattle.numbers.specs.declared.Number.{Number}
-use Rattle.numbers.specs.declared.Number.TheVariants as number
 use Rattle.builder.specs.declared.state.Limits.{Limits}
 use Rattle.builder.specs.declared.state.State.{State}
 use Rattle.builder.specs.declared.state.Stepped.{Stepped}
@@ -40,32 +38,32 @@ use Rattle.builder.proofs.Opening.{one-least, number_is, number-builder, number-
 
 -- ---- messageSchema
 
-schema-by : (place : ℕ) (a : Attributes) (b : Builder) (id version : ℕ) → number_in a "id" ≡ some id → number_in a "version" ≡ some version
+schema-by : (place : ℕ) (a : Attributes) (b : Builder) (id version : ℕ) → number_in a "id" ≡ Some id → number_in a "version" ≡ Some version
     → on (with_schema (record { package_name = text_in a "package"; id = id; version = version; items = b.schema.items }) b) ≡ open_schema place a b
 unfolding open_schema
 schema-by place a b id version f g = rw (f, g)
 
 -- two numbers, then the package's name
 module _ (place : ℕ) (s : State) (doc rec text : List ℕ) (attributes next : ℕ) (r : Ready s (next - attributes) rec text) (g : Tagged doc attributes next)
-    {f₁ : Found} (e₁ : f₁ ≡ attribute_at doc attributes (ascii "id")) {t₁ : List ℕ} {x : Number} (p₁ : ReadAt f₁ doc s.place.low text x t₁)
+    {f₁ : Option Range} (e₁ : f₁ ≡ attribute_at doc attributes (ascii "id")) {t₁ : List ℕ} {x : Option ℕ} (p₁ : ReadAt f₁ doc s.place.low text x t₁)
   where
     ready₁ : Ready s (next - attributes) rec t₁
     ready₁ = number-ready s doc rec text attributes next r g (ascii "id") e₁ p₁
 
-    pub version-room : {f : Found} → f ≡ attribute_at doc attributes (ascii "version") → s.place.low + raw_length f ≤ length t₁
+    pub version-room : {f : Option Range} → f ≡ attribute_at doc attributes (ascii "version") → s.place.low + raw_length f ≤ length t₁
     version-room e = omega (arith, one-least doc attributes next g (ascii "version") e, ready₁.room, ready₁.kept.top, ready₁.kept.bytes)
 
-    module _ {f₂ : Found} (e₂ : f₂ ≡ attribute_at doc attributes (ascii "version")) {t₂ : List ℕ} {y : Number} (p₂ : ReadAt f₂ doc s.place.low t₁ y t₂) where
+    module _ {f₂ : Option Range} (e₂ : f₂ ≡ attribute_at doc attributes (ascii "version")) {t₂ : List ℕ} {y : Option ℕ} (p₂ : ReadAt f₂ doc s.place.low t₁ y t₂) where
       ready₂ : Ready s (next - attributes) rec t₂
       ready₂ = number-ready s doc rec t₁ attributes next ready₁ g (ascii "version") e₂ p₂
 
-      pub package-high : {f : Found} → f ≡ attribute_at doc attributes (ascii "package") → raw_length f ≤ s.place.high
+      pub package-high : {f : Option Range} → f ≡ attribute_at doc attributes (ascii "package") → raw_length f ≤ s.place.high
       package-high e = omega (arith, one-least doc attributes next g (ascii "package") e, ready₂.room)
 
       pub package-text : s.place.high ≤ length t₂
       package-text = omega (arith, ready₂.kept.top, ready₂.kept.bytes)
 
-      module _ {f₃ : Found} {t₃ : List ℕ} {k : Taken} (q : TakenAt f₃ doc t₂ s.place.high k t₃) where
+      module _ {f₃ : Option Range} {t₃ : List ℕ} {k : Taken} (q : TakenAt f₃ doc t₂ s.place.high k t₃) where
         pub package-fits : Fits w32 k.from
         package-fits = omega (arith, q.start, ready₂.kept.top)
 
@@ -75,7 +73,7 @@ module _ (place : ℕ) (s : State) (doc rec text : List ℕ) (attributes next : 
       builder₂ : builder_of s doc rec t₂ ≡ builder_of s doc rec text
       builder₂ = number-builder s doc rec t₁ attributes next ready₁ g (ascii "version") e₂ p₂ ∙ number-builder s doc rec text attributes next r g (ascii "id") e₁ p₁
 
-      module _ {f₃ : Found} (e₃ : f₃ ≡ attribute_at doc attributes (ascii "package")) {t₃ : List ℕ} {k : Taken} (q : TakenAt f₃ doc t₂ s.place.high k t₃) (id version : ℕ) where
+      module _ {f₃ : Option Range} (e₃ : f₃ ≡ attribute_at doc attributes (ascii "package")) {t₃ : List ℕ} {k : Taken} (q : TakenAt f₃ doc t₂ s.place.high k t₃) (id version : ℕ) where
         low : s.place.low ≤ k.from
         low = omega (arith, one-least doc attributes next g (ascii "package") e₃, ready₂.room, q.start)
 
@@ -88,12 +86,12 @@ module _ (place : ℕ) (s : State) (doc rec text : List ℕ) (attributes next : 
         schema-now : (t : List ℕ) → Alike s.place.low k.from t₃ t → schema_of (model_in now) rec t ≡ record { package_name = text_in (attributes_in doc attributes) "package"; id = id; version = version; items = (schema_of (model_in s) rec t₂).items }
         unfolding schema_of
         schema-now t a =
-            let n : piece t k.from k.len ≡ or_empty (value_in doc (attribute_at doc attributes (ascii "package"))) = piece-above t₃ t k.from k.from k.len (omega arith) a.above ∙ q.is ∙ ap (λ (x : Found). or_empty (value_in doc x)) e₃ in
+            let n : piece t k.from k.len ≡ or_empty (value_in doc (attribute_at doc attributes (ascii "package"))) = piece-above t₃ t k.from k.from k.len (omega arith) a.above ∙ q.is ∙ ap (λ (x : Option Range). or_empty (value_in doc x)) e₃ in
             let i : items_of s.place.count rec t ≡ items_of s.place.count rec t₂ =
             ap (λ (x : Schema). x.items) (ready₂.kept.stable t (alike-trans whole (alike-wider t₃ t s.place.low k.from s.place.high (omega (arith, q.start)) a))) in
             rw (n, i)
 
-        pub schema-on : x ≡ number.Value id → y ≡ number.Value version
+        pub schema-on : x ≡ Some id → y ≡ Some version
             → After (open_schema place (attributes_in doc attributes) (builder_of s doc rec text)) s (next - attributes) doc (record { state = now; verdict = Fine }) rec t₃
         schema-on ex ey =
             let c : piece t₃ s.place.start (s.place.low - s.place.start) ≡ piece t₂ s.place.start (s.place.low - s.place.start) =

@@ -1,8 +1,9 @@
 -- Laws of taking texts, of numbers read on the way, and of the entries made of them.
+use Rattle.texts.specs.declared.Range.{Range}
+use Rattle.std.specs.Prelude.{Option, Some, None}
 use mathlib.Core.Path.{◌≡◌, refl, sym, ap, ◌∙◌}
 use mathlib.Core.Bool.{true, not}
 use mathlib.Core.List.{List, [], ◌∷◌}
-use mathlib.Core.Option.{Option, none, some}
 use Prim.Native.Nat.{ℕ, suc, ◌+◌, ◌-◌, ◌≤◌}
 use native.Mathlib.Omega.{arith}
 use lib.Dec.{eqb, leb}
@@ -15,8 +16,6 @@ use Rattle.texts.proofs.Choosing.{by-test, both_true}
 use Rattle.texts.proofs.Scanning.{count_yes}
 use Rattle.texts.specs.Text.{piece}
 use Rattle.texts.proofs.Stores.{piece-stored, piece-above}
-use Rattle.tags.specs.declared.tag.Found.{Found}
-use Rattle.tags.specs.declared.tag.Found.TheVariants.{Value, Absent}
 use Rattle.tags.specs.declared.tag.Noted.{Noted}
 use Rattle.entities.specs.Entities.{decoded}
 use Rattle.tags.specs.Attributes.{raw_length}
@@ -28,9 +27,7 @@ use Rattle.model.specs.Store.{item_of}
 use Rattle.builder.specs.Layout.{Alike, Steady}
 use Rattle.builder.specs.Taking.{TakenAt, ReadAt, Made, type_item_of, type_length}
 use Rattle.model.specs.declared.Entry.{Entry}
-use Rattle.numbers.specs.Numbers.{is_digit, all_digits, bounded_from, digits_of, unsigned, number_of, parsed}
-use Rattle.numbers.specs.declared.Number.{Number}
-use Rattle.numbers.specs.declared.Number.TheVariants as number
+use Rattle.numbers.specs.Numbers.{is_digit, all_digits, bounded_from, digits_of, unsigned, number_of}
 use Rattle.builder.specs.declared.take.Taken.{Taken}
 use Rattle.builder.proofs.Alikes.{alike_self, alike-sets, alike-wider, alike-trans}
 
@@ -43,58 +40,58 @@ decoded-most doc from len = omega (arith, decoded-length (piece doc from len), l
 
 -- ---- a value
 
-pub value-least : (high : ℕ) {f : Found} {from : ℕ} (len : ℕ) → f ≡ Value from len → raw_length f ≤ high → len ≤ high
-value-least high len e h = rw e at h
+pub value-least : (high : ℕ) {f : Option Range} {v : Range} → f ≡ Some v → raw_length f ≤ high → v.len ≤ high
+value-least high e h = rw e at h
 
-pub value_room : (text : List ℕ) (high : ℕ) {f : Found} {from : ℕ} (len : ℕ) → f ≡ Value from len → raw_length f ≤ high → high ≤ length text → high - len + len ≤ length text
-value_room text high len e h k = omega (arith, value-least high len e h)
+pub value_room : (text : List ℕ) (high : ℕ) {f : Option Range} {v : Range} → f ≡ Some v → raw_length f ≤ high → high ≤ length text → high - v.len + v.len ≤ length text
+value_room text high e h k = omega (arith, value-least high e h)
 
-module _ (doc text : List ℕ) (high : ℕ) {f : Found} where
-  pub taken-absent : f ≡ Absent → TakenAt f doc text high (record { from = high; len = 0 }) text
+module _ (doc text : List ℕ) (high : ℕ) {f : Option Range} where
+  pub taken-absent : f ≡ None → TakenAt f doc text high (record { from = high; len = 0 }) text
   taken-absent e = rw e (record { start = omega arith; is = refl; within = omega arith; alike = λ a h. alike_self; long = refl })
 
   -- n bytes are written
-  module _ {from len : ℕ} (e : f ≡ Value from len) {n : ℕ} {text' : List ℕ} (q : n ≡ length (decoded (piece doc from len))) (p : text' ≡ sets text (high - len) (decoded (piece doc from len))) where
-    pub taken-value : raw_length f ≤ high → high ≤ length text → TakenAt f doc text high (record { from = high - len; len = n }) text'
+  module _ {v : Range} (e : f ≡ Some v) {n : ℕ} {text' : List ℕ} (q : n ≡ length (decoded (piece doc v.from v.len))) (p : text' ≡ sets text (high - v.len) (decoded (piece doc v.from v.len))) where
+    pub taken-value : raw_length f ≤ high → high ≤ length text → TakenAt f doc text high (record { from = high - v.len; len = n }) text'
     taken-value h k =
-        let w = decoded (piece doc from len) in
-        let least : len ≤ high = rw e at h in
-        let z = decoded-most doc from len in
+        let w = decoded (piece doc v.from v.len) in
+        let least : v.len ≤ high = rw e at h in
+        let z = decoded-most doc v.from v.len in
         rw (e, p)
         (record {
           start = omega (arith, least);
-          is = rw q (piece-stored w text (high - len) (length w) refl (omega (arith, least)));
+          is = rw q (piece-stored w text (high - v.len) (length w) refl (omega (arith, least)));
           within = omega (arith, q);
-          alike = λ a b. alike-sets text w a high (high - len) b (omega (arith, least));
-          long = length-sets text (high - len) w;
+          alike = λ a b. alike-sets text w a high (high - v.len) b (omega (arith, least));
+          long = length-sets text (high - v.len) w;
         })
 
 -- ---- a number
 
-module _ (doc text : List ℕ) (low : ℕ) {f : Found} where
-  pub number-absent : f ≡ Absent → ReadAt f doc low text (number.Value 0) text
+module _ (doc text : List ℕ) (low : ℕ) {f : Option Range} where
+  pub number-absent : f ≡ None → ReadAt f doc low text (Some 0) text
   unfolding number_of
   number-absent e = rw e (record { is = refl; scratch = record { alike = λ h k. alike_self; long = refl } })
 
-  module _ {from len : ℕ} (e : f ≡ Value from len) where
-    pub number_fits : low + raw_length f ≤ length text → low + len ≤ length text
+  module _ {v : Range} (e : f ≡ Some v) where
+    pub number_fits : low + raw_length f ≤ length text → low + v.len ≤ length text
     number_fits h = rw e at h
 
-    pub number_at : {r : Number} {text' : List ℕ} → ReadAt (Value from len) doc low text r text' → ReadAt f doc low text r text'
+    pub number_at : {r : Option ℕ} {text' : List ℕ} → ReadAt (Some v) doc low text r text' → ReadAt f doc low text r text'
     number_at q = rw e q
 
-module _ (doc text : List ℕ) (low : ℕ) {from len n : ℕ} {text' : List ℕ} (q : n ≡ length (decoded (piece doc from len))) (p : text' ≡ sets text low (decoded (piece doc from len))) (fits : low + len ≤ length text) where
-  pub number-value : {w : List ℕ} → w ≡ piece text' low n → {r : Number} → r ≡ parsed (number_of (some w)) → ReadAt (Value from len) doc low text r text'
+module _ (doc text : List ℕ) (low : ℕ) {v : Range} {n : ℕ} {text' : List ℕ} (q : n ≡ length (decoded (piece doc v.from v.len))) (p : text' ≡ sets text low (decoded (piece doc v.from v.len))) (fits : low + v.len ≤ length text) where
+  pub number-value : {w : List ℕ} → w ≡ piece text' low n → {r : Option ℕ} → r ≡ number_of (Some w) → ReadAt (Some v) doc low text r text'
   number-value ew er =
-      let v = decoded (piece doc from len) in
-      let z = decoded-most doc from len in
-      let s : piece text' low n ≡ v = rw (p, q) (piece-stored v text low (length v) refl (omega (arith, fits))) in
+      let t = decoded (piece doc v.from v.len) in
+      let z = decoded-most doc v.from v.len in
+      let s : piece text' low n ≡ t = rw (p, q) (piece-stored t text low (length t) refl (omega (arith, fits))) in
       record {
-        is = er ∙ ap (λ x. parsed (number_of (some x))) (ew ∙ s);
+        is = er ∙ ap (λ x. number_of (Some x)) (ew ∙ s);
         scratch =
             record {
-              alike = λ a b. rw p (alike-sets text v low a low (omega arith) (omega arith));
-              long = rw p (length-sets text low v);
+              alike = λ a b. rw p (alike-sets text t low a low (omega arith) (omega arith));
+              long = rw p (length-sets text low t);
             };
       }
 
@@ -107,18 +104,18 @@ digit-plain (b ∷ s) t =
     let l : 48 ≤ b = leb-true 48 b (both_true (leb 48 b) (leb b 57) h.0).0 in
     count_yes (until (is 38)) b s (ap not (ne_eqb b 38 (λ e. omega arith))) ∙ ap suc (digit-plain s h.1)
 
-bounded-digits : (n : ℕ) (s : List ℕ) {v : ℕ} → bounded_from n s ≡ some v → all_digits s ≡ true
+bounded-digits : (n : ℕ) (s : List ℕ) {v : ℕ} → bounded_from n s ≡ Some v → all_digits s ≡ true
 unfolding bounded_from
 bounded-digits n s e =
     by-test (all_digits s) (λ t. t)
-    (λ f. absurd (let z : ◌≡◌ {A = Option ℕ} none (some _) = rw f at e in let w : ◌≡◌ {A = ℕ} 0 1 = cc in omega arith))
+    (λ f. absurd (let z : ◌≡◌ {A = Option ℕ} None (Some _) = rw f at e in let w : ◌≡◌ {A = ℕ} 0 1 = cc in omega arith))
 
-digits-plain : (s : List ℕ) {v : ℕ} → digits_of s ≡ some v → count_while (until (is 38)) s ≡ length s
+digits-plain : (s : List ℕ) {v : ℕ} → digits_of s ≡ Some v → count_while (until (is 38)) s ≡ length s
 unfolding digits_of
 digits-plain [] e = refl
 digits-plain (b ∷ s) e = digit-plain (b ∷ s) (bounded-digits 0 (b ∷ s) e)
 
-number-plain : (s : List ℕ) {v : ℕ} → number_of (some s) ≡ some v → count_while (until (is 38)) s ≡ length s
+number-plain : (s : List ℕ) {v : ℕ} → number_of (Some s) ≡ Some v → count_while (until (is 38)) s ≡ length s
 unfolding number_of unsigned
 number-plain [] e = refl
 number-plain (b ∷ s) e =
@@ -126,31 +123,26 @@ number-plain (b ∷ s) e =
     (λ t. count_yes (until (is 38)) b s (ap not (ne_eqb b 38 (λ q. omega (arith, eqb-true b 43 t)))) ∙ ap suc (digits-plain s (rw t at e)))
     (λ f. digits-plain (b ∷ s) (rw f at e))
 
-parsed-value : (o : Option ℕ) {v : ℕ} → parsed o ≡ number.Value v → o ≡ some v
-parsed-value none e = absurd (let z : ◌≡◌ {A = ℕ} 0 1 = cc in omega arith)
-parsed-value (some n) {v} e = let q : n ≡ v = cc in ap some q
-
-pub number-told : (doc text : List ℕ) (low : ℕ) {f : Found} {from len : ℕ} → f ≡ Value from len → {w : List ℕ} → w ≡ piece doc from len → {r : Number} → r ≡ parsed (number_of (some w)) → {n : ℕ} → r ≡ number.Value n → ReadAt f doc low text (number.Value n) text
-number-told doc text low {from = from} {len = len} e {w} ew er {n} en =
-    let o : number_of (some w) ≡ some n = parsed-value (number_of (some w)) (sym er ∙ en) in
+pub number-told : (doc text : List ℕ) (low : ℕ) {f : Option Range} {v : Range} → f ≡ Some v → {w : List ℕ} → w ≡ piece doc v.from v.len → {r : Option ℕ} → r ≡ number_of (Some w) → {n : ℕ} → r ≡ Some n → ReadAt f doc low text (Some n) text
+number-told doc text low e {w} ew er {n} en =
+    let o : number_of (Some w) ≡ Some n = sym er ∙ en in
     let d : decoded w ≡ w = plain-decoded w (number-plain w o) in
     rw e
     (record {
-      is = sym (ap (λ x. parsed (number_of (some x))) (ap decoded (sym ew) ∙ d) ∙ ap parsed o);
+      is = sym (ap (λ x. number_of (Some x)) (ap decoded (sym ew) ∙ d) ∙ o);
       scratch = record { alike = λ h k. alike_self; long = refl };
     })
 
 -- one digit; r is what stands there
-pub digit-told : (doc text : List ℕ) (low : ℕ) {f : Found} {from len : ℕ} → f ≡ Value from len → len ≡ 1
-    → {r : Number} → ((n : ℕ) → r ≡ number.Value n → r ≡ parsed (number_of (some (piece doc from 1)))) → {n : ℕ} → r ≡ number.Value n → ReadAt f doc low text (number.Value n) text
-digit-told doc text low {from = from} {len = len} e el q {n} en =
-    number-told doc text low e (ap (piece doc from) (sym el)) (q n en) en
+pub digit-told : (doc text : List ℕ) (low : ℕ) {f : Option Range} {v : Range} → f ≡ Some v → v.len ≡ 1
+    → {r : Option ℕ} → ((n : ℕ) → r ≡ Some n → r ≡ number_of (Some (piece doc v.from 1))) → {n : ℕ} → r ≡ Some n → ReadAt f doc low text (Some n) text
+digit-told doc text low {v = v} e el q {n} en = number-told doc text low e (ap (piece doc v.from) (sym el)) (q n en) en
 
 -- whether a value is there
-pub given-not : {f : Found} → f ≡ Absent → (doc : List ℕ) → eqb 0 1 ≡ is_given (value_in doc f)
+pub given-not : {f : Option Range} → f ≡ None → (doc : List ℕ) → eqb 0 1 ≡ is_given (value_in doc f)
 given-not e doc = rw e
 
-pub given_yes : {f : Found} {from len : ℕ} → f ≡ Value from len → (doc : List ℕ) → eqb 1 1 ≡ is_given (value_in doc f)
+pub given_yes : {f : Option Range} {v : Range} → f ≡ Some v → (doc : List ℕ) → eqb 1 1 ≡ is_given (value_in doc f)
 given_yes e doc = rw e
 
 -- ---- entries
@@ -168,7 +160,7 @@ steady text e h k a =
           );
     }
 
-module _ (kind owner id : ℕ) (doc text : List ℕ) (high : ℕ) {name : Found} {x : Taken} {t₁ : List ℕ} (p : TakenAt name doc text high x t₁) where
+module _ (kind owner id : ℕ) (doc text : List ℕ) (high : ℕ) {name : Option Range} {x : Taken} {t₁ : List ℕ} (p : TakenAt name doc text high x t₁) where
   pub made-named : Made (plain_item kind owner (or_empty (value_in doc name)) [] id) (raw_length name) high text
       (record { kind = kind; owner = owner; name = x.from; nlen = x.len; second = x.from; slen = 0; number = id; given = 0; encoding = x.from; elen = 0 }) t₁
   unfolding item_of
@@ -181,7 +173,7 @@ module _ (kind owner id : ℕ) (doc text : List ℕ) (high : ℕ) {name : Found}
         long = p.long;
       }
 
-  module _ {second : Found} {y : Taken} {t₂ : List ℕ} (q : TakenAt second doc t₁ x.from y t₂) where
+  module _ {second : Option Range} {y : Taken} {t₂ : List ℕ} (q : TakenAt second doc t₁ x.from y t₂) where
     -- the first text is where it was
     first : piece t₂ x.from x.len ≡ or_empty (value_in doc name)
     first = piece-above t₁ t₂ x.from x.from x.len (omega arith) (q.alike 0 (omega arith)).above ∙ p.is

@@ -1,6 +1,6 @@
 -- 01, "The builder": what one event makes of its state.
-use Rattle.std.specs.Prelude.{Bool, true, false, List, [], ◌∷◌, ◌++◌, ℕ, eqb, leb, length, set}
-use Rattle.std.proofs.Math.Option.{Option, none, some}
+use Rattle.std.specs.Prelude.{Bool, true, false, List, [], ◌∷◌, ◌++◌, ℕ, eqb, leb, length, set, Option, Some, None}
+use Rattle.std.proofs.Math.Option as math
 use Prim.Native.String.{String}
 use Rattle.texts.specs.Choice.{pick}
 use Rattle.texts.specs.Text.{ascii, same}
@@ -44,12 +44,12 @@ abbrev pub attributes_in : List ℕ → ℕ → Attributes
 attributes_in doc attributes key = value_in doc (attribute_at doc attributes key)
 
 abbrev pub or_empty : Option (List ℕ) → List ℕ
-or_empty none = []
-or_empty (some s) = s
+or_empty None = []
+or_empty (Some s) = s
 
 abbrev pub is_given : Option (List ℕ) → Bool
-is_given none = false
-is_given (some s) = true
+is_given None = false
+is_given (Some s) = true
 
 -- an attribute's text, empty where it is absent
 abbrev pub text_in : Attributes → String → List ℕ
@@ -106,8 +106,8 @@ and_then f (refused r) = refused r
 
 -- a number read, or 32
 abbrev pub with_number : ℕ → Option ℕ → (ℕ → Outcome) → Outcome
-with_number place none k = refused (BadNumber place)
-with_number place (some n) k = k n
+with_number place None k = refused (BadNumber place)
+with_number place (Some n) k = k n
 
 -- a type or a member of a composite
 abbrev pub type_item : ℕ → ℕ → Attributes → ℕ → Item
@@ -135,8 +135,8 @@ open_schema place a b =
 
 -- to the current composite, or dropped if none
 abbrev pub member_to : Limits → ℕ → Attributes → ℕ → Option ℕ → Builder → Outcome
-member_to l place a n none b = on b
-member_to l place a n (some c) b = added l place (type_item a_member c a n) b
+member_to l place a n None b = on b
+member_to l place a n (Some c) b = added l place (type_item a_member c a n) b
 
 -- inside: the parent's name is composite
 unfoldable pub open_type : Limits → ℕ → Bool → Attributes → Builder → Outcome
@@ -145,22 +145,22 @@ open_type l place inside a b =
     pick inside (member_to l place a n b.current.composite b) (added l place (type_item a_type 0 a n) b))
 
 abbrev pub ref_to : Limits → ℕ → Attributes → Option ℕ → Builder → Outcome
-ref_to l place a none b = on b
-ref_to l place a (some c) b = added l place (plain_item a_ref c (text_in a "name") (text_in a "type") 0) b
+ref_to l place a None b = on b
+ref_to l place a (Some c) b = added l place (plain_item a_ref c (text_in a "name") (text_in a "type") 0) b
 
 unfoldable pub open_ref : Limits → ℕ → Attributes → Builder → Outcome
 open_ref l place a b = ref_to l place a b.current.composite b
 
 unfoldable pub open_composite : Limits → ℕ → Attributes → Builder → Outcome
-open_composite l place a b = and_then (now_composite (some (next_position b))) (added l place (plain_item a_composite 0 (text_in a "name") [] 0) b)
+open_composite l place a b = and_then (now_composite (Some (next_position b))) (added l place (plain_item a_composite 0 (text_in a "name") [] 0) b)
 
 unfoldable pub open_enum : Limits → ℕ → Attributes → Builder → Outcome
-open_enum l place a b = and_then (now_enum (some (next_position b))) (added l place (plain_item an_enum 0 (text_in a "name") (text_in a "encodingType") 0) b)
+open_enum l place a b = and_then (now_enum (Some (next_position b))) (added l place (plain_item an_enum 0 (text_in a "name") (text_in a "encodingType") 0) b)
 
 -- text emptied; with a current enum, added with empty value and the flag set
 abbrev pub value_to : Limits → ℕ → Attributes → Option ℕ → Builder → Outcome
-value_to l place a none b = on (with_text b.collecting [] b)
-value_to l place a (some e) b = and_then (with_text true []) (added l place (plain_item a_value e (text_in a "name") [] 0) b)
+value_to l place a None b = on (with_text b.collecting [] b)
+value_to l place a (Some e) b = and_then (with_text true []) (added l place (plain_item a_value e (text_in a "name") [] 0) b)
 
 unfoldable pub open_value : Limits → ℕ → Attributes → Builder → Outcome
 open_value l place a b = value_to l place a b.current.enum b
@@ -168,12 +168,12 @@ open_value l place a b = value_to l place a b.current.enum b
 unfoldable pub open_message : Limits → ℕ → Attributes → Builder → Outcome
 open_message l place a b =
     with_number place (number_in a "id") (λ id.
-    and_then (now_message (some (next_position b))) (added l place (plain_item a_message 0 (text_in a "name") [] id) b))
+    and_then (now_message (Some (next_position b))) (added l place (plain_item a_message 0 (text_in a "name") [] id) b))
 
 -- added to the current message and made current; without a message only its id is read
 abbrev pub group_to : Limits → ℕ → Attributes → ℕ → Option ℕ → Builder → Outcome
-group_to l place a id none b = on b
-group_to l place a id (some m) b = and_then (now_group (some (next_position b))) (added l place (plain_item a_group m (text_in a "name") [] id) b)
+group_to l place a id None b = on b
+group_to l place a id (Some m) b = and_then (now_group (Some (next_position b))) (added l place (plain_item a_group m (text_in a "name") [] id) b)
 
 unfoldable pub open_group : Limits → ℕ → Attributes → Builder → Outcome
 open_group l place a b = with_number place (number_in a "id") (λ id. group_to l place a id b.current.message b)
@@ -183,13 +183,13 @@ field_under l place a id owner b = added l place (plain_item a_field owner (text
 
 -- to the current group, which 33 asks to have been opened under the current message, else to the message
 abbrev pub field_in : Limits → ℕ → Attributes → ℕ → ℕ → Option ℕ → Builder → Outcome
-field_in l place a id m none b = field_under l place a id m b
-field_in l place a id m (some g) b = pick (eqb (item_at b.schema g).owner m) (field_under l place a id g b) (refused (MisplacedField place))
+field_in l place a id m None b = field_under l place a id m b
+field_in l place a id m (Some g) b = pick (eqb (item_at b.schema g).owner m) (field_under l place a id g b) (refused (MisplacedField place))
 
 -- dropped where no message is current
 abbrev pub field_to : Limits → ℕ → Attributes → ℕ → Option ℕ → Builder → Outcome
-field_to l place a id none b = on b
-field_to l place a id (some m) b = field_in l place a id m b.current.group b
+field_to l place a id None b = on b
+field_to l place a id (Some m) b = field_in l place a id m b.current.group b
 
 unfoldable pub open_field : Limits → ℕ → Attributes → Builder → Outcome
 open_field l place a b = with_number place (number_in a "id") (λ id. field_to l place a id b.current.message b)
@@ -227,14 +227,14 @@ abbrev pub with_second : List ℕ → Item → Item
 with_second v it = record { kind = it.kind; owner = it.owner; name = it.name; second = v; number = it.number; given = it.given; encoding = it.encoding }
 
 -- a value given to the item at a position, if there is one
-abbrev pub given_to : Option ℕ → List ℕ → Schema → Schema
-given_to none v s = s
-given_to (some i) v s = with_items (set s.items i (with_second v (item_at s i))) s
+abbrev pub given_to : math.Option ℕ → List ℕ → Schema → Schema
+given_to math.none v s = s
+given_to (math.some i) v s = with_items (set s.items i (with_second v (item_at s i))) s
 
 -- the collected text, trimmed, is the value of the last value of the current enum
 abbrev pub value_of_enum : Option ℕ → Builder → Builder
-value_of_enum none b = b
-value_of_enum (some e) b = with_schema (given_to (last (under a_value e b.schema)) (trimmed b.collected) b.schema) b
+value_of_enum None b = b
+value_of_enum (Some e) b = with_schema (given_to (last (under a_value e b.schema)) (trimmed b.collected) b.schema) b
 
 unfoldable pub close_value : Builder → Builder
 close_value b = with_text false [] (value_of_enum b.current.enum b)
@@ -243,11 +243,11 @@ abbrev pub close_by : Element → Builder → Builder
 close_by element.MessageSchema b = b
 close_by element.Type b = b
 close_by element.Ref b = b
-close_by element.Composite b = now_composite none b
-close_by element.Enum b = now_enum none b
+close_by element.Composite b = now_composite None b
+close_by element.Enum b = now_enum None b
 close_by element.ValidValue b = close_value b
-close_by element.Message b = now_message none b
-close_by element.Group b = now_group none b
+close_by element.Message b = now_message None b
+close_by element.Group b = now_group None b
 close_by element.Field b = b
 close_by element.Other b = b
 

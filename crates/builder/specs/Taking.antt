@@ -1,14 +1,13 @@
 -- What taking texts into the text buffer promises. Internal.
-use Rattle.std.specs.Prelude.{◌≡◌, List, ℕ, ◌+◌, ◌≤◌, length}
+use Rattle.std.specs.Prelude.{◌≡◌, List, ℕ, ◌+◌, ◌≤◌, length, Option}
 use Rattle.texts.specs.Text.{piece}
-use Rattle.tags.specs.declared.tag.Found.{Found}
+use Rattle.texts.specs.declared.Range.{Range}
 use Rattle.tags.specs.declared.tag.Noted.{Noted}
 use Rattle.tags.specs.Attributes.{raw_length}
 use Rattle.saxlite.specs.Event.{value_in}
 use Rattle.tags.specs.Noting.{Keys, schema_keys, type_keys, enum_keys, field_keys}
 use Rattle.model.specs.Schema.{Item}
-use Rattle.numbers.specs.Numbers.{number_of, parsed}
-use Rattle.numbers.specs.declared.Number.{Number}
+use Rattle.numbers.specs.Numbers.{number_of}
 use Rattle.builder.specs.Builder.{or_empty, is_given}
 use Rattle.model.specs.Store.{item_of}
 use Rattle.builder.specs.Layout.{Alike, Steady}
@@ -18,7 +17,7 @@ use Rattle.model.specs.declared.Entry.{Entry}
 use Rattle.builder.specs.declared.take.Taken.{Taken}
 
 -- the value that was found lies from r on, below high, and takes its raw length
-pub record TakenAt (found : Found) (doc text : List ℕ) (high : ℕ) (r : Taken) (text' : List ℕ) : Type 0 where
+pub record TakenAt (found : Option Range) (doc text : List ℕ) (high : ℕ) (r : Taken) (text' : List ℕ) : Type 0 where
   pub start : r.from + raw_length found ≡ high
   pub is : piece text' r.from r.len ≡ or_empty (value_in doc found)
   pub within : r.len ≤ raw_length found
@@ -39,8 +38,8 @@ pub record Made (it : Item) (n high : ℕ) (text : List ℕ) (e : Entry) (text' 
   pub long : length text' ≡ length text
 
 -- a number read from a value that was found, decoded into the free text from low on
-pub record ReadAt (found : Found) (doc : List ℕ) (low : ℕ) (text : List ℕ) (r : Number) (text' : List ℕ) : Type 0 where
-  pub is : r ≡ parsed (number_of (value_in doc found))
+pub record ReadAt (found : Option Range) (doc : List ℕ) (low : ℕ) (text : List ℕ) (r : Option ℕ) (text' : List ℕ) : Type 0 where
+  pub is : r ≡ number_of (value_in doc found)
   pub scratch : Scratched low (raw_length found) text text'
 
 -- a type or a member, of its length, name, primitive type and encoding as they were found; and the raw length of its texts

@@ -21,10 +21,9 @@ use crate::take::{
 };
 use elements::{Element, element_at};
 use model::{Entry, Head, entry_at, put_entry};
-use numbers::Number;
 use refusals::Refusal;
-use tags::tag::{Found, Noted, Notes};
-use texts::equal;
+use tags::tag::{Noted, Notes};
+use texts::{Range, equal};
 
 fn refuse(s: State, r: Refusal) -> Stepped
     ensures { result ≡ record { state = s; verdict = Verdict.Refused r } }
@@ -128,10 +127,10 @@ fn open_schema(
     let version_found = tag.second;
     let package_found = tag.third;
     let low = s.place.low;
-    let Number::Value(id) = read_number(doc, id_found, text, low) else {
+    let Some(id) = read_number(doc, id_found, text, low) else {
         return refuse(s, Refusal::BadNumber { place });
     };
-    let Number::Value(version) = read_number(doc, version_found, text, low) else {
+    let Some(version) = read_number(doc, version_found, text, low) else {
         return refuse(s, Refusal::BadNumber { place });
     };
     let package = take_value(doc, package_found, text, s.place.high);
@@ -203,7 +202,7 @@ fn open_type(
 {
     let tag = type_attributes(doc, attributes, noted);
     let length = tag.first;
-    let Number::Value(size) = read_number(doc, length, text, s.place.low) else {
+    let Some(size) = read_number(doc, length, text, s.place.low) else {
         return refuse(s, Refusal::BadNumber { place });
     };
     if in_composite(s.place.depth, doc, rec) {
@@ -235,8 +234,8 @@ fn add_typed(
     kind: u32,
     owner: u32,
     id: u32,
-    name: Found,
-    second: Found,
+    name: Option<Range>,
+    second: Option<Range>,
     doc: &[u8],
     rec: &mut [u32],
     text: &mut [u8],
@@ -256,7 +255,7 @@ fn add_named(
     kind: u32,
     owner: u32,
     id: u32,
-    name: Found,
+    name: Option<Range>,
     doc: &[u8],
     rec: &mut [u32],
     text: &mut [u8],
@@ -451,7 +450,7 @@ fn open_message(
     let tag = field_attributes(doc, attributes, noted);
     let id_found = tag.first;
     let name = tag.second;
-    let Number::Value(id) = read_number(doc, id_found, text, s.place.low) else {
+    let Some(id) = read_number(doc, id_found, text, s.place.low) else {
         return refuse(s, Refusal::BadNumber { place });
     };
     let r = add_named(s, l, place, model::MESSAGE, 0, id, name, doc, rec, text);
@@ -478,7 +477,7 @@ fn open_group(
     let tag = field_attributes(doc, attributes, noted);
     let id_found = tag.first;
     let name = tag.second;
-    let Number::Value(id) = read_number(doc, id_found, text, s.place.low) else {
+    let Some(id) = read_number(doc, id_found, text, s.place.low) else {
         return refuse(s, Refusal::BadNumber { place });
     };
     let message = s.current.message;
@@ -521,7 +520,7 @@ fn open_field(
     let id_found = tag.first;
     let name = tag.second;
     let type_found = tag.third;
-    let Number::Value(id) = read_number(doc, id_found, text, s.place.low) else {
+    let Some(id) = read_number(doc, id_found, text, s.place.low) else {
         return refuse(s, Refusal::BadNumber { place });
     };
     let message = s.current.message;

@@ -1,8 +1,9 @@
 // Attribute values taken into the text buffer, from its top downwards; numbers read on the way.
-ghost use Rattle.std.specs.Prelude.{◌≡◌, List, [], ℕ, ◌+◌, ◌≤◌, eqb, length};
+#![tactic(auto, using(crate::proofs::Laws::taking))]
+
+ghost use Rattle.std.specs.Prelude.{◌≡◌, List, [], ℕ, ◌+◌, ◌≤◌, eqb, length, Some};
 ghost use Rattle.texts.specs.Text.{ascii};
 ghost use Rattle.tags.specs.Attributes.{attribute_at, raw_length};
-ghost use Rattle.tags.specs.declared.tag.Found.TheVariants.{Value};
 ghost use Rattle.saxlite.specs.Event.{value_in};
 ghost use Rattle.tags.specs.Noting.{NotedBy, schema_keys, type_keys, enum_keys, field_keys};
 ghost use Rattle.builder.specs.Builder.{plain_item, is_given, or_empty};
@@ -10,9 +11,9 @@ ghost use Rattle.builder.specs.Taking.{TakenAt, ReadAt, Made, type_item_of, type
 
 use entities::decode_room;
 use model::Entry;
-use numbers::{Number, digit_at, number_of};
-use tags::tag::{Found, Noted, Notes, noted_of};
-use texts::part;
+use numbers::{digit_at, number_of};
+use tags::tag::{Noted, Notes, noted_of};
+use texts::{Range, part};
 
 // ---- the attributes of a tag, as the reader noted them
 
@@ -58,68 +59,67 @@ pub struct Taken {
 }
 
 // The decoded value that was found, empty where it is absent, below `high`.
-pub fn take_value(doc: &[u8], found: Found, text: &mut [u8], high: usize) -> Taken
+pub fn take_value(doc: &[u8], found: Option<Range>, text: &mut [u8], high: usize) -> Taken
     requires { (raw_length found ≤ high) × (high ≤ length text.old) }
     ensures { TakenAt found doc.now text.old high result text.new }
 {
     match found {
-        Found::Absent => Taken { from: high, len: 0 },
-        Found::Value { from, len } => {
-            let at = high - len;
+        None => Taken { from: high, len: 0 },
+        Some(value) => {
+            let at = high - value.len;
             Taken {
                 from: at,
-                len: decode_room(doc, from, len, text, at),
+                len: decode_room(doc, value.from, value.len, text, at),
             }
         }
     }
 }
 
 // A piece of the document as a number, decoded into the free text from `low` on.
-fn decoded_number(doc: &[u8], from: usize, len: usize, text: &mut [u8], low: usize) -> Number
-    requires { low + len ≤ length text.old }
-    ensures { ReadAt (Value from len) doc.now low text.old result text.new }
+fn decoded_number(doc: &[u8], value: Range, text: &mut [u8], low: usize) -> Option<u32>
+    requires { low + value.len ≤ length text.old }
+    ensures { ReadAt (Some value) doc.now low text.old result text.new }
 {
-    let n = decode_room(doc, from, len, text, low);
+    let n = decode_room(doc, value.from, value.len, text, low);
     number_of(part(text, low, n))
 }
 
 // A piece of the document as a number. What is one as it stands has nothing to decode.
-fn piece_number(doc: &[u8], from: usize, len: usize, text: &mut [u8], low: usize) -> Number
-    requires { low + len ≤ length text.old }
-    ensures { ReadAt (Value from len) doc.now low text.old result text.new }
+fn piece_number(doc: &[u8], value: Range, text: &mut [u8], low: usize) -> Option<u32>
+    requires { low + value.len ≤ length text.old }
+    ensures { ReadAt (Some value) doc.now low text.old result text.new }
 {
-    match number_of(part(doc, from, len)) {
-        Number::Value(n) => Number::Value(n),
-        Number::Bad => decoded_number(doc, from, len, text, low),
+    match number_of(part(doc, value.from, value.len)) {
+        Some(n) => Some(n),
+        None => decoded_number(doc, value, text, low),
     }
 }
 
 // The value that was found as a number. Most are one digit.
-pub fn read_number(doc: &[u8], found: Found, text: &mut [u8], low: usize) -> Number
+pub fn read_number(doc: &[u8], found: Option<Range>, text: &mut [u8], low: usize) -> Option<u32>
     requires { low + raw_length found ≤ length text.old }
     ensures { ReadAt found doc.now low text.old result text.new }
 {
     match found {
-        Found::Absent => Number::Value(0),
-        Found::Value { from, len } => {
-            if len == 1 {
-                match digit_at(doc, from) {
-                    Number::Value(n) => return Number::Value(n),
-                    Number::Bad => return piece_number(doc, from, len, text, low),
+        None => Some(0),
+        Some(value) => {
+            if value.len == 1 {
+                if let Some(n) = digit_at(doc, value.from) {
+                    return Some(n);
                 }
             }
-            piece_number(doc, from, len, text, low)
+            piece_number(doc, value, text, low)
         }
     }
 }
 
 // Whether a value was found.
-fn is_given(found: Found) -> u32
+fn is_given(found: Option<Range>) -> u32
     ensures { (doc : List ℕ) → eqb result 1 ≡ is_given (value_in doc found) }
 {
     match found {
-        Found::Absent => 0,
-        Found::Value { from: _, len: _ } => 1,
+        None => 0,
+        Some(_) => 1,
     }
 }
 
@@ -130,7 +130,7 @@ pub fn named_entry(
     kind: u32,
     owner: u32,
     id: u32,
-    name: Found,
+    name: Option<Range>,
     doc: &[u8],
     text: &mut [u8],
     high: usize,
@@ -160,8 +160,8 @@ pub fn typed_entry(
     kind: u32,
     owner: u32,
     id: u32,
-    name: Found,
-    second: Found,
+    name: Option<Range>,
+    second: Option<Range>,
     doc: &[u8],
     text: &mut [u8],
     high: usize,

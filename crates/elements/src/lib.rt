@@ -2,7 +2,7 @@
 //
 // `element_of` promises `element_of` of specs/Elements.antt for every name, and `element_at` for every piece of a document:
 // it tells the names that nearly every tag has by a word or two.
-#![tactic(auto)]
+#![tactic(auto, using(crate::proofs::Laws::laws))]
 
 ghost use Rattle.std.specs.Prelude.{◌≡◌, ◌+◌, ◌≤◌, length};
 ghost use Rattle.texts.specs.Text.{piece};
@@ -30,40 +30,35 @@ fn other_element_of(name: &[u8]) -> Element
     ensures { result ≡ other_element_of name.now }
 {
     if equal(name, b"validValue") {
-        return Element::ValidValue;
+        Element::ValidValue
+    } else if equal(name, b"message") {
+        Element::Message
+    } else if equal(name, b"group") {
+        Element::Group
+    } else if equal(name, b"field") {
+        Element::Field
+    } else {
+        Element::Other
     }
-    if equal(name, b"message") {
-        return Element::Message;
-    }
-    if equal(name, b"group") {
-        return Element::Group;
-    }
-    if equal(name, b"field") {
-        return Element::Field;
-    }
-    Element::Other
 }
 
-// What an element's name says.
+// What an element's name says. A `match` of byte strings would tell the proof of the last arm only lengths.
 pub fn element_of(name: &[u8]) -> Element
     ensures { result ≡ element_of name.now }
 {
     if equal(name, b"messageSchema") {
-        return Element::MessageSchema;
+        Element::MessageSchema
+    } else if equal(name, b"type") {
+        Element::Type
+    } else if equal(name, b"ref") {
+        Element::Ref
+    } else if equal(name, b"composite") {
+        Element::Composite
+    } else if equal(name, b"enum") {
+        Element::Enum
+    } else {
+        other_element_of(name)
     }
-    if equal(name, b"type") {
-        return Element::Type;
-    }
-    if equal(name, b"ref") {
-        return Element::Ref;
-    }
-    if equal(name, b"composite") {
-        return Element::Composite;
-    }
-    if equal(name, b"enum") {
-        return Element::Enum;
-    }
-    other_element_of(name)
 }
 
 // Whether the name of `len` bytes at `at` is a leaf's (specs/Leaf.antt), whose close only pops the name: but for five and four
@@ -71,10 +66,7 @@ pub fn element_of(name: &[u8]) -> Element
 pub fn is_leaf_at(doc: &[u8], at: usize, len: usize) -> bool
     ensures { IsLeaf (piece doc.now at len) result }
 {
-    if doc.len() < 16 {
-        return false;
-    }
-    if doc.len() - 16 < at {
+    if doc.len() < 16 || doc.len() - 16 < at {
         return false;
     }
     match len {
@@ -91,25 +83,15 @@ fn short_element_at(doc: &[u8], at: usize, len: usize) -> Element
     requires { at + 8 ≤ length doc.now }
     ensures { result ≡ element_of (piece doc.now at len) }
 {
-    if len == 5 {
+    match len {
         // "field", "group"
-        if stands_short(doc, at, 0x100_0000_0000, 0x64_6c65_6966) {
-            return Element::Field;
-        }
-        if stands_short(doc, at, 0x100_0000_0000, 0x70_756f_7267) {
-            return Element::Group;
-        }
-    }
-    if len == 4 {
+        5 if stands_short(doc, at, 0x100_0000_0000, 0x64_6c65_6966) => Element::Field,
+        5 if stands_short(doc, at, 0x100_0000_0000, 0x70_756f_7267) => Element::Group,
         // "type", "enum"
-        if stands_short(doc, at, 0x1_0000_0000, 0x6570_7974) {
-            return Element::Type;
-        }
-        if stands_short(doc, at, 0x1_0000_0000, 0x6d75_6e65) {
-            return Element::Enum;
-        }
+        4 if stands_short(doc, at, 0x1_0000_0000, 0x6570_7974) => Element::Type,
+        4 if stands_short(doc, at, 0x1_0000_0000, 0x6d75_6e65) => Element::Enum,
+        _ => element_of(part(doc, at, len)),
     }
-    element_of(part(doc, at, len))
 }
 
 // The same of a longer one.
@@ -117,25 +99,13 @@ fn long_element_at(doc: &[u8], at: usize, len: usize) -> Element
     requires { at + 16 ≤ length doc.now }
     ensures { result ≡ element_of (piece doc.now at len) }
 {
-    if len == 10 {
-        // "validValue"
-        if stands_long(doc, at, 0x6c61_5664_696c_6176, 0x1_0000, 0x6575) {
-            return Element::ValidValue;
-        }
+    match len {
+        // "validValue", "composite", "message"
+        10 if stands_long(doc, at, 0x6c61_5664_696c_6176, 0x1_0000, 0x6575) => Element::ValidValue,
+        9 if stands_long(doc, at, 0x7469_736f_706d_6f63, 0x100, 0x65) => Element::Composite,
+        7 if stands_short(doc, at, 0x100_0000_0000_0000, 0x65_6761_7373_656d) => Element::Message,
+        _ => element_of(part(doc, at, len)),
     }
-    if len == 9 {
-        // "composite"
-        if stands_long(doc, at, 0x7469_736f_706d_6f63, 0x100, 0x65) {
-            return Element::Composite;
-        }
-    }
-    if len == 7 {
-        // "message"
-        if stands_short(doc, at, 0x100_0000_0000_0000, 0x65_6761_7373_656d) {
-            return Element::Message;
-        }
-    }
-    element_of(part(doc, at, len))
 }
 
 // What the name of `len` bytes at `at` says. Up to 16 bytes before the document's end a length that no element's name has
@@ -143,10 +113,7 @@ fn long_element_at(doc: &[u8], at: usize, len: usize) -> Element
 pub fn element_at(doc: &[u8], at: usize, len: usize) -> Element
     ensures { result ≡ element_of (piece doc.now at len) }
 {
-    if doc.len() < 16 {
-        return element_of(part(doc, at, len));
-    }
-    if doc.len() - 16 < at {
+    if doc.len() < 16 || doc.len() - 16 < at {
         return element_of(part(doc, at, len));
     }
     match len {

@@ -14,7 +14,7 @@ use Rattle.texts.specs.Text.{piece}
 use Rattle.texts.proofs.Choosing.{by-test, pick_no}
 use Rattle.texts.proofs.Scanning.{count_yes, count_no}
 use Rattle.words.proofs.Finding.{count_past}
-use Rattle.entities.specs.declared.Decoded.TheVariants.{Written, NoRoom}
+use Rattle.std.specs.Prelude.{Some, None}
 use Rattle.entities.specs.Entities.{front, decoded_past, decoded, DecodedInto}
 use Rattle.entities.specs.Copying.{PlainTo, RestInto}
 use Rattle.entities.proofs.Decoding.{decoded-cons, decoding-short}
@@ -196,7 +196,7 @@ module _ (doc : List ℕ) (from len : ℕ) (d : List ℕ) (at : ℕ) {w : List �
   pub part_room : at + len ≤ length d → at + length w ≤ length d
   part_room h = rw p (omega (arith, length-piece-le doc from len))
 
-  pub part-short : length d - at < length w → DecodedInto (piece doc from len) d at NoRoom d
+  pub part-short : length d - at < length w → DecodedInto (piece doc from len) d at None d
   part-short h = rw p at (decoding-short w d at h)
 
   pub part_left : {n : ℕ} {e : List ℕ} → RestInto w d at n e → e ≡ sets d at (decoded (piece doc from len))
@@ -205,7 +205,7 @@ module _ (doc : List ℕ) (from len : ℕ) (d : List ℕ) (at : ℕ) {w : List �
   pub part_length : {r : ℕ} {e : List ℕ} → RestInto w d at (at + r) e → r ≡ length (decoded (piece doc from len))
   part_length q = omega (arith, q.ends, ap (λ t. length (decoded t)) p)
 
-  pub part-written : at ≤ length d → length w ≤ length d - at → {r : ℕ} {e : List ℕ} → RestInto w d at (at + r) e → DecodedInto (piece doc from len) d at (Written r) e
+  pub part-written : at ≤ length d → length w ≤ length d - at → {r : ℕ} {e : List ℕ} → RestInto w d at (at + r) e → DecodedInto (piece doc from len) d at (Some r) e
   part-written h l q =
       let t = le-leb (at + length (piece doc from len)) (length d) (omega (arith, ap length p)) in
       record { says = rw (t, part_length q); left = rw t (part_left q) }

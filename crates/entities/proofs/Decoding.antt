@@ -15,8 +15,7 @@ use Rattle.texts.specs.Text.{ascii, starts_with}
 use Rattle.texts.proofs.Choosing.{pick_yes, pick_no, pick-by}
 use Rattle.texts.proofs.Comparing.{starts-length}
 use Rattle.entities.specs.declared.Unit.{Unit}
-use Rattle.entities.specs.declared.Decoded.{Decoded}
-use Rattle.entities.specs.declared.Decoded.TheVariants.{Written, NoRoom}
+use Rattle.std.specs.Prelude.{Option, Some, None}
 use Rattle.entities.specs.Entities.{entity, front, decoded_past, decoded, DecodedInto}
 use Rattle.entities.specs.Copying.{RestInto}
 
@@ -163,21 +162,21 @@ module _ {s d₀ d : List ℕ} {from to i o : ℕ} (inv : Decoding s from d₀ t
       let e : drop i s ≡ [] = drop_of_length-le s h in
       record { left = rw e at inv.out; ends = omega (arith, rw e at inv.past) }
 
-pub decoding-not : (s d : List ℕ) (at : ℕ) → length d < at → DecodedInto s d at NoRoom d
+pub decoding-not : (s d : List ℕ) (at : ℕ) → length d < at → DecodedInto s d at None d
 decoding-not s d at h = let t = lt-leb (at + length s) (length d) (omega arith) in record { says = rw t; left = rw t }
 
-pub decoding-short : (s d : List ℕ) (at : ℕ) → length d - at < length s → DecodedInto s d at NoRoom d
+pub decoding-short : (s d : List ℕ) (at : ℕ) → length d - at < length s → DecodedInto s d at None d
 decoding-short s d at h = let t = lt-leb (at + length s) (length d) (omega arith) in record { says = rw t; left = rw t }
 
 -- the text is known under another name
-pub decoding-same : {w raw d e : List ℕ} {at : ℕ} {r : Decoded} → w ≡ raw → DecodedInto w d at r e → DecodedInto raw d at r e
+pub decoding-same : {w raw d e : List ℕ} {at : ℕ} {r : Option ℕ} → w ≡ raw → DecodedInto w d at r e → DecodedInto raw d at r e
 decoding-same p q = rw (← p) q
 
 -- ---- what the answer tells: room for the raw text is asked, and no more
 
-module _ (raw d e : List ℕ) (at : ℕ) {r : Decoded} (q : DecodedInto raw d at r e) where
-  pub decoded-fits : at + length raw ≤ length d → (r ≡ Written (length (decoded raw))) × (e ≡ sets d at (decoded raw))
+module _ (raw d e : List ℕ) (at : ℕ) {r : Option ℕ} (q : DecodedInto raw d at r e) where
+  pub decoded-fits : at + length raw ≤ length d → (r ≡ Some (length (decoded raw))) × (e ≡ sets d at (decoded raw))
   decoded-fits h = let t = le-leb (at + length raw) (length d) h in (rw t at q.says, rw t at q.left)
 
-  pub decoded-short : length d < at + length raw → (r ≡ NoRoom) × (e ≡ d)
+  pub decoded-short : length d < at + length raw → (r ≡ None) × (e ≡ d)
   decoded-short h = let t = lt-leb (at + length raw) (length d) h in (rw t at q.says, rw t at q.left)

@@ -1,11 +1,9 @@
 -- The five entities, decoded once, from left to right in one pass; every other '&' stays.
-use Rattle.std.specs.Prelude.{◌≡◌, List, [], ◌∷◌, ℕ, zero, suc, ◌+◌, ◌-◌, eqb, leb, length}
+use Rattle.std.specs.Prelude.{◌≡◌, List, [], ◌∷◌, ℕ, zero, suc, ◌+◌, ◌-◌, eqb, leb, length, Option, Some, None}
 use Rattle.std.proofs.lemmas.List.Edits.{sets}
 use Rattle.texts.specs.Choice.{pick}
 use Rattle.texts.specs.Text.{ascii, starts_with}
 use Rattle.entities.specs.declared.Unit.{Unit}
-use Rattle.entities.specs.declared.Decoded.{Decoded}
-use Rattle.entities.specs.declared.Decoded.TheVariants.{Written, NoRoom}
 
 -- a '&' and what follows it: the byte that they stand for, and how many bytes they are together
 unfoldable pub entity : List ℕ → Unit
@@ -33,6 +31,6 @@ decoded s = decoded_past 0 s
 
 -- Decoding a text into a lent slice dst at a place: room is asked for the raw length, and then the decoded bytes lie in dst from
 -- that place on; else dst is as it was.
-pub record DecodedInto (raw dst : List ℕ) (at : ℕ) (answer : Decoded) (after : List ℕ) : Type 0 where
-  pub says : answer ≡ pick (leb (at + length raw) (length dst)) (Written (length (decoded raw))) NoRoom
+pub record DecodedInto (raw dst : List ℕ) (at : ℕ) (answer : Option ℕ) (after : List ℕ) : Type 0 where
+  pub says : answer ≡ pick (leb (at + length raw) (length dst)) (Some (length (decoded raw))) None
   pub left : after ≡ pick (leb (at + length raw) (length dst)) (sets dst at (decoded raw)) dst

@@ -4,7 +4,7 @@
 // for room itself, and promises `DecodedInto` of specs/Entities.antt on all inputs, after 01, "Reading markup". `decode_room`
 // is the same for a caller that has room. Decoding never lengthens a text (proofs/Decoding.antt), and one without '&' stays
 // as it is (proofs/Copying.antt).
-#![tactic(auto)]
+#![tactic(auto, using(crate::proofs::Laws::laws, crate::proofs::Copying::plain))]
 
 ghost use Rattle.std.specs.Prelude.{◌≡◌, ◌+◌, ◌-◌, ◌≤◌, ◌<◌, length, drop};
 ghost use Rattle.std.proofs.lemmas.List.Edits.{sets};
@@ -21,13 +21,6 @@ pub struct Unit {
     pub len: usize,
 }
 
-// The number of bytes written; or no room, and nothing written.
-#[derive(Clone, Copy)]
-pub enum Decoded {
-    Written(usize),
-    NoRoom,
-}
-
 fn unit_at(s: &[u8], at: usize) -> Unit
     requires { at < length s.now }
     ensures { result ≡ front (drop at s.now) }
@@ -38,24 +31,21 @@ fn unit_at(s: &[u8], at: usize) -> Unit
     }
     let n = at + 1;
     if texts::starts_with(s, n, b"lt;") {
-        return Unit { byte: b'<', len: 4 };
-    }
-    if texts::starts_with(s, n, b"gt;") {
-        return Unit { byte: b'>', len: 4 };
-    }
-    if texts::starts_with(s, n, b"quot;") {
-        return Unit { byte: b'"', len: 6 };
-    }
-    if texts::starts_with(s, n, b"apos;") {
-        return Unit {
+        Unit { byte: b'<', len: 4 }
+    } else if texts::starts_with(s, n, b"gt;") {
+        Unit { byte: b'>', len: 4 }
+    } else if texts::starts_with(s, n, b"quot;") {
+        Unit { byte: b'"', len: 6 }
+    } else if texts::starts_with(s, n, b"apos;") {
+        Unit {
             byte: b'\'',
             len: 6,
-        };
+        }
+    } else if texts::starts_with(s, n, b"amp;") {
+        Unit { byte: b'&', len: 5 }
+    } else {
+        Unit { byte: b'&', len: 1 }
     }
-    if texts::starts_with(s, n, b"amp;") {
-        return Unit { byte: b'&', len: 5 };
-    }
-    Unit { byte: b'&', len: 1 }
 }
 
 // Unit by unit from `from` on, into `dst` from `to` on: the place where they end. Decoding never lengthens, so that room
@@ -161,17 +151,18 @@ pub fn decode_room(doc: &[u8], from: usize, len: usize, dst: &mut [u8], at: usiz
     decode_all(texts::part(doc, from, len), dst, at)
 }
 
-// The same wherever it is to be written. Room is asked for the raw bytes.
-pub fn decode(doc: &[u8], from: usize, len: usize, dst: &mut [u8], at: usize) -> Decoded
+// The same wherever it is to be written: how many bytes are written, or nothing, where there is no room. Room is asked for
+// the raw bytes.
+pub fn decode(doc: &[u8], from: usize, len: usize, dst: &mut [u8], at: usize) -> Option<usize>
     ensures { DecodedInto (piece doc.now from len) dst.old at result dst.new }
 {
     if dst.len() < at {
-        return Decoded::NoRoom;
+        return None;
     }
     let raw = texts::part(doc, from, len);
     let n = raw.len();
     if dst.len() - at < n {
-        return Decoded::NoRoom;
+        return None;
     }
-    Decoded::Written(decode_all(raw, dst, at))
+    Some(decode_all(raw, dst, at))
 }

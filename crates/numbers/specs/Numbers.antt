@@ -1,9 +1,6 @@
 -- Numbers: what a numeric attribute's text says.
-use Rattle.std.specs.Prelude.{Bool, true, List, [], ◌∷◌, ℕ, ◌+◌, ◌-◌, ◌*◌, eqb, leb}
-use Rattle.std.proofs.Math.Option.{Option, none, some}
+use Rattle.std.specs.Prelude.{Bool, true, List, [], ◌∷◌, ℕ, ◌+◌, ◌-◌, ◌*◌, eqb, leb, Option, None, Some}
 use Rattle.texts.specs.Choice.{pick, ◌and◌}
-use Rattle.numbers.specs.declared.Number.{Number}
-use Rattle.numbers.specs.declared.Number.TheVariants.{Value, Bad}
 
 -- '0' to '9'
 unfoldable pub is_digit : ℕ → Bool
@@ -20,11 +17,11 @@ value_from n (b ∷ s) = value_from (10 * n + (b - 48)) s
 
 -- the same, where all are digits and the value is at most 4294967295
 unfoldable pub bounded_from : ℕ → List ℕ → Option ℕ
-bounded_from n s = pick (all_digits s and leb (value_from n s) 4294967295) (some (value_from n s)) none
+bounded_from n s = pick (all_digits s and leb (value_from n s) 4294967295) (Some (value_from n s)) None
 
 -- one or more digits
 unfoldable pub digits_of : List ℕ → Option ℕ
-digits_of [] = none
+digits_of [] = None
 digits_of (b ∷ s) = bounded_from 0 (b ∷ s)
 
 -- a '+' at the front is dropped
@@ -32,13 +29,8 @@ unfoldable pub unsigned : List ℕ → List ℕ
 unsigned [] = []
 unsigned (b ∷ s) = pick (eqb b 43) s (b ∷ s)
 
--- 01's numbers: absent or empty is 0, and what is no number, none, is refusal 32
+-- 01's numbers: absent or empty is 0, and what is no number, None, is refusal 32
 unfoldable pub number_of : Option (List ℕ) → Option ℕ
-number_of none = some 0
-number_of (some []) = some 0
-number_of (some (b ∷ s)) = digits_of (unsigned (b ∷ s))
-
--- a number as the code answers it
-abbrev pub parsed : Option ℕ → Number
-parsed none = Bad
-parsed (some n) = Value n
+number_of None = Some 0
+number_of (Some []) = Some 0
+number_of (Some (b ∷ s)) = digits_of (unsigned (b ∷ s))

@@ -14,13 +14,13 @@
 
 pub mod dump;
 
-use entities::{Decoded, decode};
+use entities::decode;
 use printing::{put_byte, put_bytes};
 use refusals::Refusal;
 use saxlite::reader::{Event, at_end, cursor_at, read_next};
 use tags::scan::{is_xmlns, prefix_len};
-use tags::tag::{Found, TagPart, attribute, tag_part};
-use texts::part;
+use tags::tag::{TagPart, attribute, tag_part};
+use texts::{Range, part};
 
 const TEXT: u8 = 0x80;
 
@@ -132,14 +132,15 @@ fn name_after(doc: &[u8], at: usize, last: Name) -> Name {
     let mut i = at;
     let mut left = doc.len();
     while 0 < left {
-        let found = tag_part(doc, i, 0);
-        let TagPart::Attribute {
-            name,
-            name_len,
-            value: _,
-            value_len: _,
-            next,
-        } = found
+        let Ok(
+            TagPart::Attribute {
+                name,
+                name_len,
+                value: _,
+                value_len: _,
+                next,
+            },
+        ) = tag_part(doc, i, 0)
         else {
             return best;
         };
@@ -169,10 +170,9 @@ fn past(room: usize, at: usize, n: usize) -> usize {
 
 // Where room is short the raw bytes are counted.
 fn put_decoded(doc: &[u8], out: &mut [u8], at: usize, from: usize, len: usize) -> usize {
-    let decoded = decode(doc, from, len, out, at);
-    match decoded {
-        Decoded::Written(n) => past(out.len(), at, n),
-        Decoded::NoRoom => put_bytes(out, at, part(doc, from, len)),
+    match decode(doc, from, len, out, at) {
+        Some(n) => past(out.len(), at, n),
+        None => put_bytes(out, at, part(doc, from, len)),
     }
 }
 
@@ -186,13 +186,13 @@ fn put_text(doc: &[u8], out: &mut [u8], at: usize, from: usize, len: usize) -> u
     put_decoded(doc, out, p, from, len)
 }
 
-fn put_value(doc: &[u8], out: &mut [u8], at: usize, found: Found) -> usize {
+fn put_value(doc: &[u8], out: &mut [u8], at: usize, found: Option<Range>) -> usize {
     match found {
-        Found::Value { from, len } => {
+        Some(Range { from, len }) => {
             let p = put_byte(out, at, VALUE);
             put_decoded(doc, out, p, from, len)
         }
-        Found::Absent => at,
+        None => at,
     }
 }
 

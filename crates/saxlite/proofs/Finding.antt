@@ -1,4 +1,5 @@
 -- Laws of finding where something ends: what a search says, places one by one, and a scan for one byte.
+use Rattle.std.specs.Prelude.{Option, Some, None}
 use mathlib.Core.Path.{◌≡◌, refl, sym, ap, ◌∙◌}
 use mathlib.Core.Bool.{Bool, true, false, not}
 use mathlib.Core.List.{List, [], ◌∷◌}
@@ -6,10 +7,9 @@ use Prim.Native.Nat.{ℕ, zero, suc, ◌+◌, ◌-◌, ◌%◌, ◌≤◌, ◌<�
 use native.Mathlib.Omega.{arith}
 use native.Mathlib.Nat.{add-zero}
 use lib.Dec.{eqb, ltb, leb→le}
-use lib.ListN.{length, drop, get_or, drop_of_length-le, length-drop}
-use lib.Seq.{drop-cons}
+use lib.ListN.{length, drop, drop_of_length-le, length-drop}
 use borrow.Author.Rules.{rules}
-use borrow.Author.Tests.{ltb-true, ltb-false, ne_eqb}
+use borrow.Author.Tests.{ltb-true, ltb-false}
 use Rattle.texts.specs.Text.{ascii, starts_with}
 use Rattle.texts.specs.Scan.{count_while, scan, until, is}
 use Rattle.texts.proofs.Choosing.{by-test}
@@ -19,11 +19,9 @@ use Rattle.words.specs.Word.{word_of}
 use Rattle.words.specs.Standing.{ShortText, StandsShort, Lacks}
 use Rattle.words.proofs.Standing.{power-some}
 use Rattle.words.proofs.Pairing.{lacks-start}
-use Rattle.tags.specs.declared.scan.Occurrence.{Occurrence}
-use Rattle.tags.specs.declared.scan.Occurrence.TheVariants.{At, Nowhere}
 use Rattle.tags.specs.Find.{find_in, find_from}
-use Rattle.tags.proofs.Searching.{stands-within, byte-stands, find-here, find-next, find_none, search-start, search-on, found_from, found_inside, found-past}
-use Rattle.saxlite.specs.Passing.{FoundAt}
+use Rattle.tags.proofs.Searching.{find-here, find-next, find_none, search-start, search-on, found_from, found_inside, found-past}
+use Rattle.saxlite.specs.Passing.{Stands, FoundAt}
 
 -- ---- a search goes on where the needle does not stand
 
@@ -51,17 +49,17 @@ lacks-found {n} {doc} {from} {i} l f =
 -- ---- what was found
 
 -- a text of some bytes is found within the document
-occurs-within : (n doc : List ℕ) (from i : ℕ) → 0 < length n → find_from n doc from ≡ At i → i < length doc
+occurs-within : (n doc : List ℕ) (from i : ℕ) → 0 < length n → find_from n doc from ≡ Some i → i < length doc
 occurs-within n doc from i p e =
     by-test (ltb (length doc) from)
     (λ t. absurd (omega (arith, found_from n doc from i e, found-past n doc from i e (ltb-true (length doc) from t))))
     (λ g. omega (arith, found_inside n doc from i e (ltb-false (length doc) from g)))
 
-module _ (n doc : List ℕ) (from : ℕ) {o : Occurrence} (e : o ≡ find_from n doc from) where
-  pub occurs-found : 0 < length n → {i : ℕ} → o ≡ At i → FoundAt n doc from i
+module _ (n doc : List ℕ) (from : ℕ) {o : Option ℕ} (e : o ≡ find_from n doc from) where
+  pub occurs-found : 0 < length n → {i : ℕ} → o ≡ Some i → FoundAt n doc from i
   occurs-found p {i} f = record { is = λ h. sym e ∙ f; none = λ h. absurd (omega (arith, occurs-within n doc from i p (sym e ∙ f))) }
 
-  pub nowhere-found : o ≡ Nowhere → FoundAt n doc from (length doc)
+  pub nowhere-found : o ≡ None → FoundAt n doc from (length doc)
   nowhere-found f = record { is = λ h. absurd (omega arith); none = λ h. sym e ∙ f }
 
 here_found : (n doc : List ℕ) (from : ℕ) → from < length doc → starts_with n (drop from doc) ≡ true → FoundAt n doc from from
@@ -69,23 +67,12 @@ here_found n doc from l t = record { is = λ h. find-here n (drop from doc) from
 
 -- ---- places one by one
 
--- whether the needle stands at a place, by a word, or by the one byte that it is
-pub record Stands (n doc : List ℕ) (i : ℕ) (b : Bool) : Type 0 where
-  pub is : starts_with n (drop i doc) ≡ b
-
-pub short-stands : {n doc : List ℕ} {i modulus front : ℕ} {b c : Bool} → StandsShort doc i modulus front b → ShortText n modulus front → b ≡ c → Stands n doc i c
-short-stands {n} s t e = record { is = sym (s.is n t) ∙ e }
-
-module _ {x : ℕ} {doc : List ℕ} {i : ℕ} (h : i < length doc) where
-  pub byte-here : get_or doc i 0 ≡ x → Stands (x ∷ []) doc i true
-  byte-here e = record { is = byte-stands x doc i h e }
-
-  pub byte-not : (get_or doc i 0 ≡ x → ⊥) → Stands (x ∷ []) doc i false
-  byte-not n = record { is = rw (drop-cons doc i 0 h) (starts-no x (get_or doc i 0) [] (drop (suc i) doc) (ne_eqb (get_or doc i 0) x n)) }
+pub short-stands : {n doc : List ℕ} {i modulus front : ℕ} {b : Bool} → StandsShort doc i modulus front b → ShortText n modulus front → Stands n doc i b
+short-stands {n} s t = record { is = sym (s.is n t) }
 
 -- where it stands at none of the places before, it is found
-pub lacks-here : {n doc : List ℕ} {from i : ℕ} → Lacks n doc from i → Stands n doc i true → 0 < length n → FoundAt n doc from i
-lacks-here {n} {doc} {from} {i} l t p = lacks-found l (here_found n doc i (omega (arith, stands-within n doc i t.is p)) t.is)
+pub lacks-here : {n doc : List ℕ} {from i : ℕ} → Lacks n doc from i → Stands n doc i true → i < length doc → FoundAt n doc from i
+lacks-here {n} {doc} {from} {i} l t h = lacks-found l (here_found n doc i h t.is)
 
 -- up to four places at which it does not stand
 module _ {n doc : List ℕ} {from : ℕ} where
@@ -120,7 +107,7 @@ Nearing n doc from stop i = Lacks n doc from i × ((stop - i) % 4 ≡ 0) × (sto
 
 -- ---- a scan for one byte
 
-count-found : (b : ℕ) (s : List ℕ) (k : ℕ) → count_while (until (is b)) s < length s → find_in (b ∷ []) s k ≡ At (k + count_while (until (is b)) s)
+count-found : (b : ℕ) (s : List ℕ) (k : ℕ) → count_while (until (is b)) s < length s → find_in (b ∷ []) s k ≡ Some (k + count_while (until (is b)) s)
 unfolding starts_with
 count-found b [] k h = absurd (omega arith)
 count-found b (x ∷ s) k h =
@@ -128,9 +115,9 @@ count-found b (x ∷ s) k h =
     (λ t. rw (count_no (until (is b)) x s (ap not t), add-zero) (find-here (b ∷ []) (x ∷ s) k (starts-yes b x [] s t)))
     (λ f. let c = count_yes (until (is b)) x s (ap not f) in
     let z : k + 1 + count_while (until (is b)) s ≡ k + suc (count_while (until (is b)) s) = omega arith in
-    rw c (find-next (b ∷ []) x s k (starts-no b x [] s f) ∙ count-found b s (k + 1) (omega (arith, c)) ∙ ap At z))
+    rw c (find-next (b ∷ []) x s k (starts-no b x [] s f) ∙ count-found b s (k + 1) (omega (arith, c)) ∙ ap Some z))
 
-count-nowhere : (b : ℕ) (s : List ℕ) (k : ℕ) → length s ≤ count_while (until (is b)) s → find_in (b ∷ []) s k ≡ Nowhere
+count-nowhere : (b : ℕ) (s : List ℕ) (k : ℕ) → length s ≤ count_while (until (is b)) s → find_in (b ∷ []) s k ≡ None
 unfolding starts_with
 count-nowhere b [] k h = find_none (b ∷ []) k refl
 count-nowhere b (x ∷ s) k h =
@@ -141,7 +128,7 @@ count-nowhere b (x ∷ s) k h =
 pub scan-found : (b : ℕ) (doc : List ℕ) (from : ℕ) {r : ℕ} → r ≡ scan (until (is b)) doc from → FoundAt (b ∷ []) doc from r
 scan-found b doc from {r} e =
     record {
-      is = λ h. count-found b (drop from doc) from (omega (arith, length-drop from doc)) ∙ ap At (sym e);
+      is = λ h. count-found b (drop from doc) from (omega (arith, length-drop from doc)) ∙ ap Some (sym e);
       none = λ h. count-nowhere b (drop from doc) from (omega (arith, length-drop from doc));
     }
 
@@ -155,4 +142,8 @@ pub short-instruction-end : ShortText (ascii "?>") 65536 15935
 unfolding word_of
 short-instruction-end = record { few = leb→le 2 8 tt; power = refl; number = refl; bytes = tt }
 
-pub ruleset finding = (lacks-start, lacks-here, lacks-found, occurs-found, nowhere-found, short-stands, scan-found, short-comment-end, short-instruction-end, power-some, rules)
+pub short-declaration-end : ShortText (ascii ">") 256 62
+unfolding word_of
+short-declaration-end = record { few = leb→le 1 8 tt; power = refl; number = refl; bytes = tt }
+
+pub ruleset finding = (lacks-start, lacks-here, lacks-one, lacks-two, lacks-three, lacks-four, lacks-found, occurs-found, nowhere-found, short-stands, scan-found, short-comment-end, short-instruction-end, short-declaration-end, power-some, rules)

@@ -1,4 +1,5 @@
 -- Laws of passing what changes nothing: each premise is what a call or a test says.
+use Rattle.std.specs.Prelude.{Some}
 use mathlib.Core.Path.{◌≡◌, refl, sym, ap, ap₂, ◌∙◌}
 use mathlib.Core.Bool.{Bool, true, false}
 use mathlib.Core.List.{List, [], ◌∷◌, ◌++◌}
@@ -18,7 +19,6 @@ use Rattle.classes.specs.Class.{is_space, is_tag_name_end}
 use Rattle.words.specs.Word.{word_of}
 use Rattle.words.specs.Standing.{ShortText, StandsShort}
 use Rattle.refusals.specs.declared.Refusal.TheVariants.{OpenComment, OpenInstruction, OpenDeclaration}
-use Rattle.tags.specs.declared.scan.Occurrence.TheVariants.{At}
 use Rattle.tags.specs.Find.{find_from}
 use Rattle.tags.specs.Names.{prefix_length}
 use Rattle.tags.proofs.Searching.{stands-within, scan-within, find-here}
@@ -87,15 +87,15 @@ module _ (doc : List ℕ) (at : ℕ) where
       let o = front-stands (ascii "<") w (drop at doc) t in
       sym (step-markup doc at (omega (arith, stands-within (ascii "<") doc at o (omega arith))) refl o e)
 
-  comment-is : starts_with (ascii "<!--") (drop at doc) ≡ true → {i : ℕ} → find_from (ascii "-->") doc (at + 4) ≡ At i → step_at doc at ≡ Skipped (i + 3)
+  comment-is : starts_with (ascii "<!--") (drop at doc) ≡ true → {i : ℕ} → find_from (ascii "-->") doc (at + 4) ≡ Some i → step_at doc at ≡ Skipped (i + 3)
   comment-is t e = open-stands (ascii "!--") t (markup-comment doc at refl t (past-found (ascii "-->") doc (at + 4) (OpenComment at) e))
 
-  declaration-is : starts_with (ascii "<!--") (drop at doc) ≡ false → starts_with (ascii "<!") (drop at doc) ≡ true → {i : ℕ} → find_from (ascii ">") doc (at + 2) ≡ At i → step_at doc at ≡ Skipped (i + 1)
+  declaration-is : starts_with (ascii "<!--") (drop at doc) ≡ false → starts_with (ascii "<!") (drop at doc) ≡ true → {i : ℕ} → find_from (ascii ">") doc (at + 2) ≡ Some i → step_at doc at ≡ Skipped (i + 1)
   declaration-is f t e =
       open-stands (ascii "!") t
       (markup-declaration doc at refl f refl (second-differs 60 33 63 [] (drop at doc) refl t) refl t (past-found (ascii ">") doc (at + 2) (OpenDeclaration at) e))
 
-  instruction-is : starts_with (ascii "<?") (drop at doc) ≡ true → {i : ℕ} → find_from (ascii "?>") doc (at + 2) ≡ At i → step_at doc at ≡ Skipped (i + 2)
+  instruction-is : starts_with (ascii "<?") (drop at doc) ≡ true → {i : ℕ} → find_from (ascii "?>") doc (at + 2) ≡ Some i → step_at doc at ≡ Skipped (i + 2)
   instruction-is t e =
       open-stands (ascii "?") t
       (markup-instruction doc at refl (second-differs 60 63 33 (ascii "--") (drop at doc) refl t) refl t (past-found (ascii "?>") doc (at + 2) (OpenInstruction at) e))

@@ -1,5 +1,7 @@
 -- What the crates above need: every step moves forward and stays inside the document, its ranges lie there, and the values that
 -- are looked up in one tag under different names take no more than the tag.
+use Rattle.tags.specs.declared.tag.Ending.{Ending}
+use Rattle.std.specs.Prelude.{Result, Option, Some, None, Ok, Err}
 use mathlib.Core.Path.{◌≡◌, refl, sym}
 use mathlib.Core.Bool.{Bool, true}
 use mathlib.Core.List.{List}
@@ -15,11 +17,6 @@ use Rattle.texts.proofs.Choosing.{pick-by}
 use Rattle.classes.specs.Class.{is_space, is_tag_name_end}
 use Rattle.refusals.specs.declared.Refusal.{Refusal}
 use Rattle.refusals.specs.declared.Refusal.TheVariants.{OpenComment, OpenInstruction, OpenDeclaration}
-use Rattle.tags.specs.declared.scan.Occurrence.{Occurrence}
-use Rattle.tags.specs.declared.scan.Occurrence.TheVariants.{At, Nowhere}
-use Rattle.tags.specs.declared.tag.Ending.{Ending}
-use Rattle.tags.specs.declared.tag.Ending.TheVariants.{Ends, Broken}
-use Rattle.tags.specs.declared.tag.Found.TheVariants.{Value}
 use Rattle.tags.specs.Find.{stands, find_from}
 use Rattle.tags.specs.Names.{prefix_length}
 use Rattle.tags.specs.Attributes.{tag_at, attribute_at, raw_lengths}
@@ -40,7 +37,7 @@ pub record Within (doc : List ℕ) (at from len next : ℕ) : Type 0 where
 -- an open tag: its name before its attributes, and its end as the tag has it
 record Opened (doc : List ℕ) (at name n attributes next : ℕ) (closed : Bool) : Type 0 where
   pub named : Within doc at name n attributes
-  pub ends : (tag_at doc attributes at).ending ≡ Ends next closed
+  pub ends : (tag_at doc attributes at).ending ≡ Ok (record { next = next; self_closed = closed })
 
 abbrev Moves : List ℕ → ℕ → Step → Type 0
 Moves doc at (Text from len next) = Within doc at from len next
@@ -52,10 +49,10 @@ Moves doc at (Refused refusal) = T true
 
 -- ---- markup that is passed over
 
-past-moves : (doc : List ℕ) (at n : ℕ) (o : Occurrence) (refusal : Refusal) → ((i : ℕ) → o ≡ At i → (at < i + n) × (i + n ≤ length doc)) → Moves doc at (past_end n o refusal)
+past-moves : (doc : List ℕ) (at n : ℕ) (o : Option ℕ) (refusal : Refusal) → ((i : ℕ) → o ≡ Some i → (at < i + n) × (i + n ≤ length doc)) → Moves doc at (past_end n o refusal)
 unfolding past_end
-past-moves doc at n (At i) refusal f = let h = f i refl in record { forward = h.0; inside = h.1; start = omega arith; range = omega arith }
-past-moves doc at n Nowhere refusal f = tt
+past-moves doc at n (Some i) refusal f = let h = f i refl in record { forward = h.0; inside = h.1; start = omega arith; range = omega arith }
+past-moves doc at n None refusal f = tt
 
 skip-moves : (end : String) (doc : List ℕ) (at from : ℕ) (refusal : Refusal) → at < from → from ≤ length doc → Moves doc at (skipped_to end doc from refusal)
 unfolding skipped_to
@@ -82,10 +79,10 @@ close-moves doc at =
     (λ t. name-within doc at (at + 2) end (due + 1) (omega arith) (omega arith) (omega arith) (omega arith) (omega (arith, stands-within (ascii ">") doc due t (omega arith))))
     (λ f. tt)
 
-opened-moves : (doc : List ℕ) (at name end : ℕ) (g : Ending) → g ≡ (tag_at doc end at).ending → at ≤ name → name ≤ end → at < end → end ≤ length doc → Moves doc at (open_with doc name (end - name) end g)
+opened-moves : (doc : List ℕ) (at name end : ℕ) (g : Result Ending Refusal) → g ≡ (tag_at doc end at).ending → at ≤ name → name ≤ end → at < end → end ≤ length doc → Moves doc at (open_with doc name (end - name) end g)
 unfolding open_with
-opened-moves doc at name end (Ends next closed) e h k l m = record { named = name-within doc at name end end h k (omega arith) l m; ends = sym e }
-opened-moves doc at name end (Broken refusal) e h k l m = tt
+opened-moves doc at name end (Ok ending) e h k l m = record { named = name-within doc at name end end h k (omega arith) l m; ends = sym e }
+opened-moves doc at name end (Err refusal) e h k l m = tt
 
 open-moves : (doc : List ℕ) (at : ℕ) → at < length doc → Moves doc at (open_at doc at)
 unfolding open_at
@@ -144,7 +141,7 @@ module _ (doc : List ℕ) (at : ℕ) where
         record { forward = omega (arith, open-past); inside = ending-inside doc attributes at open_is.ends; start = w.start; range = omega (arith, open-past) }
 
     -- a value that is found lies in the tag
-    pub value-within : (key : List ℕ) {from len : ℕ} → attribute_at doc attributes key ≡ Value from len → (attributes ≤ from) × (from + len ≤ next)
+    pub value-within : (key : List ℕ) {from len : ℕ} → attribute_at doc attributes key ≡ Some (record { from = from; len = len }) → (attributes ≤ from) × (from + len ≤ next)
     value-within key f = rw f at (value-lies doc attributes at open_is.ends key)
 
     -- values under different names take no more than the tag

@@ -1,4 +1,5 @@
 -- Laws of what is noted of a tag, through the step and the reader.
+use Rattle.std.specs.Prelude.{Option, Some, None}
 use mathlib.Core.Path.{◌≡◌, ◌∙◌}
 use mathlib.Core.Bool.{Bool, true, false}
 use mathlib.Core.List.{List}
@@ -9,8 +10,6 @@ use Rattle.texts.specs.Text.{piece}
 use Rattle.texts.specs.Scan.{scan, until}
 use Rattle.classes.specs.Class.{is_space, is_tag_name_end}
 use Rattle.refusals.specs.declared.Refusal.{Refusal}
-use Rattle.tags.specs.declared.scan.Occurrence.{Occurrence}
-use Rattle.tags.specs.declared.scan.Occurrence.TheVariants.{At, Nowhere}
 use Rattle.tags.specs.declared.tag.Notes.{Notes}
 use Rattle.tags.specs.Find.{stands}
 use Rattle.tags.specs.Noting.{keys_of, NotedBy}
@@ -40,10 +39,10 @@ bare-close = record { noted = λ doc noted. tt }
 bare-refused : {q : Refusal} → Bare (Refused q)
 bare-refused = record { noted = λ doc noted. tt }
 
-past-bare : (n : ℕ) (o : Occurrence) (q : Refusal) → Bare (past_end n o q)
+past-bare : (n : ℕ) (o : Option ℕ) (q : Refusal) → Bare (past_end n o q)
 unfolding past_end
-past-bare n (At i) q = record { noted = λ doc noted. tt }
-past-bare n Nowhere q = bare-refused
+past-bare n (Some i) q = record { noted = λ doc noted. tt }
+past-bare n None q = bare-refused
 
 close-bare : (doc : List ℕ) (at : ℕ) → Bare (close_at doc at)
 unfolding close_at
@@ -59,7 +58,7 @@ module _ (doc : List ℕ) {s : Step} {r : NotedStep} where
   pub as-refused : {q : Refusal} → r.step ≡ Refused q → Refused q ≡ s → NotedAs s doc r
   as-refused e f = record { is = e ∙ f; noted = rw e tt }
 
-  pub as-past : (n : ℕ) (o : Occurrence) (q : Refusal) {y : Step} → r.step ≡ y → y ≡ past_end n o q → y ≡ s → NotedAs s doc r
+  pub as-past : (n : ℕ) (o : Option ℕ) (q : Refusal) {y : Step} → r.step ≡ y → y ≡ past_end n o q → y ≡ s → NotedAs s doc r
   as-past n o q e p f = record { is = e ∙ f; noted = rw (e ∙ p) ((past-bare n o q).noted doc r.noted) }
 
   pub as-close : (at : ℕ) {y : Step} → r.step ≡ y → y ≡ close_at doc at → y ≡ s → NotedAs s doc r

@@ -1,4 +1,6 @@
 -- Laws of one step, as its functions come to it: each premise is what a call or a test says.
+use Rattle.tags.specs.declared.tag.Ending.{Ending}
+use Rattle.std.specs.Prelude.{Result, Some, Ok, Err}
 use mathlib.Core.Path.{◌≡◌, refl}
 use mathlib.Core.Bool.{Bool, true, false}
 use mathlib.Core.List.{List}
@@ -13,9 +15,6 @@ use Rattle.texts.proofs.Choosing.{by-test}
 use Rattle.classes.specs.Class.{is_space, is_tag_name_end}
 use Rattle.refusals.specs.declared.Refusal.{Refusal}
 use Rattle.refusals.specs.declared.Refusal.TheVariants.{OpenComment, OpenInstruction, OpenDeclaration, NoCloseTagEnd, NoTagName}
-use Rattle.tags.specs.declared.scan.Occurrence.TheVariants.{At}
-use Rattle.tags.specs.declared.tag.Ending.{Ending}
-use Rattle.tags.specs.declared.tag.Ending.TheVariants.{Ends, Broken}
 use Rattle.tags.specs.Find.{find_from}
 use Rattle.tags.specs.Names.{prefix_length}
 use Rattle.tags.specs.Attributes.{tag_at}
@@ -26,7 +25,7 @@ use Rattle.saxlite.specs.Passing.{FoundAt, StepPast}
 
 -- ---- markup that is passed over
 
-pub past-found : (end doc : List ℕ) (from : ℕ) (refusal : Refusal) {i : ℕ} → find_from end doc from ≡ At i → Skipped (i + length end) ≡ past_end (length end) (find_from end doc from) refusal
+pub past-found : (end doc : List ℕ) (from : ℕ) (refusal : Refusal) {i : ℕ} → find_from end doc from ≡ Some i → Skipped (i + length end) ≡ past_end (length end) (find_from end doc from) refusal
 unfolding past_end
 past-found end doc from refusal f = rw f
 
@@ -61,12 +60,12 @@ module _ (doc : List ℕ) (at : ℕ) {end : ℕ} (e : end ≡ scan (until is_tag
   unfolding open_at
   open-unnamed h = rw (← e, eq-eqb end (at + 1) h)
 
-  module _ (h : end ≡ at + 1 → ⊥) {g : Ending} (t : g ≡ (tag_at doc end at).ending) where
-    pub open-ends : {next : ℕ} {closed : Bool} → g ≡ Ends next closed → {w : List ℕ} → w ≡ piece doc (at + 1) (end - (at + 1)) → {lost : ℕ} → lost ≡ prefix_length w → Open (at + 1 + lost) (end - (at + 1) - lost) end next closed ≡ open_at doc at
+  module _ (h : end ≡ at + 1 → ⊥) {g : Result Ending Refusal} (t : g ≡ (tag_at doc end at).ending) where
+    pub open-ends : {ending : Ending} → g ≡ Ok ending → {w : List ℕ} → w ≡ piece doc (at + 1) (end - (at + 1)) → {lost : ℕ} → lost ≡ prefix_length w → Open (at + 1 + lost) (end - (at + 1) - lost) end ending.next ending.self_closed ≡ open_at doc at
     unfolding open_at open_with
     open-ends f p l = rw (← e, ne_eqb end (at + 1) h, ← t, f, ← p, ← l)
 
-    pub open-broken : {refusal : Refusal} → g ≡ Broken refusal → Refused refusal ≡ open_at doc at
+    pub open-broken : {refusal : Refusal} → g ≡ Err refusal → Refused refusal ≡ open_at doc at
     unfolding open_at open_with
     open-broken f = rw (← e, ne_eqb end (at + 1) h, ← t, f)
 

@@ -1,6 +1,7 @@
 -- Laws of an open and a close tag, by how they begin.
+use Rattle.tags.specs.declared.tag.Ending.{Ending}
+use Rattle.std.specs.Prelude.{Ok, Err}
 use mathlib.Core.Path.{◌≡◌, refl, sym, ap, ◌∙◌}
-use mathlib.Core.Bool.{Bool}
 use mathlib.Core.List.{List}
 use Prim.Native.Nat.{ℕ, ◌+◌, ◌-◌, ◌<◌}
 use native.Mathlib.Omega.{arith}
@@ -8,7 +9,6 @@ use Rattle.refusals.specs.declared.Refusal.{Refusal}
 use Rattle.refusals.specs.declared.Refusal.TheVariants.{NoTagName}
 use Rattle.tags.specs.declared.beginning.Opening.{Opening}
 use Rattle.tags.specs.declared.beginning.Beginning.{Beginning}
-use Rattle.tags.specs.declared.tag.Ending.TheVariants.{Ends, Broken}
 use Rattle.tags.specs.declared.tag.Whole.{Whole}
 use Rattle.tags.specs.Attributes.{tag_at}
 use Rattle.tags.specs.Noting.{NotedBy}
@@ -33,8 +33,8 @@ module _ (doc : List ℕ) (at : ℕ) {b : Beginning} (a : BeginsAt doc (at + 1) 
   begun-unnamed h = open-unnamed doc at a.ends h
 
   module _ (h : b.end ≡ at + 1 → ⊥) {w : Whole} (t : (w.ending ≡ (tag_at doc b.end at).ending) × NotedBy (keys_by b.keys) doc b.end w.noted) where
-    pub begun-open : {next : ℕ} {closed : Bool} → w.ending ≡ Ends next closed → NotedAs (open_at doc at) doc (record { step = Open (at + 1 + b.lost) (b.end - (at + 1) - b.lost) b.end next closed; noted = w.noted })
+    pub begun-open : {ending : Ending} → w.ending ≡ Ok ending → NotedAs (open_at doc at) doc (record { step = Open (at + 1 + b.lost) (b.end - (at + 1) - b.lost) b.end ending.next ending.self_closed; noted = w.noted })
     begun-open f = as-open doc at (open-ends doc at a.ends h t.0 f refl a.lost) refl (by-keys doc b.end a.keys t.1)
 
-    pub begun-broken : {refusal : Refusal} → w.ending ≡ Broken refusal → Refused refusal ≡ open_at doc at
+    pub begun-broken : {refusal : Refusal} → w.ending ≡ Err refusal → Refused refusal ≡ open_at doc at
     begun-broken f = open-broken doc at a.ends h t.0 f

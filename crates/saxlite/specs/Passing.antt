@@ -1,7 +1,7 @@
 -- What is passed because it changes nothing. Internal.
-use Rattle.std.specs.Prelude.{◌≡◌, Bool, true, false, List, ℕ, ◌+◌, ◌≤◌, ◌<◌, length}
+use Rattle.std.specs.Prelude.{◌≡◌, Bool, true, false, List, ℕ, ◌+◌, ◌≤◌, ◌<◌, length, drop, Some, None}
+use Rattle.texts.specs.Text.{starts_with}
 use Rattle.refusals.specs.declared.Refusal.{Refusal}
-use Rattle.tags.specs.declared.scan.Occurrence.TheVariants.{At, Nowhere}
 use Rattle.tags.specs.Find.{find_from}
 use Rattle.saxlite.specs.declared.step.Step.{Step}
 use Rattle.saxlite.specs.declared.step.Step.TheVariants.{Text, Close, Skipped, Refused}
@@ -19,10 +19,14 @@ pub data Idle (doc : List ℕ) (collecting outside : Bool) : ℕ → ℕ → Typ
   stay : {i : ℕ} → Idle doc collecting outside i i
   on : {i j k : ℕ} → Idles doc collecting outside i j → Idle doc collecting outside j k → Idle doc collecting outside i k
 
+-- whether the needle stands at a place
+pub record Stands (needle doc : List ℕ) (i : ℕ) (r : Bool) : Type 0 where
+  pub is : starts_with needle (drop i doc) ≡ r
+
 -- r is the first place from one on where the needle stands, or no place of the document, where it stands nowhere
 pub record FoundAt (needle doc : List ℕ) (from r : ℕ) : Type 0 where
-  pub is : r < length doc → find_from needle doc from ≡ At r
-  pub none : length doc ≤ r → find_from needle doc from ≡ Nowhere
+  pub is : r < length doc → find_from needle doc from ≡ Some r
+  pub none : length doc ≤ r → find_from needle doc from ≡ None
 
 -- r is n bytes past the end of what stands at a place, or the place, where that does not end within the document
 pub record PastEnd (doc : List ℕ) (at end n r : ℕ) : Type 0 where

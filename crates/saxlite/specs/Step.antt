@@ -1,5 +1,5 @@
 -- One step of the reader at a place of the document.
-use Rattle.std.specs.Prelude.{List, ℕ, ◌+◌, ◌-◌, eqb, leb, length}
+use Rattle.std.specs.Prelude.{List, ℕ, ◌+◌, ◌-◌, eqb, leb, length, Option, Some, None, Result, Ok, Err}
 use Prim.Native.String.{String}
 use Rattle.texts.specs.Choice.{pick}
 use Rattle.texts.specs.Text.{ascii, piece}
@@ -7,10 +7,7 @@ use Rattle.texts.specs.Scan.{scan, until, is}
 use Rattle.classes.specs.Class.{is_space, is_tag_name_end}
 use Rattle.refusals.specs.declared.Refusal.{Refusal}
 use Rattle.refusals.specs.declared.Refusal.TheVariants.{OpenComment, OpenInstruction, OpenDeclaration, NoCloseTagEnd, NoTagName}
-use Rattle.tags.specs.declared.scan.Occurrence.{Occurrence}
-use Rattle.tags.specs.declared.scan.Occurrence.TheVariants.{At, Nowhere}
 use Rattle.tags.specs.declared.tag.Ending.{Ending}
-use Rattle.tags.specs.declared.tag.Ending.TheVariants.{Ends, Broken}
 use Rattle.tags.specs.Find.{stands, find_from}
 use Rattle.tags.specs.Names.{prefix_length}
 use Rattle.tags.specs.Attributes.{tag_at}
@@ -24,9 +21,9 @@ text_at doc at =
     Text at (end - at) end
 
 -- markup that is passed over: past the n bytes that end it, and a refusal where they stand nowhere
-unfoldable pub past_end : ℕ → Occurrence → Refusal → Step
-past_end n (At i) refusal = Skipped (i + n)
-past_end n Nowhere refusal = Refused refusal
+unfoldable pub past_end : ℕ → Option ℕ → Refusal → Step
+past_end n (Some i) refusal = Skipped (i + n)
+past_end n None refusal = Refused refusal
 
 unfoldable pub skipped_to : String → List ℕ → ℕ → Refusal → Step
 skipped_to end doc from refusal = past_end (length (ascii end)) (find_from (ascii end) doc from) refusal
@@ -41,11 +38,11 @@ close_at doc at =
     pick (stands ">" doc due) (Close (name + lost) (end - name - lost) (due + 1)) (Refused (NoCloseTagEnd due at))
 
 -- an open tag by how it ends: its raw name is n bytes long, and its attributes begin right after it
-unfoldable pub open_with : List ℕ → ℕ → ℕ → ℕ → Ending → Step
-open_with doc name n attributes (Ends next closed) =
+unfoldable pub open_with : List ℕ → ℕ → ℕ → ℕ → Result Ending Refusal → Step
+open_with doc name n attributes (Ok ending) =
     let lost = prefix_length (piece doc name n) in
-    Open (name + lost) (n - lost) attributes next closed
-open_with doc name n attributes (Broken refusal) = Refused refusal
+    Open (name + lost) (n - lost) attributes ending.next ending.self_closed
+open_with doc name n attributes (Err refusal) = Refused refusal
 
 -- '<', a name that is not empty, attributes, '>' or '/>'
 unfoldable pub open_at : List ℕ → ℕ → Step

@@ -1,12 +1,14 @@
 // Past what changes nothing, in one loop: text that nobody collects, comments, instructions, declarations, and closes of no
 // name outside of every element. Each is a step of the reader (specs/Passing.antt), and here a turn of its driver less. This
 // is for speed alone: what is not passed is read. Where markup that is skipped ends, the reader asks here too.
-ghost use Rattle.std.specs.Prelude.{true, false, ◌+◌, ◌≤◌, ◌<◌, length};
+#![tactic(auto, using(crate::proofs::Finding::finding, crate::proofs::Idling::passing))]
+
+ghost use Rattle.std.specs.Prelude.{true, false, List, ℕ, ◌+◌, ◌≤◌, ◌<◌, length};
 ghost use Rattle.texts.specs.Text.{ascii};
 ghost use Rattle.words.specs.Standing.{ShortText};
-ghost use Rattle.saxlite.specs.Passing.{Idle, FoundAt, PastEnd};
+ghost use Rattle.saxlite.specs.Passing.{Idle, Stands, FoundAt, PastEnd};
 
-use tags::scan::{Occurrence, byte_from, find};
+use tags::scan::{byte_from, find};
 use words::{pair_from, stands_short, three_from};
 
 // Where `needle` first stands from `from` on, or the document's length.
@@ -14,11 +16,7 @@ fn found(doc: &[u8], from: usize, needle: &[u8]) -> usize
     requires { 0 < length needle.now }
     ensures { FoundAt needle.now doc.now from result }
 {
-    let place = find(doc, from, needle);
-    match place {
-        Occurrence::At(i) => i,
-        Occurrence::Nowhere => doc.len(),
-    }
+    find(doc, from, needle).unwrap_or(doc.len())
 }
 
 // The same of a needle that most likely stands at `from`, and that has these numbers.
@@ -45,37 +43,7 @@ pub fn comment_far(doc: &[u8], from: usize) -> usize
     found_by(doc, near, b"-->", 0x100_0000, 0x3e_2d2d)
 }
 
-// The same: the first sixteen places one by one, as comments are often short, and then by words. A search by words, whose
-// answers wait for each other, costs as much as a dozen places one by one, which the processor predicts. The reader, which
-// meets one only where the loop below has not passed it, asks `comment_far`.
-fn comment_end(doc: &[u8], from: usize) -> usize
-    requires { from ≤ length doc.now }
-    ensures { FoundAt (ascii "-->") doc.now from result }
-{
-    if doc.len() - from < 24 {
-        return found(doc, from, b"-->");
-    }
-    let stop = from + 16;
-    let mut i = from;
-    while i < stop {
-        if stands_short(doc, i, 0x100_0000, 0x3e_2d2d) {
-            return i;
-        }
-        if stands_short(doc, i + 1, 0x100_0000, 0x3e_2d2d) {
-            return i + 1;
-        }
-        if stands_short(doc, i + 2, 0x100_0000, 0x3e_2d2d) {
-            return i + 2;
-        }
-        if stands_short(doc, i + 3, 0x100_0000, 0x3e_2d2d) {
-            return i + 3;
-        }
-        i += 4;
-    }
-    comment_far(doc, i)
-}
-
-// The same two of an instruction.
+// The same of an instruction.
 pub fn instruction_far(doc: &[u8], from: usize) -> usize
     ensures { FoundAt (ascii "?>") doc.now from result }
 {
@@ -86,59 +54,90 @@ pub fn instruction_far(doc: &[u8], from: usize) -> usize
     found_by(doc, near, b"?>", 0x1_0000, 0x3e3f)
 }
 
-fn instruction_end(doc: &[u8], from: usize) -> usize
-    requires { from ≤ length doc.now }
-    ensures { FoundAt (ascii "?>") doc.now from result }
-{
-    if doc.len() - from < 24 {
-        return found(doc, from, b"?>");
-    }
-    let stop = from + 16;
-    let mut i = from;
-    while i < stop {
-        if stands_short(doc, i, 0x1_0000, 0x3e3f) {
-            return i;
-        }
-        if stands_short(doc, i + 1, 0x1_0000, 0x3e3f) {
-            return i + 1;
-        }
-        if stands_short(doc, i + 2, 0x1_0000, 0x3e3f) {
-            return i + 2;
-        }
-        if stands_short(doc, i + 3, 0x1_0000, 0x3e3f) {
-            return i + 3;
-        }
-        i += 4;
-    }
-    instruction_far(doc, i)
+// What ends markup that is passed over.
+trait MarkupEnd {
+    ghost needle: { List ℕ };
+
+    // Whether it stands at `i`.
+    fn stands(doc: &[u8], i: usize) -> bool
+        requires { i + 8 ≤ length doc.now }
+        ensures { Stands needle doc.now i result };
+
+    // Where it first stands from `from` on, by words.
+    fn far(doc: &[u8], from: usize) -> usize
+        ensures { FoundAt needle doc.now from result };
 }
 
-// Where the declaration that is open at `from` ends: the same again, of one byte.
-fn declaration_end(doc: &[u8], from: usize) -> usize
+struct CommentEnd;
+
+impl MarkupEnd for CommentEnd {
+    ghost needle = { ascii "-->" };
+
+    fn stands(doc: &[u8], i: usize) -> bool {
+        stands_short(doc, i, 0x100_0000, 0x3e_2d2d)
+    }
+
+    fn far(doc: &[u8], from: usize) -> usize {
+        comment_far(doc, from)
+    }
+}
+
+struct InstructionEnd;
+
+impl MarkupEnd for InstructionEnd {
+    ghost needle = { ascii "?>" };
+
+    fn stands(doc: &[u8], i: usize) -> bool {
+        stands_short(doc, i, 0x1_0000, 0x3e3f)
+    }
+
+    fn far(doc: &[u8], from: usize) -> usize {
+        instruction_far(doc, from)
+    }
+}
+
+struct DeclarationEnd;
+
+impl MarkupEnd for DeclarationEnd {
+    ghost needle = { ascii ">" };
+
+    fn stands(doc: &[u8], i: usize) -> bool {
+        stands_short(doc, i, 0x100, 0x3e)
+    }
+
+    fn far(doc: &[u8], from: usize) -> usize {
+        byte_from(doc, from, b'>')
+    }
+}
+
+// Where the markup that is open at `from` ends: the first sixteen places one by one, as comments are often short, and then by
+// words. A search by words, whose answers wait for each other, costs as much as a dozen places one by one, which the processor
+// predicts. The reader, which meets one only where the loop below has not passed it, asks `comment_far` and `instruction_far`.
+fn markup_end<E: MarkupEnd>(doc: &[u8], from: usize) -> usize
     requires { from ≤ length doc.now }
-    ensures { FoundAt (ascii ">") doc.now from result }
+    ensures { FoundAt E.needle doc.now from result }
 {
     if doc.len() - from < 24 {
-        return byte_from(doc, from, b'>');
+        return E::far(doc, from);
     }
     let stop = from + 16;
     let mut i = from;
     while i < stop {
-        if doc[i] == b'>' {
+        if E::stands(doc, i) {
             return i;
         }
-        if doc[i + 1] == b'>' {
+        if E::stands(doc, i + 1) {
             return i + 1;
         }
-        if doc[i + 2] == b'>' {
+        if E::stands(doc, i + 2) {
             return i + 2;
         }
-        if doc[i + 3] == b'>' {
+        if E::stands(doc, i + 3) {
             return i + 3;
         }
         i += 4;
     }
-    byte_from(doc, i, b'>')
+    E::far(doc, i)
 }
 
 // Past the `n` bytes at `end`, or at `at`, where nothing ends.
@@ -159,18 +158,13 @@ fn past_markup(doc: &[u8], at: usize, outside: bool) -> usize
             return at + 7;
         }
         let from = at + 4;
-        let end = comment_end(doc, from);
-        return past_end(doc, at, end, 3);
+        return past_end(doc, at, markup_end::<CommentEnd>(doc, from), 3);
     }
     if stands_short(doc, at, 0x1_0000, 0x213c) {
-        let from = at + 2;
-        let end = declaration_end(doc, from);
-        return past_end(doc, at, end, 1);
+        return past_end(doc, at, markup_end::<DeclarationEnd>(doc, at + 2), 1);
     }
     if stands_short(doc, at, 0x1_0000, 0x3f3c) {
-        let from = at + 2;
-        let end = instruction_end(doc, from);
-        return past_end(doc, at, end, 2);
+        return past_end(doc, at, markup_end::<InstructionEnd>(doc, at + 2), 2);
     }
     if outside {
         if stands_short(doc, at, 0x100_0000, 0x3e_2f3c) {

@@ -1,5 +1,7 @@
 // What the reader yields, and where it goes on: by value, and as a struct that holds the document.
 // An event at a time, so that a self-closed tag is an open, then a close.
+#![tactic(auto, using(crate::proofs::Reading::reading, crate::proofs::Noting::noting))]
+
 ghost use Rattle.std.specs.Prelude.{◌≡◌};
 ghost use Rattle.classes.specs.Table.{IsTable};
 ghost use Rattle.saxlite.specs.Reader.{read_at, read_step, at_end, cursor_at};

@@ -1,4 +1,6 @@
 // One step of the reader.
+#![tactic(auto, using(crate::proofs::Laws::laws, crate::proofs::Laws::closing))]
+
 ghost use Rattle.std.specs.Prelude.{◌≡◌, ◌+◌, ◌≤◌, ◌<◌, length};
 ghost use Rattle.classes.specs.Table.{IsTable};
 ghost use Rattle.saxlite.specs.Step.{step_at, markup_at, close_at, open_at};
@@ -10,7 +12,7 @@ use classes::table;
 use refusals::Refusal;
 use tags::beginning::{begin_at, closing_at};
 use tags::scan::{byte_from, prefix_len, skip_space, tag_name_end};
-use tags::tag::{Ending, Notes, nothing, tag_noting};
+use tags::tag::{Notes, nothing, tag_noting};
 
 // What stands at a place, and where the reader goes on.
 #[derive(Clone, Copy)]
@@ -136,20 +138,18 @@ fn open_at(doc: &[u8], at: usize, t: &[u8; 256]) -> NotedStep
     let local = name + lost;
     let name_len = n - lost;
     let tag = tag_noting(doc, end, at, begun.keys, t);
-    let ending = tag.ending;
-    match ending {
-        Ending::Ends { next, self_closed } => {
-            let step = Step::Open {
+    match tag.ending {
+        Ok(ending) => NotedStep {
+            step: Step::Open {
                 name: local,
                 name_len,
                 attributes: end,
-                next,
-                self_closed,
-            };
-            let noted = tag.noted;
-            NotedStep { step, noted }
-        }
-        Ending::Broken(refusal) => bare(Step::Refused(refusal)),
+                next: ending.next,
+                self_closed: ending.self_closed,
+            },
+            noted: tag.noted,
+        },
+        Err(refusal) => bare(Step::Refused(refusal)),
     }
 }
 

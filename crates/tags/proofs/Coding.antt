@@ -1,4 +1,7 @@
 -- Laws of the numbers of names: which of them matter in a tag, and what is noted of an attribute by its number.
+use Rattle.tags.specs.declared.tag.Ending.{Ending}
+use Rattle.texts.specs.declared.Range.{Range}
+use Rattle.std.specs.Prelude.{Option, Result, Ok, Err}
 use mathlib.Core.Path.{◌≡◌, refl, sym, ap, ◌∙◌}
 use mathlib.Core.Bool.{Bool, true, false, not}
 use mathlib.Core.List.{List, [], ◌∷◌}
@@ -17,10 +20,8 @@ use Rattle.texts.proofs.Scanning.{count_yes}
 use Rattle.classes.specs.Class.{is_space, is_tag_name_end, is_attribute_name_end}
 use Rattle.tags.specs.declared.known.Codes.{Codes}
 use Rattle.tags.specs.declared.tag.TagPart.{TagPart}
-use Rattle.tags.specs.declared.tag.TagPart.TheVariants.{Attribute as Part, TagEnd, Bad}
-use Rattle.tags.specs.declared.tag.Ending.TheVariants.{Ends, Broken}
+use Rattle.tags.specs.declared.tag.TagPart.TheVariants.{Attribute as Part, TagEnd}
 use Rattle.tags.specs.declared.tag.Quick.{Quick}
-use Rattle.tags.specs.declared.tag.Found.{Found}
 use Rattle.tags.specs.declared.tag.Notes.{Notes}
 use Rattle.refusals.specs.declared.Refusal.{Refusal}
 use Rattle.tags.specs.Names.{prefix_length, local_name, is_xmlns}
@@ -176,26 +177,26 @@ unfolding found_at
 all_start doc at k e = rw e (record { first = looking-start; second = looking-start; third = looking-start; fourth = looking-start })
 
 module _ (doc : List ℕ) (at place i : ℕ) {q : Quick} (u : QuickAt doc i place q) where
-  pub quick-less : {name n value len next : ℕ} → q.part ≡ Part name n value len next → length doc - next < length doc - i
+  pub quick-less : {name n value len next : ℕ} → q.part ≡ Ok (Part name n value len next) → length doc - next < length doc - i
   quick-less f = part-less doc i place u.is f
 
-  pub quick-value : {name n value len next : ℕ} → q.part ≡ Part name n value len next → value < length doc
+  pub quick-value : {name n value len next : ℕ} → q.part ≡ Ok (Part name n value len next) → value < length doc
   quick-value f = part-value doc i place u.is f
 
-  pub quick-named : {name n value len next : ℕ} → q.part ≡ Part name n value len next → NamedAs doc name n q.code
+  pub quick-named : {name n value len next : ℕ} → q.part ≡ Ok (Part name n value len next) → NamedAs doc name n q.code
   quick-named f = record { named = λ h. rw f at (u.named h) }
 
-  pub quick-on : Going doc at place i → {name n value len next : ℕ} → q.part ≡ Part name n value len next → Going doc at place next
+  pub quick-on : Going doc at place i → {name n value len next : ℕ} → q.part ≡ Ok (Part name n value len next) → Going doc at place next
   quick-on g f = going_on g u.is f
 
-  pub quick-end : Going doc at place i → {next : ℕ} {closed : Bool} → q.part ≡ TagEnd next closed → Ends next closed ≡ (tag_at doc at place).ending
+  pub quick-end : Going doc at place i → {ending : Ending} → q.part ≡ Ok (TagEnd ending) → Ok ending ≡ (tag_at doc at place).ending
   quick-end g f = going_end g u.is f
 
-  pub quick-bad : Going doc at place i → {refusal : Refusal} → q.part ≡ Bad refusal → Broken refusal ≡ (tag_at doc at place).ending
+  pub quick-bad : Going doc at place i → {refusal : Refusal} → q.part ≡ Err refusal → Err refusal ≡ (tag_at doc at place).ending
   quick-bad g f = going-bad g u.is f
 
   module _ {k : Keys} {noted : Notes} (inv : LookingAll doc at k i noted) where
-    pub all-on : {name n value len next : ℕ} → q.part ≡ Part name n value len next → {r : Notes} → NotedMore (piece doc name n) value len k noted r → LookingAll doc at k next r
+    pub all-on : {name n value len next : ℕ} → q.part ≡ Ok (Part name n value len next) → {r : Notes} → NotedMore (piece doc name n) value len k noted r → LookingAll doc at k next r
     all-on f m =
         record {
           first = looking-on inv.first place u.is f m.first;
@@ -204,7 +205,7 @@ module _ (doc : List ℕ) (at place i : ℕ) {q : Quick} (u : QuickAt doc i plac
           fourth = looking-on inv.fourth place u.is f m.fourth;
         }
 
-    pub all_end : {next : ℕ} {closed : Bool} → q.part ≡ TagEnd next closed → NotedBy k doc at noted
+    pub all_end : {ending : Ending} → q.part ≡ Ok (TagEnd ending) → NotedBy k doc at noted
     all_end f =
         record {
           first = looking-end inv.first place u.is f;
@@ -213,7 +214,7 @@ module _ (doc : List ℕ) (at place i : ℕ) {q : Quick} (u : QuickAt doc i plac
           fourth = looking-end inv.fourth place u.is f;
         }
 
-    pub all-bad : {refusal : Refusal} → q.part ≡ Bad refusal → NotedBy k doc at noted
+    pub all-bad : {refusal : Refusal} → q.part ≡ Err refusal → NotedBy k doc at noted
     all-bad f =
         record {
           first = looking-bad inv.first place u.is f;
@@ -223,11 +224,11 @@ module _ (doc : List ℕ) (at place i : ℕ) {q : Quick} (u : QuickAt doc i plac
         }
 
 -- one name alone
-module _ {doc : List ℕ} {at : ℕ} {name : List ℕ} {i : ℕ} {found : Found} (inv : Looking doc at name i found) (place : ℕ) {p : TagPart} (e : p ≡ tag_part_at doc i place) {r : Found} (s : r ≡ found) where
-  pub looked-end : {next : ℕ} {closed : Bool} → p ≡ TagEnd next closed → r ≡ attribute_at doc at name
+module _ {doc : List ℕ} {at : ℕ} {name : List ℕ} {i : ℕ} {found : Option Range} (inv : Looking doc at name i found) (place : ℕ) {p : Result TagPart Refusal} (e : p ≡ tag_part_at doc i place) {r : Option Range} (s : r ≡ found) where
+  pub looked-end : {ending : Ending} → p ≡ Ok (TagEnd ending) → r ≡ attribute_at doc at name
   looked-end h = s ∙ looking-end inv place e h
 
-  pub looked-bad : {refusal : Refusal} → p ≡ Bad refusal → r ≡ attribute_at doc at name
+  pub looked-bad : {refusal : Refusal} → p ≡ Err refusal → r ≡ attribute_at doc at name
   looked-bad h = s ∙ looking-bad inv place e h
 
 -- the names that matter by another name

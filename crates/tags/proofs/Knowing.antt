@@ -1,4 +1,6 @@
 -- Laws of known attributes: what stands at a place is the part that the general way finds there.
+use Rattle.refusals.specs.declared.Refusal.{Refusal}
+use Rattle.std.specs.Prelude.{Result}
 use mathlib.Core.Path.{◌≡◌, refl, sym, ap, subst, ◌∙◌}
 use mathlib.Core.Bool.{Bool, true, false, not}
 use mathlib.Core.List.{List, [], ◌∷◌, ◌++◌, append_assoc}
@@ -107,7 +109,7 @@ module _ (doc : List ℕ) (at place : ℕ) {i : ℕ} (e : i ≡ scan is_space do
   ends = ap (λ k. i + k) (sym (ap (count_while (until is_attribute_name_end)) split ∙ goes-count n (34 ∷ rest) (goes-all n t)))
 
   -- r is what is read from the value's first byte on
-  pub plain-part : {r : TagPart} → r ≡ quoted_at 34 doc i (length n) (i + length n + 2) place → r ≡ tag_part_at doc at place
+  pub plain-part : {r : Result TagPart Refusal} → r ≡ quoted_at 34 doc i (length n) (i + length n + 2) place → r ≡ tag_part_at doc at place
   unfolding is_space starts_with
   plain-part {r} p =
       let k = i + length n in
@@ -138,7 +140,7 @@ module _ (doc : List ℕ) (at place : ℕ) {i : ℕ} (e : i ≡ scan is_space do
   known_in : i + length (known_name k.code) + 2 ≤ length doc
   known_in = within doc at place e (known_name k.code) (known-plain k.code h known.numbered) (known.stands h)
 
-  quick-known : {r : TagPart} → r ≡ quoted_at 34 doc i (length (known_name k.code)) (i + length (known_name k.code) + 2) place → QuickAt doc at place (record { code = k.code; part = r })
+  quick-known : {r : Result TagPart Refusal} → r ≡ quoted_at 34 doc i (length (known_name k.code)) (i + length (known_name k.code) + 2) place → QuickAt doc at place (record { code = k.code; part = r })
   quick-known {r} p =
       let n = known_name k.code in
       let t = known-plain k.code h known.numbered in
@@ -148,7 +150,7 @@ module _ (doc : List ℕ) (at place : ℕ) {i : ℕ} (e : i ≡ scan is_space do
       }
 
 -- any other part
-pub other-quick : (doc : List ℕ) (at place : ℕ) {r : TagPart} → r ≡ tag_part_at doc at place → QuickAt doc at place (record { code = 0; part = r })
+pub other-quick : (doc : List ℕ) (at place : ℕ) {r : Result TagPart Refusal} → r ≡ tag_part_at doc at place → QuickAt doc at place (record { code = 0; part = r })
 other-quick doc at place e = record { is = e; named = λ z. absurd (omega arith) }
 
 -- ---- what stands behind one space
@@ -173,7 +175,7 @@ module _ (doc : List ℕ) (at place : ℕ) {b : Bool} (e : b ≡ starts_with (as
   pub spaced-fits : length doc < 2 ^ 64 → Fits w64 (at + k.skip)
   spaced-fits l = omega (arith, known.ahead h, known_in doc at place spaced known h)
 
-  pub spaced-quick : {r : TagPart} → r ≡ quoted_at 34 doc (at + 1) (k.skip - 3) (at + k.skip) place → QuickAt doc at place (record { code = k.code; part = r })
+  pub spaced-quick : {r : Result TagPart Refusal} → r ≡ quoted_at 34 doc (at + 1) (k.skip - 3) (at + k.skip) place → QuickAt doc at place (record { code = k.code; part = r })
   spaced-quick p =
       let n = length (known_name k.code) in
       let l : k.skip - 3 ≡ n = omega (arith, known.ahead h) in

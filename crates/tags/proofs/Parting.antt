@@ -1,4 +1,6 @@
 -- Laws of one part of a tag, as its functions come to it: each premise is what a call or a test says.
+use Rattle.refusals.specs.declared.Refusal.{Refusal}
+use Rattle.std.specs.Prelude.{Result, Ok, Err}
 use mathlib.Core.Path.{◌≡◌}
 use mathlib.Core.Bool.{Bool, true, false}
 use mathlib.Core.List.{List}
@@ -12,28 +14,28 @@ use Rattle.texts.proofs.Scanning.{scan-start, byte-on, byte-stop}
 use Rattle.classes.specs.Class.{is_space, is_attribute_name_end}
 use Rattle.refusals.specs.declared.Refusal.TheVariants.{OpenTag, NoAttributeName, NoEquals, NoQuote, OpenValue}
 use Rattle.tags.specs.declared.tag.TagPart.{TagPart}
-use Rattle.tags.specs.declared.tag.TagPart.TheVariants.{Attribute as Part, TagEnd, Bad}
+use Rattle.tags.specs.declared.tag.TagPart.TheVariants.{Attribute as Part, TagEnd}
 use Rattle.tags.specs.Attributes.{quoted_at, value_at, attribute_part_at, tag_part_at}
 
 -- ---- up to the closing quote
 
 module _ (quote : ℕ) (doc : List ℕ) (name n at place : ℕ) {end : ℕ} (e : end ≡ scan (until (is quote)) doc at) where
-  pub quoted-ends : end < length doc → Part name n at (end - at) (end + 1) ≡ quoted_at quote doc name n at place
+  pub quoted-ends : end < length doc → Ok (Part name n at (end - at) (end + 1)) ≡ quoted_at quote doc name n at place
   unfolding quoted_at
   quoted-ends h = rw (← e, lt-ltb end (length doc) h)
 
-  pub quoted-open : length doc ≤ end → Bad (OpenValue at place) ≡ quoted_at quote doc name n at place
+  pub quoted-open : length doc ≤ end → Err (OpenValue at place) ≡ quoted_at quote doc name n at place
   unfolding quoted_at
   quoted-open h = rw (← e, le-ltb end (length doc) h)
 
 -- an empty value, and one of a single byte
 module _ (quote : ℕ) (doc : List ℕ) (name n at place : ℕ) (h : at + 1 < length doc) where
-  pub quoted-empty : get_or doc at 0 ≡ quote → Part name n at 0 (at + 1) ≡ quoted_at quote doc name n at place
+  pub quoted-empty : get_or doc at 0 ≡ quote → Ok (Part name n at 0 (at + 1)) ≡ quoted_at quote doc name n at place
   quoted-empty e =
       let z : at - at ≡ 0 = omega arith in
       rw z at (quoted-ends quote doc name n at place (byte-stop scan-start (omega arith) e) (omega arith))
 
-  pub quoted-single : (get_or doc at 0 ≡ quote → ⊥) → get_or doc (at + 1) 0 ≡ quote → Part name n at 1 (at + 2) ≡ quoted_at quote doc name n at place
+  pub quoted-single : (get_or doc at 0 ≡ quote → ⊥) → get_or doc (at + 1) 0 ≡ quote → Ok (Part name n at 1 (at + 2)) ≡ quoted_at quote doc name n at place
   quoted-single d e =
       let z : at + 1 - at ≡ 1 = omega arith in
       let w : at + 1 + 1 ≡ at + 2 = omega arith in
@@ -42,52 +44,52 @@ module _ (quote : ℕ) (doc : List ℕ) (name n at place : ℕ) (h : at + 1 < le
 -- ---- a quoted value; b and c are what the comparisons with the quotes say, r what the function above returns
 
 module _ (doc : List ℕ) (name n at place : ℕ) {b : Bool} (e : b ≡ starts_with (ascii "\"") (drop at doc)) where
-  pub value-double : b ≡ true → {r : TagPart} → r ≡ quoted_at 34 doc name n (at + 1) place → r ≡ value_at doc name n at place
+  pub value-double : b ≡ true → {r : Result TagPart Refusal} → r ≡ quoted_at 34 doc name n (at + 1) place → r ≡ value_at doc name n at place
   unfolding value_at
   value-double t p = rw (← e, t) p
 
   module _ (f : b ≡ false) {c : Bool} (g : c ≡ starts_with (ascii "'") (drop at doc)) where
-    pub value-single : c ≡ true → {r : TagPart} → r ≡ quoted_at 39 doc name n (at + 1) place → r ≡ value_at doc name n at place
+    pub value-single : c ≡ true → {r : Result TagPart Refusal} → r ≡ quoted_at 39 doc name n (at + 1) place → r ≡ value_at doc name n at place
     unfolding value_at
     value-single t p = rw (← e, f, ← g, t) p
 
-    pub value_none : c ≡ false → Bad (NoQuote at place) ≡ value_at doc name n at place
+    pub value_none : c ≡ false → Err (NoQuote at place) ≡ value_at doc name n at place
     unfolding value_at
     value_none t = rw (← e, f, ← g, t)
 
 -- ---- an attribute
 
 module _ (doc : List ℕ) (at place : ℕ) {end : ℕ} (e : end ≡ scan (until is_attribute_name_end) doc at) where
-  pub attribute-unnamed : end ≡ at → Bad (NoAttributeName at place) ≡ attribute_part_at doc at place
+  pub attribute-unnamed : end ≡ at → Err (NoAttributeName at place) ≡ attribute_part_at doc at place
   unfolding attribute_part_at
   attribute-unnamed h = rw (← e, eq-eqb end at h)
 
   module _ (h : end ≡ at → ⊥) {equals : ℕ} (q : equals ≡ scan is_space doc end) {b : Bool} (s : b ≡ starts_with (ascii "=") (drop equals doc)) where
-    pub attribute-valued : b ≡ true → {value : ℕ} → value ≡ scan is_space doc (equals + 1) → {r : TagPart} → r ≡ value_at doc at (end - at) value place → r ≡ attribute_part_at doc at place
+    pub attribute-valued : b ≡ true → {value : ℕ} → value ≡ scan is_space doc (equals + 1) → {r : Result TagPart Refusal} → r ≡ value_at doc at (end - at) value place → r ≡ attribute_part_at doc at place
     unfolding attribute_part_at
     attribute-valued t v p = rw (← e, ne_eqb end at h, ← q, ← s, t, ← v) p
 
-    pub attribute-bare : b ≡ false → Bad (NoEquals equals place) ≡ attribute_part_at doc at place
+    pub attribute-bare : b ≡ false → Err (NoEquals equals place) ≡ attribute_part_at doc at place
     unfolding attribute_part_at
     attribute-bare t = rw (← e, ne_eqb end at h, ← q, ← s, t)
 
 -- ---- a part
 
 module _ (doc : List ℕ) (at place : ℕ) {i : ℕ} (e : i ≡ scan is_space doc at) where
-  pub part-open : length doc ≤ i → Bad (OpenTag i place) ≡ tag_part_at doc at place
+  pub part-open : length doc ≤ i → Err (OpenTag i place) ≡ tag_part_at doc at place
   unfolding tag_part_at
   part-open h = rw (← e, le-leb (length doc) i h)
 
   module _ (h : i < length doc) {b : Bool} (f : b ≡ starts_with (ascii ">") (drop i doc)) where
-    pub part_end : b ≡ true → TagEnd (i + 1) false ≡ tag_part_at doc at place
+    pub part_end : b ≡ true → Ok (TagEnd (record { next = i + 1; self_closed = false })) ≡ tag_part_at doc at place
     unfolding tag_part_at
     part_end t = rw (← e, lt-leb (length doc) i h, ← f, t)
 
     module _ (u : b ≡ false) {c : Bool} (g : c ≡ starts_with (ascii "/>") (drop i doc)) where
-      pub part-self-end : c ≡ true → TagEnd (i + 2) true ≡ tag_part_at doc at place
+      pub part-self-end : c ≡ true → Ok (TagEnd (record { next = i + 2; self_closed = true })) ≡ tag_part_at doc at place
       unfolding tag_part_at
       part-self-end t = rw (← e, lt-leb (length doc) i h, ← f, u, ← g, t)
 
-      pub part-attribute : c ≡ false → {r : TagPart} → r ≡ attribute_part_at doc i place → r ≡ tag_part_at doc at place
+      pub part-attribute : c ≡ false → {r : Result TagPart Refusal} → r ≡ attribute_part_at doc i place → r ≡ tag_part_at doc at place
       unfolding tag_part_at
       part-attribute t p = rw (← e, lt-leb (length doc) i h, ← f, u, ← g, t) p

@@ -1,4 +1,6 @@
 -- The parts of a tag do not depend on its place, which refusals alone tell.
+use Rattle.tags.specs.declared.tag.Ending.{Ending}
+use Rattle.std.specs.Prelude.{Result, Ok, Err}
 use mathlib.Core.Path.{◌≡◌, refl, ap, ◌∙◌}
 use mathlib.Core.Bool.{Bool, true, false}
 use mathlib.Core.List.{List}
@@ -12,26 +14,26 @@ use Rattle.classes.specs.Class.{is_space, is_attribute_name_end}
 use Rattle.refusals.specs.declared.Refusal.{Refusal}
 use Rattle.refusals.specs.declared.Refusal.TheVariants.{OpenTag}
 use Rattle.tags.specs.declared.tag.TagPart.{TagPart}
-use Rattle.tags.specs.declared.tag.TagPart.TheVariants.{Attribute as Part, TagEnd, Bad}
+use Rattle.tags.specs.declared.tag.TagPart.TheVariants.{Attribute as Part, TagEnd}
 use Rattle.tags.specs.Find.{stands}
 use Rattle.tags.specs.Attributes.{quoted_at, value_at, attribute_part_at, tag_part_at}
 
 -- a part but for what a refusal says
-abbrev unplaced : TagPart → TagPart
-unplaced (Part name n value len next) = Part name n value len next
-unplaced (TagEnd next closed) = TagEnd next closed
-unplaced (Bad refusal) = Bad (OpenTag 0 0)
+abbrev unplaced : Result TagPart Refusal → Result TagPart Refusal
+unplaced (Ok (Part name n value len next)) = Ok (Part name n value len next)
+unplaced (Ok (TagEnd ending)) = Ok (TagEnd ending)
+unplaced (Err refusal) = Err (OpenTag 0 0)
 
-record Alike (x y : TagPart) : Type 0 where
+record Alike (x y : Result TagPart Refusal) : Type 0 where
   same : unplaced x ≡ unplaced y
 
-alike_self : {x : TagPart} → Alike x x
+alike_self : {x : Result TagPart Refusal} → Alike x x
 alike_self = record { same = refl }
 
-alike-bad : {r q : Refusal} → Alike (Bad r) (Bad q)
+alike-bad : {r q : Refusal} → Alike (Err r) (Err q)
 alike-bad = record { same = refl }
 
-pick-both : (b : Bool) {x x' y y' : TagPart} → Alike x x' → Alike y y' → Alike (pick b x y) (pick b x' y')
+pick-both : (b : Bool) {x x' y y' : Result TagPart Refusal} → Alike x x' → Alike y y' → Alike (pick b x y) (pick b x' y')
 pick-both true e f = e
 pick-both false e f = f
 
@@ -62,33 +64,33 @@ module _ (doc : List ℕ) (p q : ℕ) where
       (pick-both (stands ">" doc i) alike_self
       (pick-both (stands "/>" doc i) alike_self (attribute-alike i)))
 
-is-part : (x : TagPart) {name n value len next : ℕ} → unplaced x ≡ Part name n value len next → x ≡ Part name n value len next
-is-part (Part name n value len next) e = e
-is-part (TagEnd next closed) e = e
-is-part (Bad refusal) e = absurd (let z : ◌≡◌ {A = ℕ} 0 1 = cc in omega arith)
+is-part : (x : Result TagPart Refusal) {name n value len next : ℕ} → unplaced x ≡ Ok (Part name n value len next) → x ≡ Ok (Part name n value len next)
+is-part (Ok (Part name n value len next)) e = e
+is-part (Ok (TagEnd ending)) e = e
+is-part (Err refusal) e = absurd (let z : ◌≡◌ {A = ℕ} 0 1 = cc in omega arith)
 
-is-end : (x : TagPart) {next : ℕ} {closed : Bool} → unplaced x ≡ TagEnd next closed → x ≡ TagEnd next closed
-is-end (Part name n value len next) e = e
-is-end (TagEnd next closed) e = e
-is-end (Bad refusal) e = absurd (let z : ◌≡◌ {A = ℕ} 0 1 = cc in omega arith)
+is-end : (x : Result TagPart Refusal) {ending : Ending} → unplaced x ≡ Ok (TagEnd ending) → x ≡ Ok (TagEnd ending)
+is-end (Ok (Part name n value len next)) e = e
+is-end (Ok (TagEnd ending)) e = e
+is-end (Err refusal) e = absurd (let z : ◌≡◌ {A = ℕ} 0 1 = cc in omega arith)
 
 -- the refusal at another place
-abbrev pub bad_of : TagPart → Refusal
-bad_of (Part name n value len next) = OpenTag 0 0
-bad_of (TagEnd next closed) = OpenTag 0 0
-bad_of (Bad refusal) = refusal
+abbrev pub bad_of : Result TagPart Refusal → Refusal
+bad_of (Ok (Part name n value len next)) = OpenTag 0 0
+bad_of (Ok (TagEnd ending)) = OpenTag 0 0
+bad_of (Err refusal) = refusal
 
-is-bad : (x : TagPart) → unplaced x ≡ Bad (OpenTag 0 0) → x ≡ Bad (bad_of x)
-is-bad (Part name n value len next) e = absurd (let z : ◌≡◌ {A = ℕ} 0 1 = cc in omega arith)
-is-bad (TagEnd next closed) e = absurd (let z : ◌≡◌ {A = ℕ} 0 1 = cc in omega arith)
-is-bad (Bad refusal) e = refl
+is-bad : (x : Result TagPart Refusal) → unplaced x ≡ Err (OpenTag 0 0) → x ≡ Err (bad_of x)
+is-bad (Ok (Part name n value len next)) e = absurd (let z : ◌≡◌ {A = ℕ} 0 1 = cc in omega arith)
+is-bad (Ok (TagEnd ending)) e = absurd (let z : ◌≡◌ {A = ℕ} 0 1 = cc in omega arith)
+is-bad (Err refusal) e = refl
 
 module _ (doc : List ℕ) (at p q : ℕ) where
-  pub any_part : {name n value len next : ℕ} → tag_part_at doc at p ≡ Part name n value len next → tag_part_at doc at q ≡ Part name n value len next
+  pub any_part : {name n value len next : ℕ} → tag_part_at doc at p ≡ Ok (Part name n value len next) → tag_part_at doc at q ≡ Ok (Part name n value len next)
   any_part e = is-part (tag_part_at doc at q) ((part-alike doc q p at).same ∙ ap unplaced e)
 
-  pub any-end : {next : ℕ} {closed : Bool} → tag_part_at doc at p ≡ TagEnd next closed → tag_part_at doc at q ≡ TagEnd next closed
+  pub any-end : {ending : Ending} → tag_part_at doc at p ≡ Ok (TagEnd ending) → tag_part_at doc at q ≡ Ok (TagEnd ending)
   any-end e = is-end (tag_part_at doc at q) ((part-alike doc q p at).same ∙ ap unplaced e)
 
-  pub any-bad : {refusal : Refusal} → tag_part_at doc at p ≡ Bad refusal → tag_part_at doc at q ≡ Bad (bad_of (tag_part_at doc at q))
+  pub any-bad : {refusal : Refusal} → tag_part_at doc at p ≡ Err refusal → tag_part_at doc at q ≡ Err (bad_of (tag_part_at doc at q))
   any-bad e = is-bad (tag_part_at doc at q) ((part-alike doc q p at).same ∙ ap unplaced e)

@@ -1,4 +1,5 @@
 -- The place that is handed to a tag's parts matters to refusals alone: its attributes are the same whatever it is.
+use Rattle.std.specs.Prelude.{Result, Ok, Err}
 use mathlib.Core.Path.{◌≡◌, refl}
 use mathlib.Core.List.{List}
 use Prim.Native.Nat.{ℕ, zero, suc, ◌+◌}
@@ -9,20 +10,20 @@ use Rattle.texts.proofs.Choosing.{pick-both}
 use Rattle.classes.specs.Class.{is_space, is_attribute_name_end}
 use Rattle.refusals.specs.declared.Refusal.{Refusal}
 use Rattle.tags.specs.declared.tag.TagPart.{TagPart}
-use Rattle.tags.specs.declared.tag.TagPart.TheVariants.{Attribute as Part, TagEnd, Bad}
+use Rattle.tags.specs.declared.tag.TagPart.TheVariants.{Attribute as Part, TagEnd}
 use Rattle.tags.specs.Find.{stands}
 use Rattle.tags.specs.Attributes.{quoted_at, value_at, attribute_part_at, tag_part_at, Tag, with_part, tag_within}
 use Rattle.tags.proofs.Tagging.{by_part, within-part, within_end, within-bad}
 
 -- the same part, or refusals both
-record IsBad (p : TagPart) : Type 0 where
+record IsBad (p : Result TagPart Refusal) : Type 0 where
   pub why : Refusal
-  pub bad : p ≡ Bad why
+  pub bad : p ≡ Err why
 
-abbrev Alike : TagPart → TagPart → Type 0
-Alike (Part name n value len next) q = q ≡ Part name n value len next
-Alike (TagEnd next closed) q = q ≡ TagEnd next closed
-Alike (Bad refusal) q = IsBad q
+abbrev Alike : Result TagPart Refusal → Result TagPart Refusal → Type 0
+Alike (Ok (Part name n value len next)) q = q ≡ Ok (Part name n value len next)
+Alike (Ok (TagEnd ending)) q = q ≡ Ok (TagEnd ending)
+Alike (Err refusal) q = IsBad q
 
 module _ (doc : List ℕ) (p q : ℕ) where
   quoted-alike : (quote name n at : ℕ) → Alike (quoted_at quote doc name n at p) (quoted_at quote doc name n at q)
@@ -65,10 +66,10 @@ attributes-alike zero doc p q at = refl
 attributes-alike (suc k) doc p q at =
     by_part (tag_part_at doc at p)
     (λ name n value len next e.
-    let f : tag_part_at doc at q ≡ Part name n value len next = rw e at (part-alike doc p q at) in
+    let f : tag_part_at doc at q ≡ Ok (Part name n value len next) = rw e at (part-alike doc p q at) in
     rw (within-part k doc at p e, within-part k doc at q f) (with-alike doc name n value len (tag_within k doc next p) (tag_within k doc next q) (attributes-alike k doc p q next)))
-    (λ next closed e.
-    let f : tag_part_at doc at q ≡ TagEnd next closed = rw e at (part-alike doc p q at) in
+    (λ ending e.
+    let f : tag_part_at doc at q ≡ Ok (TagEnd ending) = rw e at (part-alike doc p q at) in
     rw (within_end k doc at p e, within_end k doc at q f))
     (λ refusal e.
     let f : IsBad (tag_part_at doc at q) = rw e at (part-alike doc p q at) in

@@ -1,4 +1,8 @@
 -- Where the attributes of a tag lie: one behind the other, so that values looked up under different names do not overlap.
+use Rattle.tags.specs.declared.tag.Ending.{Ending}
+use Rattle.refusals.specs.declared.Refusal.{Refusal}
+use Rattle.texts.specs.declared.Range.{Range}
+use Rattle.std.specs.Prelude.{Result, Option, Some, None, Ok, Err}
 use mathlib.Core.Path.{◌≡◌, refl, sym, ◌∙◌}
 use mathlib.Core.Bool.{Bool, true, false, not}
 use mathlib.Core.List.{List, [], ◌∷◌}
@@ -10,9 +14,6 @@ use Rattle.texts.specs.Choice.{pick, ◌and◌}
 use Rattle.texts.specs.Text.{piece, same}
 use Rattle.texts.proofs.Choosing.{by-test, pick_no, pick-by, and_left, and_right}
 use Rattle.texts.proofs.Comparing.{same-equal}
-use Rattle.tags.specs.declared.tag.Ending.TheVariants.{Ends, Broken}
-use Rattle.tags.specs.declared.tag.Found.{Found}
-use Rattle.tags.specs.declared.tag.Found.TheVariants.{Value, Absent}
 use Rattle.tags.specs.Names.{is_xmlns}
 use Rattle.tags.specs.Attributes.{tag_part_at, Attribute, Tag, with_part, tag_within, tag_at, later, last_of, attribute_at, raw_length, raw_lengths}
 use Rattle.tags.proofs.Looking.{later-absent}
@@ -46,35 +47,35 @@ with-ending : (doc : List ℕ) (name n value len : ℕ) (t : Tag) → (with_part
 unfolding with_part
 with-ending doc name n value len t = refl
 
-ended : (k : ℕ) (doc : List ℕ) (at place : ℕ) {next : ℕ} {closed : Bool} → (tag_within k doc at place).ending ≡ Ends next closed → Ended doc at next (tag_within k doc at place).attributes
+ended : (k : ℕ) (doc : List ℕ) (at place : ℕ) {ending : Ending} → (tag_within k doc at place).ending ≡ Ok ending → Ended doc at ending.next (tag_within k doc at place).attributes
 unfolding tag_within
 ended zero doc at place h = absurd (let z : ◌≡◌ {A = ℕ} 0 1 = cc in omega arith)
-ended (suc k) doc at place {next} {closed} h =
+ended (suc k) doc at place {ending} h =
     by_part (tag_part_at doc at place)
     (λ name n value len to e.
     let i = rw e at (part-inside doc at place) in
     let g = within-part k doc at place e in
     let r = ended k doc to place (sym (with-ending doc name n value len (tag_within k doc to place)) ∙ (rw g at h)) in
-    rw g (record { past = omega (arith, r.past); inside = r.inside; laid = laid-with doc at name n value len to next (tag_within k doc to place) (omega arith) (omega arith) r.laid }))
-    (λ to c e.
+    rw g (record { past = omega (arith, r.past); inside = r.inside; laid = laid-with doc at name n value len to ending.next (tag_within k doc to place) (omega arith) (omega arith) r.laid }))
+    (λ here e.
     let i = rw e at (part-inside doc at place) in
     let g = within_end k doc at place e in
-    let f : Ends to c ≡ Ends next closed = rw g at h in
-    let z : to ≡ next = cc in
+    let f : ◌≡◌ {A = Result Ending Refusal} (Ok here) (Ok ending) = rw g at h in
+    let z : here ≡ ending = cc in
     rw (g, ← z) (record { past = i.0; inside = i.1; laid = omega arith }))
     (λ refusal e.
-    let f : Broken refusal ≡ Ends next closed = rw (within-bad k doc at place e) at h in
+    let f : ◌≡◌ {A = Result Ending Refusal} (Err refusal) (Ok ending) = rw (within-bad k doc at place e) at h in
     absurd (let z : ◌≡◌ {A = ℕ} 0 1 = cc in omega arith))
 
 -- ---- what a look-up finds lies there
 
-abbrev pub Lies : ℕ → ℕ → Found → Type 0
-Lies at next (Value from len) = (at ≤ from) × (from + len ≤ next)
-Lies at next Absent = T true
+abbrev pub Lies : ℕ → ℕ → Option Range → Type 0
+Lies at next (Some found) = (at ≤ found.from) × (found.from + found.len ≤ next)
+Lies at next None = T true
 
-lies-later : (at i next : ℕ) (f g : Found) → at ≤ i → Lies i next f → Lies at next g → Lies at next (later f g)
-lies-later at i next (Value from len) g h p q = (omega (arith, p.0), p.1)
-lies-later at i next Absent g h p q = q
+lies-later : (at i next : ℕ) (f g : Option Range) → at ≤ i → Lies i next f → Lies at next g → Lies at next (later f g)
+lies-later at i next (Some found) g h p q = (omega (arith, p.0), p.1)
+lies-later at i next None g h p q = q
 
 laid-to : (at next : ℕ) (l : List Attribute) → Laid at next l → at ≤ next
 laid-to at next [] s = s
@@ -84,7 +85,7 @@ last-lies : (at next : ℕ) (l : List Attribute) (name : List ℕ) → Laid at n
 unfolding last_of
 last-lies at next [] name s = tt
 last-lies at next (a ∷ more) name s =
-    lies-later at (a.from + a.len) next (last_of name more) (pick (same a.name name) (Value a.from a.len) Absent) (omega (arith, s.0))
+    lies-later at (a.from + a.len) next (last_of name more) (pick (same a.name name) (Some (record { from = a.from; len = a.len })) None) (omega (arith, s.0))
     (last-lies (a.from + a.len) next more name s.1)
     (pick-by (Lies at next) (same a.name name) (λ t. (s.0, laid-to (a.from + a.len) next more s.1)) (λ f. tt))
 
@@ -106,21 +107,21 @@ lengths_in : List Attribute → List (List ℕ) → ℕ
 lengths_in l [] = 0
 lengths_in l (x ∷ xs) = raw_length (last_of x l) + lengths_in l xs
 
-length-later : (f g : Found) → raw_length (later f g) ≤ raw_length f + raw_length g
-length-later (Value from len) g = omega arith
-length-later Absent g = omega arith
+length-later : (f g : Option Range) → raw_length (later f g) ≤ raw_length f + raw_length g
+length-later (Some found) g = omega arith
+length-later None g = omega arith
 
 module _ (a : Attribute) (more : List Attribute) (x : List ℕ) where
   -- an attribute of another name
   last-other : same a.name x ≡ false → last_of x (a ∷ more) ≡ last_of x more
   unfolding last_of
-  last-other f = rw (pick_no (same a.name x) (Value a.from a.len) Absent f) (later-absent (last_of x more))
+  last-other f = rw (pick_no {A = Option Range} (same a.name x) (Some (record { from = a.from; len = a.len })) None f) (later-absent (last_of x more))
 
   -- and of any
   last-any : raw_length (last_of x (a ∷ more)) ≤ raw_length (last_of x more) + a.len
   unfolding last_of
   last-any =
-      let here = pick (same a.name x) (Value a.from a.len) Absent in
+      let here : Option Range = pick (same a.name x) (Some (record { from = a.from; len = a.len })) None in
       let h : raw_length here ≤ a.len = pick-by (λ f. raw_length f ≤ a.len) (same a.name x) (λ t. omega arith) (λ f. omega arith) in
       omega (arith, length-later (last_of x more) here)
 
@@ -153,24 +154,24 @@ lengths-laid at next (a ∷ more) xs t s = omega (arith, s.0, lengths-any a more
 
 -- ---- of a tag that ends
 
-module _ (doc : List ℕ) (at place : ℕ) {next : ℕ} {closed : Bool} (e : (tag_at doc at place).ending ≡ Ends next closed) where
-  tag-ended : Ended doc at next (tag_at doc at 0).attributes
+module _ (doc : List ℕ) (at place : ℕ) {ending : Ending} (e : (tag_at doc at place).ending ≡ Ok ending) where
+  tag-ended : Ended doc at ending.next (tag_at doc at 0).attributes
   tag-ended = rw (← attributes-alike (length doc + 1) doc place 0 at) (ended (length doc + 1) doc at place e)
 
-  pub ending-past : at < next
+  pub ending-past : at < ending.next
   ending-past = tag-ended.past
 
-  pub ending-inside : next ≤ length doc
+  pub ending-inside : ending.next ≤ length doc
   ending-inside = tag-ended.inside
 
-  pub value-lies : (name : List ℕ) → Lies at next (attribute_at doc at name)
+  pub value-lies : (name : List ℕ) → Lies at ending.next (attribute_at doc at name)
   unfolding attribute_at
-  value-lies name = last-lies at next (tag_at doc at 0).attributes name tag-ended.laid
+  value-lies name = last-lies at ending.next (tag_at doc at 0).attributes name tag-ended.laid
 
   lengths-are : (xs : List (List ℕ)) → raw_lengths doc at xs ≡ lengths_in (tag_at doc at 0).attributes xs
   unfolding attribute_at lengths_in
   lengths-are [] = refl
   lengths-are (x ∷ xs) = rw (lengths-are xs)
 
-  pub values-lie : (xs : List (List ℕ)) → T (different xs) → raw_lengths doc at xs + at ≤ next
-  values-lie xs t = omega (arith, lengths-are xs, lengths-laid at next (tag_at doc at 0).attributes xs t tag-ended.laid)
+  pub values-lie : (xs : List (List ℕ)) → T (different xs) → raw_lengths doc at xs + at ≤ ending.next
+  values-lie xs t = omega (arith, lengths-are xs, lengths-laid at ending.next (tag_at doc at 0).attributes xs t tag-ended.laid)

@@ -1,4 +1,5 @@
 -- Laws of standing at a place and of searching: what the loop of `find` keeps, and where what was found lies.
+use Rattle.std.specs.Prelude.{Some, None}
 use mathlib.Core.Path.{◌≡◌, refl, sym, ◌∙◌}
 use mathlib.Core.Bool.{Bool, true, false}
 use mathlib.Core.List.{List, [], ◌∷◌}
@@ -16,7 +17,6 @@ use Rattle.texts.specs.Scan.{count_while, scan, until, is}
 use Rattle.texts.proofs.Choosing.{by-test}
 use Rattle.texts.proofs.Comparing.{starts-length}
 use Rattle.texts.proofs.Scanning.{Scanning, scan-start, byte-on}
-use Rattle.tags.specs.declared.scan.Occurrence.TheVariants.{At, Nowhere}
 use Rattle.tags.specs.Find.{find_in, find_from}
 
 -- ---- what stands at a place lies within the document
@@ -53,7 +53,7 @@ scan-moves b doc at h f =
 
 -- ---- a search
 
-pub find-here : (n s : List ℕ) (k : ℕ) → starts_with n s ≡ true → find_in n s k ≡ At k
+pub find-here : (n s : List ℕ) (k : ℕ) → starts_with n s ≡ true → find_in n s k ≡ Some k
 unfolding find_in
 find-here n [] k t = rw (t, find_in)
 find-here n (x ∷ xs) k t = rw (t, find_in)
@@ -62,7 +62,7 @@ pub find-next : (n : List ℕ) (x : ℕ) (xs : List ℕ) (k : ℕ) → starts_wi
 unfolding find_in
 find-next n x xs k t = rw (t, find_in)
 
-pub find_none : (n : List ℕ) (k : ℕ) → starts_with n [] ≡ false → find_in n [] k ≡ Nowhere
+pub find_none : (n : List ℕ) (k : ℕ) → starts_with n [] ≡ false → find_in n [] k ≡ None
 unfolding find_in
 find_none n k t = rw (t, find_in)
 
@@ -75,7 +75,7 @@ search-start = record { rest = refl }
 
 -- b is what the comparison at i says
 module _ {n doc : List ℕ} {from i : ℕ} {b : Bool} (inv : Searching n doc from i) (e : b ≡ starts_with n (drop i doc)) where
-  pub search-found : b ≡ true → At i ≡ find_from n doc from
+  pub search-found : b ≡ true → Some i ≡ find_from n doc from
   search-found t = sym (find-here n (drop i doc) i (sym e ∙ t)) ∙ inv.rest
 
   pub search-on : i < length doc → b ≡ false → Searching n doc from (i + 1)
@@ -83,14 +83,14 @@ module _ {n doc : List ℕ} {from i : ℕ} {b : Bool} (inv : Searching n doc fro
       let t' = rw (drop-cons doc i 0) at (sym e ∙ t) in
       record { rest = rw (← inv.rest, drop-cons doc i 0, find-next, add-one) }
 
-  pub search-none : length doc ≤ i → b ≡ false → Nowhere ≡ find_from n doc from
+  pub search-none : length doc ≤ i → b ≡ false → None ≡ find_from n doc from
   search-none h t =
       let t' = rw (drop_of_length-le doc h) at (sym e ∙ t) in
       rw (← inv.rest, drop_of_length-le doc h, find_none)
 
 -- ---- what was found lies from the start on, and within
 
-found_within : (n s : List ℕ) (k i : ℕ) → find_in n s k ≡ At i → (k ≤ i) × (i + length n ≤ k + length s)
+found_within : (n s : List ℕ) (k i : ℕ) → find_in n s k ≡ Some i → (k ≤ i) × (i + length n ≤ k + length s)
 found_within n [] k i e =
     by-test (starts_with n [])
     (λ t. let z : k ≡ i = cc (find-here n [] k t) in (omega arith, omega (arith, starts-length n [] t)))
@@ -100,7 +100,7 @@ found_within n (x ∷ xs) k i e =
     (λ t. let z : k ≡ i = cc (find-here n (x ∷ xs) k t) in (omega arith, omega (arith, starts-length n (x ∷ xs) t)))
     (λ f. let w = found_within n xs (k + 1) i (sym (find-next n x xs k f) ∙ e) in (omega arith, omega arith))
 
-module _ (n doc : List ℕ) (k i : ℕ) (e : find_from n doc k ≡ At i) where
+module _ (n doc : List ℕ) (k i : ℕ) (e : find_from n doc k ≡ Some i) where
   pub found_from : k ≤ i
   found_from = (found_within n (drop k doc) k i e).0
 

@@ -1,6 +1,8 @@
 -- Laws of a whole tag: where its parts lie, that the fuel is enough, and what the loop of `tag_noting` keeps of its end.
+use Rattle.tags.specs.declared.tag.Ending.{Ending}
+use Rattle.std.specs.Prelude.{Result, Ok, Err}
 use mathlib.Core.Path.{◌≡◌, refl, sym, ap, ◌∙◌}
-use mathlib.Core.Bool.{Bool, true}
+use mathlib.Core.Bool.{true}
 use mathlib.Core.List.{List, []}
 use Prim.Native.Nat.{ℕ, zero, suc, ◌+◌, ◌-◌, ◌≤◌, ◌<◌}
 use native.Mathlib.Omega.{arith}
@@ -14,18 +16,17 @@ use Rattle.texts.proofs.Choosing.{pick-by}
 use Rattle.classes.specs.Class.{is_space, is_attribute_name_end}
 use Rattle.refusals.specs.declared.Refusal.{Refusal}
 use Rattle.tags.specs.declared.tag.TagPart.{TagPart}
-use Rattle.tags.specs.declared.tag.TagPart.TheVariants.{Attribute as Part, TagEnd, Bad}
-use Rattle.tags.specs.declared.tag.Ending.TheVariants.{Ends, Broken}
+use Rattle.tags.specs.declared.tag.TagPart.TheVariants.{Attribute as Part, TagEnd}
 use Rattle.tags.specs.Find.{stands}
 use Rattle.tags.specs.Attributes.{quoted_at, value_at, attribute_part_at, tag_part_at, Tag, with_part, tag_within, tag_at}
 use Rattle.tags.proofs.Searching.{stands-within}
 
 -- ---- a part lies within the document, in its order
 
-abbrev pub Inside : List ℕ → ℕ → TagPart → Type 0
-Inside doc at (Part name n value len next) = (at ≤ name) × (name + n ≤ value) × (value + len < next) × (next ≤ length doc)
-Inside doc at (TagEnd next closed) = (at < next) × (next ≤ length doc)
-Inside doc at (Bad refusal) = T true
+abbrev pub Inside : List ℕ → ℕ → Result TagPart Refusal → Type 0
+Inside doc at (Ok (Part name n value len next)) = (at ≤ name) × (name + n ≤ value) × (value + len < next) × (next ≤ length doc)
+Inside doc at (Ok (TagEnd ending)) = (at < ending.next) × (ending.next ≤ length doc)
+Inside doc at (Err refusal) = T true
 
 module _ (doc : List ℕ) (at name n : ℕ) (h : at ≤ name) (place : ℕ) where
   quoted-inside : (quote value : ℕ) → name + n ≤ value → Inside doc at (quoted_at quote doc name n value place)
@@ -64,25 +65,25 @@ part-inside doc at place =
 -- ---- a tag by its first part
 
 pub by_part :
-    {X : Type 0} (p : TagPart) →
-    ((name n value len next : ℕ) → p ≡ Part name n value len next → X) →
-    ((next : ℕ) (closed : Bool) → p ≡ TagEnd next closed → X) →
-    ((refusal : Refusal) → p ≡ Bad refusal → X) →
+    {X : Type 0} (p : Result TagPart Refusal) →
+    ((name n value len next : ℕ) → p ≡ Ok (Part name n value len next) → X) →
+    ((ending : Ending) → p ≡ Ok (TagEnd ending) → X) →
+    ((refusal : Refusal) → p ≡ Err refusal → X) →
     X
-by_part (Part name n value len next) f g h = f name n value len next refl
-by_part (TagEnd next closed) f g h = g next closed refl
-by_part (Bad refusal) f g h = h refusal refl
+by_part (Ok (Part name n value len next)) f g h = f name n value len next refl
+by_part (Ok (TagEnd ending)) f g h = g ending refl
+by_part (Err refusal) f g h = h refusal refl
 
 module _ (k : ℕ) (doc : List ℕ) (at place : ℕ) where
-  pub within-part : {name n value len next : ℕ} → tag_part_at doc at place ≡ Part name n value len next → tag_within (suc k) doc at place ≡ with_part doc name n value len (tag_within k doc next place)
+  pub within-part : {name n value len next : ℕ} → tag_part_at doc at place ≡ Ok (Part name n value len next) → tag_within (suc k) doc at place ≡ with_part doc name n value len (tag_within k doc next place)
   unfolding tag_within
   within-part e = rw (e, tag_within)
 
-  pub within_end : {next : ℕ} {closed : Bool} → tag_part_at doc at place ≡ TagEnd next closed → tag_within (suc k) doc at place ≡ record { attributes = []; ending = Ends next closed }
+  pub within_end : {ending : Ending} → tag_part_at doc at place ≡ Ok (TagEnd ending) → tag_within (suc k) doc at place ≡ record { attributes = []; ending = Ok ending }
   unfolding tag_within
   within_end e = rw (e, tag_within)
 
-  pub within-bad : {refusal : Refusal} → tag_part_at doc at place ≡ Bad refusal → tag_within (suc k) doc at place ≡ record { attributes = []; ending = Broken refusal }
+  pub within-bad : {refusal : Refusal} → tag_part_at doc at place ≡ Err refusal → tag_within (suc k) doc at place ≡ record { attributes = []; ending = Err refusal }
   unfolding tag_within
   within-bad e = rw (e, tag_within)
 
@@ -96,20 +97,20 @@ enough (suc k) doc at place h l =
     within-part (suc k) doc at place e
     ∙ ap (with_part doc name n value len) (enough k doc next place i.3 (omega arith))
     ∙ sym (within-part k doc at place e))
-    (λ next closed e. within_end (suc k) doc at place e ∙ sym (within_end k doc at place e))
+    (λ ending e. within_end (suc k) doc at place e ∙ sym (within_end k doc at place e))
     (λ refusal e. within-bad (suc k) doc at place e ∙ sym (within-bad k doc at place e))
 
 module _ (doc : List ℕ) (at place : ℕ) where
-  pub tag-part : {name n value len next : ℕ} → tag_part_at doc at place ≡ Part name n value len next → tag_at doc at place ≡ with_part doc name n value len (tag_at doc next place)
+  pub tag-part : {name n value len next : ℕ} → tag_part_at doc at place ≡ Ok (Part name n value len next) → tag_at doc at place ≡ with_part doc name n value len (tag_at doc next place)
   tag-part {name} {n} {value} {len} {next} e =
       let i = rw e at (part-inside doc at place) in
       let m : tag_within (suc (length doc)) doc next place ≡ tag_within (length doc) doc next place = enough (length doc) doc next place i.3 (omega arith) in
       rw (add-one, within-part (length doc) doc at place e, ← m)
 
-  pub tag-end : {next : ℕ} {closed : Bool} → tag_part_at doc at place ≡ TagEnd next closed → tag_at doc at place ≡ record { attributes = []; ending = Ends next closed }
+  pub tag-end : {ending : Ending} → tag_part_at doc at place ≡ Ok (TagEnd ending) → tag_at doc at place ≡ record { attributes = []; ending = Ok ending }
   tag-end e = rw add-one (within_end (length doc) doc at place e)
 
-  pub tag-bad : {refusal : Refusal} → tag_part_at doc at place ≡ Bad refusal → tag_at doc at place ≡ record { attributes = []; ending = Broken refusal }
+  pub tag-bad : {refusal : Refusal} → tag_part_at doc at place ≡ Err refusal → tag_at doc at place ≡ record { attributes = []; ending = Err refusal }
   tag-bad e = rw add-one (within-bad (length doc) doc at place e)
 
 -- ---- the loop that goes for a tag's end stands at i; p is the part there
@@ -121,24 +122,24 @@ pub going_start : {doc : List ℕ} {at place : ℕ} → Going doc at place at
 going_start = record { rest = refl }
 
 -- the next part is nearer to the document's end
-pub part-less : (doc : List ℕ) (i place : ℕ) {p : TagPart} → p ≡ tag_part_at doc i place → {name n value len next : ℕ} → p ≡ Part name n value len next → length doc - next < length doc - i
+pub part-less : (doc : List ℕ) (i place : ℕ) {p : Result TagPart Refusal} → p ≡ tag_part_at doc i place → {name n value len next : ℕ} → p ≡ Ok (Part name n value len next) → length doc - next < length doc - i
 part-less doc i place e f =
     let z = rw (sym e ∙ f) at (part-inside doc i place) in
     omega arith
 
 -- its value lies in the document
-pub part-value : (doc : List ℕ) (i place : ℕ) {p : TagPart} → p ≡ tag_part_at doc i place → {name n value len next : ℕ} → p ≡ Part name n value len next → value < length doc
+pub part-value : (doc : List ℕ) (i place : ℕ) {p : Result TagPart Refusal} → p ≡ tag_part_at doc i place → {name n value len next : ℕ} → p ≡ Ok (Part name n value len next) → value < length doc
 part-value doc i place e f =
     let z = rw (sym e ∙ f) at (part-inside doc i place) in
     omega arith
 
-module _ {doc : List ℕ} {at place i : ℕ} (inv : Going doc at place i) {p : TagPart} (e : p ≡ tag_part_at doc i place) where
-  pub going_on : {name n value len next : ℕ} → p ≡ Part name n value len next → Going doc at place next
+module _ {doc : List ℕ} {at place i : ℕ} (inv : Going doc at place i) {p : Result TagPart Refusal} (e : p ≡ tag_part_at doc i place) where
+  pub going_on : {name n value len next : ℕ} → p ≡ Ok (Part name n value len next) → Going doc at place next
   unfolding with_part
   going_on f = record { rest = ap (λ (t : Tag). t.ending) (sym (tag-part doc i place (sym e ∙ f))) ∙ inv.rest }
 
-  pub going_end : {next : ℕ} {closed : Bool} → p ≡ TagEnd next closed → Ends next closed ≡ (tag_at doc at place).ending
+  pub going_end : {ending : Ending} → p ≡ Ok (TagEnd ending) → Ok ending ≡ (tag_at doc at place).ending
   going_end f = ap (λ (t : Tag). t.ending) (sym (tag-end doc i place (sym e ∙ f))) ∙ inv.rest
 
-  pub going-bad : {refusal : Refusal} → p ≡ Bad refusal → Broken refusal ≡ (tag_at doc at place).ending
+  pub going-bad : {refusal : Refusal} → p ≡ Err refusal → Err refusal ≡ (tag_at doc at place).ending
   going-bad f = ap (λ (t : Tag). t.ending) (sym (tag-bad doc i place (sym e ∙ f))) ∙ inv.rest

@@ -1,50 +1,49 @@
 -- Attributes: the parts of a tag, one after the other, up to its end; and the look-up of a name.
-use Rattle.std.specs.Prelude.{true, false, List, [], ◌∷◌, ℕ, zero, suc, ◌+◌, ◌-◌, eqb, ltb, leb, length}
+use Rattle.std.specs.Prelude.{true, false, List, [], ◌∷◌, ℕ, zero, suc, ◌+◌, ◌-◌, eqb, ltb, leb, length, Option, Some, None, Result, Ok, Err}
 use Rattle.texts.specs.Choice.{pick}
 use Rattle.texts.specs.Text.{piece, same}
 use Rattle.texts.specs.Scan.{scan, until, is}
 use Rattle.classes.specs.Class.{is_space, is_attribute_name_end}
+use Rattle.texts.specs.declared.Range.{Range}
+use Rattle.refusals.specs.declared.Refusal.{Refusal}
 use Rattle.refusals.specs.declared.Refusal.TheVariants.{OpenTag, NoAttributeName, NoEquals, NoQuote, OpenValue}
 use Rattle.tags.specs.declared.tag.TagPart.{TagPart}
-use Rattle.tags.specs.declared.tag.TagPart.TheVariants.{Attribute as Part, TagEnd, Bad}
+use Rattle.tags.specs.declared.tag.TagPart.TheVariants.{Attribute as Part, TagEnd}
 use Rattle.tags.specs.declared.tag.Ending.{Ending}
-use Rattle.tags.specs.declared.tag.Ending.TheVariants.{Ends, Broken}
-use Rattle.tags.specs.declared.tag.Found.{Found}
-use Rattle.tags.specs.declared.tag.Found.TheVariants.{Value, Absent}
 use Rattle.tags.specs.Find.{stands}
 use Rattle.tags.specs.Names.{local_name, is_xmlns}
 
 -- ---- one part of a tag; place is the tag's '<'
 
 -- a value's first byte is due at `at`, and its end is the next such quote
-unfoldable pub quoted_at : ℕ → List ℕ → ℕ → ℕ → ℕ → ℕ → TagPart
+unfoldable pub quoted_at : ℕ → List ℕ → ℕ → ℕ → ℕ → ℕ → Result TagPart Refusal
 quoted_at quote doc name n at place =
     let end = scan (until (is quote)) doc at in
-    pick (ltb end (length doc)) (Part name n at (end - at) (end + 1)) (Bad (OpenValue at place))
+    pick (ltb end (length doc)) (Ok (Part name n at (end - at) (end + 1))) (Err (OpenValue at place))
 
 -- a quoted value is due
-unfoldable pub value_at : List ℕ → ℕ → ℕ → ℕ → ℕ → TagPart
+unfoldable pub value_at : List ℕ → ℕ → ℕ → ℕ → ℕ → Result TagPart Refusal
 value_at doc name n at place =
     pick (stands "\"" doc at) (quoted_at 34 doc name n (at + 1) place)
     (pick (stands "'" doc at) (quoted_at 39 doc name n (at + 1) place)
-    (Bad (NoQuote at place)))
+    (Err (NoQuote at place)))
 
 -- an attribute is due: its name, spaces, '=', spaces, its value
-unfoldable pub attribute_part_at : List ℕ → ℕ → ℕ → TagPart
+unfoldable pub attribute_part_at : List ℕ → ℕ → ℕ → Result TagPart Refusal
 attribute_part_at doc at place =
     let end = scan (until is_attribute_name_end) doc at in
     let equals = scan is_space doc end in
-    pick (eqb end at) (Bad (NoAttributeName at place))
+    pick (eqb end at) (Err (NoAttributeName at place))
     (pick (stands "=" doc equals) (value_at doc at (end - at) (scan is_space doc (equals + 1)) place)
-    (Bad (NoEquals equals place)))
+    (Err (NoEquals equals place)))
 
 -- after spaces an attribute, '/>' or '>' is due
-unfoldable pub tag_part_at : List ℕ → ℕ → ℕ → TagPart
+unfoldable pub tag_part_at : List ℕ → ℕ → ℕ → Result TagPart Refusal
 tag_part_at doc at place =
     let i = scan is_space doc at in
-    pick (leb (length doc) i) (Bad (OpenTag i place))
-    (pick (stands ">" doc i) (TagEnd (i + 1) false)
-    (pick (stands "/>" doc i) (TagEnd (i + 2) true)
+    pick (leb (length doc) i) (Err (OpenTag i place))
+    (pick (stands ">" doc i) (Ok (TagEnd (record { next = i + 1; self_closed = false })))
+    (pick (stands "/>" doc i) (Ok (TagEnd (record { next = i + 2; self_closed = true })))
     (attribute_part_at doc i place)))
 
 -- ---- a whole tag
@@ -58,7 +57,7 @@ pub record Attribute : Type 0 where
 -- a tag from where its attributes begin: these, in their order, and its end or a refusal
 pub record Tag : Type 0 where
   pub attributes : List Attribute
-  pub ending : Ending
+  pub ending : Result Ending Refusal
 
 -- one more attribute before what follows; `xmlns` and `xmlns:...` are dropped
 unfoldable pub with_part : List ℕ → ℕ → ℕ → ℕ → ℕ → Tag → Tag
@@ -72,12 +71,12 @@ with_part doc name n value len rest =
 
 -- A tag of at most k parts. Each part takes a byte, so that one more than the document's length is never used up.
 unfoldable pub tag_within : ℕ → List ℕ → ℕ → ℕ → Tag
-tag_within zero doc at place = record { attributes = []; ending = Broken (OpenTag at place) }
+tag_within zero doc at place = record { attributes = []; ending = Err (OpenTag at place) }
 tag_within (suc k) doc at place =
     elim (tag_part_at doc at place) [
-      | Part name n value len next ↦ with_part doc name n value len (tag_within k doc next place)
-      | TagEnd next closed ↦ record { attributes = []; ending = Ends next closed }
-      | Bad refusal ↦ record { attributes = []; ending = Broken refusal }
+      | Ok (Part name n value len next) ↦ with_part doc name n value len (tag_within k doc next place)
+      | Ok (TagEnd ending) ↦ record { attributes = []; ending = Ok ending }
+      | Err refusal ↦ record { attributes = []; ending = Err refusal }
     ]
 
 abbrev pub tag_at : List ℕ → ℕ → ℕ → Tag
@@ -85,22 +84,22 @@ tag_at doc at place = tag_within (length doc + 1) doc at place
 
 -- ---- the look-up: of equal attribute names the last counts
 
-abbrev pub later : Found → Found → Found
-later (Value from len) earlier = Value from len
-later Absent earlier = earlier
+abbrev pub later : Option Range → Option Range → Option Range
+later (Some found) earlier = Some found
+later None earlier = earlier
 
-unfoldable pub last_of : List ℕ → List Attribute → Found
-last_of name [] = Absent
-last_of name (a ∷ more) = later (last_of name more) (pick (same a.name name) (Value a.from a.len) Absent)
+unfoldable pub last_of : List ℕ → List Attribute → Option Range
+last_of name [] = None
+last_of name (a ∷ more) = later (last_of name more) (pick (same a.name name) (Some (record { from = a.from; len = a.len })) None)
 
 -- the raw value of the last attribute of that name in the tag whose attributes begin at `at` (the place matters to refusals alone)
-unfoldable pub attribute_at : List ℕ → ℕ → List ℕ → Found
+unfoldable pub attribute_at : List ℕ → ℕ → List ℕ → Option Range
 attribute_at doc at name = last_of name (tag_at doc at 0).attributes
 
 -- how many bytes of the document a raw value takes; and all of those looked up under some names
-abbrev pub raw_length : Found → ℕ
-raw_length (Value from len) = len
-raw_length Absent = 0
+abbrev pub raw_length : Option Range → ℕ
+raw_length (Some found) = found.len
+raw_length None = 0
 
 abbrev pub raw_lengths : List ℕ → ℕ → List (List ℕ) → ℕ
 raw_lengths doc at [] = 0

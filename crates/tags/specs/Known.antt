@@ -1,12 +1,13 @@
 -- Attributes whose names are known beforehand, by numbers from 1 on; 0 is none. Internal.
-use Rattle.std.specs.Prelude.{◌≡◌, Bool, true, false, List, [], ◌∷◌, ◌++◌, ℕ, zero, suc, ◌+◌, ◌<◌, T, eqb, leb, length, drop}
+use Rattle.std.specs.Prelude.{◌≡◌, Bool, true, false, List, [], ◌∷◌, ◌++◌, ℕ, zero, suc, ◌+◌, ◌<◌, T, eqb, leb, length, drop, Result, Ok, Err}
 use Rattle.texts.specs.Choice.{pick, ◌and◌}
 use Rattle.texts.specs.Text.{ascii, piece, same, starts_with}
+use Rattle.refusals.specs.declared.Refusal.{Refusal}
 use Rattle.words.specs.Standing.{ShortText, LongText}
 use Rattle.tags.specs.declared.known.Known.{Known}
 use Rattle.tags.specs.declared.known.Codes.{Codes}
 use Rattle.tags.specs.declared.tag.TagPart.{TagPart}
-use Rattle.tags.specs.declared.tag.TagPart.TheVariants.{Attribute as Part, TagEnd, Bad}
+use Rattle.tags.specs.declared.tag.TagPart.TheVariants.{Attribute as Part, TagEnd}
 use Rattle.tags.specs.declared.tag.Quick.{Quick}
 use Rattle.tags.specs.declared.tag.Notes.{Notes}
 use Rattle.tags.specs.Attributes.{tag_part_at, later}
@@ -65,10 +66,10 @@ pub record CodesOf (k : Keys) (c : Codes) : Type 0 where
 -- ---- a part of a tag
 
 -- the attribute has the name of that number
-abbrev pub Named : List ℕ → ℕ → TagPart → Type 0
-Named doc code (Part name n value len next) = (code < 18) × (piece doc name n ≡ known_name code)
-Named doc code (TagEnd next closed) = Unit {0}
-Named doc code (Bad refusal) = Unit {0}
+abbrev pub Named : List ℕ → ℕ → Result TagPart Refusal → Type 0
+Named doc code (Ok (Part name n value len next)) = (code < 18) × (piece doc name n ≡ known_name code)
+Named doc code (Ok (TagEnd ending)) = Unit {0}
+Named doc code (Err refusal) = Unit {0}
 
 pub record QuickAt (doc : List ℕ) (at place : ℕ) (r : Quick) : Type 0 where
   pub is : r.part ≡ tag_part_at doc at place

@@ -1,9 +1,8 @@
 -- What is noted of a tag while it is read: the values of four names, which depend on the element. Internal.
-use Rattle.std.specs.Prelude.{◌≡◌, List, [], ℕ, zero, suc}
+use Rattle.std.specs.Prelude.{◌≡◌, List, [], ℕ, zero, suc, Option, Some, None}
 use Rattle.texts.specs.Choice.{pick}
 use Rattle.texts.specs.Text.{ascii, same}
-use Rattle.tags.specs.declared.tag.Found.{Found}
-use Rattle.tags.specs.declared.tag.Found.TheVariants.{Value, Absent}
+use Rattle.texts.specs.declared.Range.{Range}
 use Rattle.tags.specs.declared.tag.Notes.{Notes}
 use Rattle.tags.specs.declared.tag.Noted.{Noted}
 use Rattle.tags.specs.Names.{local_name, is_xmlns}
@@ -39,9 +38,9 @@ keys_of name =
 -- ---- what is noted
 
 -- what a note says: 1 + where the value begins, and 0 where there is none
-unfoldable pub found_at : ℕ → ℕ → Found
-found_at zero len = Absent
-found_at (suc from) len = Value from len
+unfoldable pub found_at : ℕ → ℕ → Option Range
+found_at zero len = None
+found_at (suc from) len = Some (record { from = from; len = len })
 
 abbrev pub noted_of : Notes → Noted
 noted_of n = record { first = found_at n.first n.len1; second = found_at n.second n.len2; third = found_at n.third n.len3; fourth = found_at n.fourth n.len4 }
@@ -59,8 +58,8 @@ pub record NotedBy (k : Keys) (doc : List ℕ) (at : ℕ) (noted : Notes) : Type
 -- ---- what one attribute adds
 
 -- the value of an attribute with that raw name, where its local name is `name`
-abbrev pub value_if_named : List ℕ → ℕ → ℕ → List ℕ → Found
-value_if_named raw value len name = pick (is_xmlns raw) Absent (pick (same (local_name raw) name) (Value value len) Absent)
+abbrev pub value_if_named : List ℕ → ℕ → ℕ → List ℕ → Option Range
+value_if_named raw value len name = pick (is_xmlns raw) None (pick (same (local_name raw) name) (Some (record { from = value; len = len })) None)
 
 -- what is noted under four names after it
 abbrev pub NotedWith : List ℕ → ℕ → ℕ → List ℕ → List ℕ → List ℕ → List ℕ → Notes → Notes → Type 0

@@ -1,6 +1,8 @@
 // Where a tag begins: its raw name, and what that says. Nearly every tag of a schema is of one of eleven names, written with a
 // space behind it, or with '>' where it closes: that is told by one comparison, with no walk for the name's end, a colon or the
 // names that matter.
+#![tactic(auto, using(crate::proofs::Laws::beginning))]
+
 ghost use Rattle.std.specs.Prelude.{◌≡◌, ◌+◌, ◌≤◌, length};
 ghost use Rattle.classes.specs.Table.{IsTable};
 ghost use Rattle.tags.specs.Beginning.{tagged_text, KnownBeginning, KnownShort, KnownLong, BeginsAt};

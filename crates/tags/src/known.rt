@@ -1,5 +1,7 @@
 // Attributes whose names are known beforehand. Nearly every attribute of a schema is one of these, written `name="`:
 // it is told by one comparison, with no walk for the name's end, a colon or the names that matter.
+#![tactic(auto, using(crate::proofs::Laws::telling))]
+
 ghost use Rattle.std.specs.Prelude.{◌≡◌, ◌+◌, ◌≤◌, length};
 ghost use Rattle.tags.specs.Known.{KnownAt, keys_by, CodesOf, ToldShort, ToldLong};
 

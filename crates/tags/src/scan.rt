@@ -1,4 +1,6 @@
 // Scans and searches over the document.
+#![tactic(auto, using(crate::proofs::Laws::laws))]
+
 ghost use Rattle.std.specs.Prelude.{◌≡◌, ◌-◌, ◌≤◌, length};
 ghost use Rattle.texts.specs.Text.{piece};
 ghost use Rattle.texts.specs.Scan.{scan, until, is};
@@ -254,28 +256,21 @@ pub fn byte_from(doc: &[u8], at: usize, b: u8) -> usize
     words::byte_from(doc, at, b)
 }
 
-// Where a text occurs.
-#[derive(Clone, Copy)]
-pub enum Occurrence {
-    At(usize),
-    Nowhere,
-}
-
 // The first place from `from` on where `needle` stands.
-pub fn find(doc: &[u8], from: usize, needle: &[u8]) -> Occurrence
+pub fn find(doc: &[u8], from: usize, needle: &[u8]) -> Option<usize>
     ensures { result ≡ find_from needle.now doc.now from }
 {
     let mut i = from;
     while i < doc.len() {
         if texts::starts_with(doc, i, needle) {
-            return Occurrence::At(i);
+            return Some(i);
         }
         i += 1;
     }
     if texts::starts_with(doc, i, needle) {
-        Occurrence::At(i)
+        Some(i)
     } else {
-        Occurrence::Nowhere
+        None
     }
 }
 

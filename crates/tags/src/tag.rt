@@ -1,4 +1,6 @@
 // Tags: their parts, where they end, and their attributes.
+#![tactic(auto, using(crate::proofs::Laws::laws))]
+
 ghost use Rattle.std.specs.Prelude.{◌≡◌, false, [], ◌<◌, ◌^◌, ◌≤◌, length};
 ghost use Rattle.classes.specs.Table.{IsTable};
 ghost use Rattle.texts.specs.Choice.{pick};
@@ -12,9 +14,9 @@ use crate::known::{Codes, codes_of, known_at};
 use crate::scan::{attribute_name_end, byte_from, is_xmlns_at, prefix_len, skip_space};
 use classes::table;
 use refusals::Refusal;
+use texts::Range;
 
-// One part of a tag: an attribute with the ranges of its raw name and raw value, the tag's end, or
-// a refusal.
+// One part of a tag: an attribute with the ranges of its raw name and raw value, or the tag's end.
 #[derive(Clone, Copy)]
 pub enum TagPart {
     Attribute {
@@ -24,25 +26,14 @@ pub enum TagPart {
         value_len: usize,
         next: usize,
     },
-    TagEnd {
-        next: usize,
-        self_closed: bool,
-    },
-    Bad(Refusal),
+    TagEnd(Ending),
 }
 
-// How a tag ends.
+// Where a tag ends, and how.
 #[derive(Clone, Copy)]
-pub enum Ending {
-    Ends { next: usize, self_closed: bool },
-    Broken(Refusal),
-}
-
-// The range of a raw value.
-#[derive(Clone, Copy)]
-pub enum Found {
-    Value { from: usize, len: usize },
-    Absent,
+pub struct Ending {
+    pub next: usize,
+    pub self_closed: bool,
 }
 
 // What was noted under four names: 1 + the place of the raw value's first byte, 0 where there is none, and its length.
@@ -60,148 +51,156 @@ pub struct Notes {
     pub len4: usize,
 }
 
-// What was found under four names.
+// The ranges of the raw values that were found under four names.
 #[derive(Clone, Copy)]
 pub struct Noted {
-    pub first: Found,
-    pub second: Found,
-    pub third: Found,
-    pub fourth: Found,
+    pub first: Option<Range>,
+    pub second: Option<Range>,
+    pub third: Option<Range>,
+    pub fourth: Option<Range>,
 }
 
 // A tag read whole: how it ends, and what was noted of it.
 #[derive(Clone, Copy)]
 pub struct Whole {
-    pub ending: Ending,
+    pub ending: Result<Ending, Refusal>,
     pub noted: Notes,
 }
 
 // The value that begins at `at`, up to the next `quote`.
-fn quoted_part(doc: &[u8], name: usize, n: usize, at: usize, quote: u8, place: usize) -> TagPart
+fn quoted_part(
+    doc: &[u8],
+    name: usize,
+    n: usize,
+    at: usize,
+    quote: u8,
+    place: usize,
+) -> Result<TagPart, Refusal>
     ensures { result ≡ quoted_at quote doc.now name n at place }
 {
     let end = byte_from(doc, at, quote);
-    if end < doc.len() {
-        let value_len = end - at;
-        let next = end + 1;
-        TagPart::Attribute {
-            name,
-            name_len: n,
-            value: at,
-            value_len,
-            next,
-        }
-    } else {
-        TagPart::Bad(Refusal::OpenValue { offset: at, place })
+    if doc.len() <= end {
+        return Err(Refusal::OpenValue { offset: at, place });
     }
+    Ok(TagPart::Attribute {
+        name,
+        name_len: n,
+        value: at,
+        value_len: end - at,
+        next: end + 1,
+    })
 }
 
 // The same, where an empty value and one of a single byte are told at once.
-fn short_or_quoted(doc: &[u8], name: usize, n: usize, at: usize, quote: u8, place: usize) -> TagPart
+fn short_or_quoted(
+    doc: &[u8],
+    name: usize,
+    n: usize,
+    at: usize,
+    quote: u8,
+    place: usize,
+) -> Result<TagPart, Refusal>
     requires { at ≤ length doc.now }
     ensures { result ≡ quoted_at quote doc.now name n at place }
 {
     if at + 1 < doc.len() {
         if doc[at] == quote {
-            let next = at + 1;
-            return TagPart::Attribute {
+            return Ok(TagPart::Attribute {
                 name,
                 name_len: n,
                 value: at,
                 value_len: 0,
-                next,
-            };
+                next: at + 1,
+            });
         }
         if doc[at + 1] == quote {
-            let next = at + 2;
-            return TagPart::Attribute {
+            return Ok(TagPart::Attribute {
                 name,
                 name_len: n,
                 value: at,
                 value_len: 1,
-                next,
-            };
+                next: at + 2,
+            });
         }
     }
     quoted_part(doc, name, n, at, quote, place)
 }
 
 // The quoted value that is due at `at`.
-fn value_part(doc: &[u8], name: usize, n: usize, at: usize, place: usize) -> TagPart
+fn value_part(
+    doc: &[u8],
+    name: usize,
+    n: usize,
+    at: usize,
+    place: usize,
+) -> Result<TagPart, Refusal>
     ensures { result ≡ value_at doc.now name n at place }
 {
     if texts::starts_with(doc, at, b"\"") {
-        let value = at + 1;
-        return short_or_quoted(doc, name, n, value, b'"', place);
+        return short_or_quoted(doc, name, n, at + 1, b'"', place);
     }
     if texts::starts_with(doc, at, b"'") {
-        let value = at + 1;
-        return short_or_quoted(doc, name, n, value, b'\'', place);
+        return short_or_quoted(doc, name, n, at + 1, b'\'', place);
     }
-    TagPart::Bad(Refusal::NoQuote { offset: at, place })
+    Err(Refusal::NoQuote { offset: at, place })
 }
 
 // The attribute that is due at `at`.
-fn attribute_part(doc: &[u8], at: usize, place: usize, t: &[u8; 256]) -> TagPart
+fn attribute_part(doc: &[u8], at: usize, place: usize, t: &[u8; 256]) -> Result<TagPart, Refusal>
     requires { IsTable t.now }
     ensures { result ≡ attribute_part_at doc.now at place }
 {
     let end = attribute_name_end(doc, at, t);
     if end == at {
-        return TagPart::Bad(Refusal::NoAttributeName { offset: at, place });
+        return Err(Refusal::NoAttributeName { offset: at, place });
     }
     let equals = skip_space(doc, end, t);
-    if texts::starts_with(doc, equals, b"=") {
-        let name_len = end - at;
-        let due = equals + 1;
-        let value = skip_space(doc, due, t);
-        return value_part(doc, at, name_len, value, place);
+    if !texts::starts_with(doc, equals, b"=") {
+        return Err(Refusal::NoEquals {
+            offset: equals,
+            place,
+        });
     }
-    TagPart::Bad(Refusal::NoEquals {
-        offset: equals,
-        place,
-    })
+    let value = skip_space(doc, equals + 1, t);
+    value_part(doc, at, end - at, value, place)
 }
 
 // The part of a tag at `at`; `place` is the tag's '<'. The table of classes is lent, so that a loop makes it once.
-pub fn tag_part_in(doc: &[u8], at: usize, place: usize, t: &[u8; 256]) -> TagPart
+pub fn tag_part_in(doc: &[u8], at: usize, place: usize, t: &[u8; 256]) -> Result<TagPart, Refusal>
     requires { IsTable t.now }
     ensures { result ≡ tag_part_at doc.now at place }
 {
     let i = skip_space(doc, at, t);
     if doc.len() <= i {
-        return TagPart::Bad(Refusal::OpenTag { offset: i, place });
+        return Err(Refusal::OpenTag { offset: i, place });
     }
     if texts::starts_with(doc, i, b">") {
-        let next = i + 1;
-        return TagPart::TagEnd {
-            next,
+        return Ok(TagPart::TagEnd(Ending {
+            next: i + 1,
             self_closed: false,
-        };
+        }));
     }
     if texts::starts_with(doc, i, b"/>") {
-        let next = i + 2;
-        return TagPart::TagEnd {
-            next,
+        return Ok(TagPart::TagEnd(Ending {
+            next: i + 2,
             self_closed: true,
-        };
+        }));
     }
     attribute_part(doc, i, place, t)
 }
 
 // The same with a table of its own.
-pub fn tag_part(doc: &[u8], at: usize, place: usize) -> TagPart
+pub fn tag_part(doc: &[u8], at: usize, place: usize) -> Result<TagPart, Refusal>
     ensures { result ≡ tag_part_at doc.now at place }
 {
-    let t = table();
-    tag_part_in(doc, at, place, &t)
+    tag_part_in(doc, at, place, &table())
 }
 
 // A part of a tag, and the number of the attribute's name where that is known (specs/Known.antt), else 0.
 #[derive(Clone, Copy)]
 pub struct Quick {
     pub code: usize,
-    pub part: TagPart,
+    pub part: Result<TagPart, Refusal>,
 }
 
 // The part of a tag at `at`: at once, where it is a known attribute behind one space.
@@ -401,29 +400,24 @@ pub fn nothing() -> Notes
 }
 
 // What a note says.
-fn found_of(at: usize, len: usize) -> Found
+fn found_of(at: usize, len: usize) -> Option<Range>
     ensures { result ≡ found_at at len }
 {
     if at == 0 {
-        return Found::Absent;
+        return None;
     }
-    let from = at - 1;
-    Found::Value { from, len }
+    Some(Range { from: at - 1, len })
 }
 
 // What four notes say.
 pub fn noted_of(notes: Notes) -> Noted
     ensures { result ≡ noted_of notes }
 {
-    let first = found_of(notes.first, notes.len1);
-    let second = found_of(notes.second, notes.len2);
-    let third = found_of(notes.third, notes.len3);
-    let fourth = found_of(notes.fourth, notes.len4);
     Noted {
-        first,
-        second,
-        third,
-        fourth,
+        first: found_of(notes.first, notes.len1),
+        second: found_of(notes.second, notes.len2),
+        third: found_of(notes.third, notes.len3),
+        fourth: found_of(notes.fourth, notes.len4),
     }
 }
 
@@ -436,29 +430,33 @@ pub fn tag_noting(doc: &[u8], at: usize, place: usize, keys: usize, t: &[u8; 256
     let mut i = at;
     let mut noted = nothing();
     loop {
-        let quick = quick_part(doc, i, place, t);
-        let code = quick.code;
-        let part = quick.part;
+        let Quick { code, part } = quick_part(doc, i, place, t);
         match part {
-            TagPart::Attribute {
-                name,
-                name_len,
-                value,
-                value_len,
-                next,
-            } => {
+            Ok(
+                TagPart::Attribute {
+                    name,
+                    name_len,
+                    value,
+                    value_len,
+                    next,
+                },
+            ) => {
                 noted = noted_by(
                     code, codes, doc, name, name_len, value, value_len, keys, noted,
                 );
                 i = next;
             }
-            TagPart::TagEnd { next, self_closed } => {
-                let ending = Ending::Ends { next, self_closed };
-                return Whole { ending, noted };
+            Ok(TagPart::TagEnd(ending)) => {
+                return Whole {
+                    ending: Ok(ending),
+                    noted,
+                };
             }
-            TagPart::Bad(refusal) => {
-                let ending = Ending::Broken(refusal);
-                return Whole { ending, noted };
+            Err(refusal) => {
+                return Whole {
+                    ending: Err(refusal),
+                    noted,
+                };
             }
         }
     }
@@ -481,7 +479,7 @@ pub fn keys_of(name: &[u8]) -> usize
 }
 
 // The raw value of the last attribute of that name, in the tag whose attributes begin at `at`.
-pub fn attribute(doc: &[u8], at: usize, name: &[u8]) -> Found
+pub fn attribute(doc: &[u8], at: usize, name: &[u8]) -> Option<Range>
     ensures { result ≡ attribute_at doc.now at name.now }
 {
     let t = table();
@@ -489,24 +487,21 @@ pub fn attribute(doc: &[u8], at: usize, name: &[u8]) -> Found
     let mut noted = nothing();
     loop {
         // The place matters to refusals alone, and none is told here.
-        let part = tag_part_in(doc, i, 0, &t);
-        match part {
-            TagPart::Attribute {
-                name: raw,
-                name_len,
-                value,
-                value_len,
-                next,
-            } => {
+        match tag_part_in(doc, i, 0, &t) {
+            Ok(
+                TagPart::Attribute {
+                    name: raw,
+                    name_len,
+                    value,
+                    value_len,
+                    next,
+                },
+            ) => {
                 noted = noted_one(doc, raw, name_len, value, value_len, name, noted);
                 i = next;
             }
-            TagPart::TagEnd { next, self_closed } => {
-                return found_of(noted.first, noted.len1);
-            }
-            TagPart::Bad(refusal) => {
-                return found_of(noted.first, noted.len1);
-            }
+            Ok(TagPart::TagEnd(_)) => return found_of(noted.first, noted.len1),
+            Err(_) => return found_of(noted.first, noted.len1),
         }
     }
 }

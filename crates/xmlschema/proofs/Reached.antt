@@ -7,7 +7,8 @@
 use mathlib.Core.Path.{◌≡◌, refl, sym, ap, ◌∙◌}
 use mathlib.Core.Bool.{Bool, true, false}
 use mathlib.Core.List.{List, [], ◌∷◌, ◌++◌}
-use mathlib.Core.Option.{Option, none, some}
+use mathlib.Core.Option as math
+use Rattle.std.specs.Prelude.{Option, Some, None}
 use Prim.Native.Nat.{ℕ, zero, suc, ◌+◌, ◌<◌}
 use native.Mathlib.Omega.{arith}
 use lib.Dec.{ltb, leb, eqb}
@@ -41,7 +42,7 @@ never e = let z : ◌≡◌ {A = ℕ} 0 1 = cc in omega arith
 -- the enum e has a value: the search that closes a validValue answers with a position
 pub record HasValue (e : ℕ) (s : Schema) : Type 0 where
   pub at : ℕ
-  pub is : last (under a_value e s) ≡ some at
+  pub is : last (under a_value e s) ≡ math.some at
 
 abbrev pub value_of : ℕ → Item → Bool
 value_of e it = eqb it.kind a_value and eqb it.owner e
@@ -52,11 +53,11 @@ pub record Has (e : ℕ) (xs : List Item) : Type 0 where
   pub within : at < length xs
   pub is : value_of e (get_or xs at no_item) ≡ true
 
-record Some (ks : List ℕ) : Type 0 where
+record HasLast (ks : List ℕ) : Type 0 where
   at : ℕ
-  is : last ks ≡ some at
+  is : last ks ≡ math.some at
 
-last_cons : (i : ℕ) (is : List ℕ) → Some (i ∷ is)
+last_cons : (i : ℕ) (is : List ℕ) → HasLast (i ∷ is)
 unfolding last
 last_cons i [] = record { at = i; is = refl }
 last_cons i (j ∷ is) = let h = last_cons j is in record { at = h.at; is = h.is }
@@ -69,7 +70,7 @@ positions-no : (k : ℕ) (p : Item → Bool) (x : Item) (xs : List Item) → p x
 unfolding positions_from
 positions-no k p x xs t = rw t
 
-some_at : (k i : ℕ) (p : Item → Bool) (xs : List Item) → i < length xs → p (get_or xs i no_item) ≡ true → Some (positions_from k p xs)
+some_at : (k i : ℕ) (p : Item → Bool) (xs : List Item) → i < length xs → p (get_or xs i no_item) ≡ true → HasLast (positions_from k p xs)
 some_at k i p [] h t = absurd (omega arith)
 some_at k zero p (x ∷ xs) h t = rw (positions-yes k p x xs t) (last_cons k (positions_from (k + 1) p xs))
 some_at k (suc i) p (x ∷ xs) h t =
@@ -115,9 +116,9 @@ has-set e i v xs h =
           (λ u. ap (value_of e) (get_or-set_other xs i h.at (with_second v (get_or xs i no_item)) no_item (eqb-false h.at i u)) ∙ h.is);
     }
 
-has-given : (e : ℕ) (o : Option ℕ) (v : List ℕ) (s : Schema) → Has e s.items → Has e (given_to o v s).items
-has-given e none v s h = h
-has-given e (some i) v s h = has-set e i v s.items h
+has-given : (e : ℕ) (o : math.Option ℕ) (v : List ℕ) (s : Schema) → Has e s.items → Has e (given_to o v s).items
+has-given e math.none v s h = h
+has-given e (math.some i) v s h = has-set e i v s.items h
 
 -- ---- what holds of every builder that is reached
 
@@ -139,7 +140,7 @@ owed [] = false
 owed (n ∷ ns) = tell (element_of n) (owed ns)
 
 pub record Tracked (b : Builder) : Type 0 where
-  pub has : (e : ℕ) → b.current.enum ≡ some e → owed b.stack ≡ true → Has e b.schema.items
+  pub has : (e : ℕ) → b.current.enum ≡ Some e → owed b.stack ≡ true → Has e b.schema.items
 
 -- what holds of an outcome's builder, if there is one
 abbrev pub Holds : (Builder → Type 0) → Outcome → Type 0
@@ -150,8 +151,8 @@ Holds P (refused r) = Unit {0}
 
 module _ (P : Builder → Type 0) where
   holds-number : (place : ℕ) (o : Option ℕ) (k : ℕ → Outcome) → ((n : ℕ) → Holds P (k n)) → Holds P (with_number place o k)
-  holds-number place none k h = tt
-  holds-number place (some n) k h = h n
+  holds-number place None k h = tt
+  holds-number place (Some n) k h = h n
 
   holds-pick : (t : Bool) (x y : Outcome) → Holds P x → Holds P y → Holds P (pick t x y)
   holds-pick true x y f g = f
@@ -185,8 +186,8 @@ unfolding open_schema
 track-schema place a b T = holds-number Tracked place (number_in a "id") _ (λ id. holds-number Tracked place (number_in a "version") _ (λ version. record { has = T.has }))
 
 track-member : (l : Limits) (place : ℕ) (a : Attributes) (n : ℕ) (o : Option ℕ) (b : Builder) → Tracked b → Holds Tracked (member_to l place a n o b)
-track-member l place a n none b T = T
-track-member l place a n (some c) b T = track-added l place (type_item a_member c a n) b T
+track-member l place a n None b T = T
+track-member l place a n (Some c) b T = track-added l place (type_item a_member c a n) b T
 
 track-type : (l : Limits) (place : ℕ) (inside : Bool) (a : Attributes) (b : Builder) → Tracked b → Holds Tracked (open_type l place inside a b)
 unfolding open_type
@@ -195,35 +196,35 @@ track-type l place inside a b T =
     (λ n. holds-pick Tracked inside (member_to l place a n b.current.composite b) (added l place (type_item a_type 0 a n) b) (track-member l place a n b.current.composite b T) (track-added l place (type_item a_type 0 a n) b T))
 
 track-ref : (l : Limits) (place : ℕ) (a : Attributes) (o : Option ℕ) (b : Builder) → Tracked b → Holds Tracked (ref_to l place a o b)
-track-ref l place a none b T = T
-track-ref l place a (some c) b T = track-added l place (plain_item a_ref c (text_in a "name") (text_in a "type") 0) b T
+track-ref l place a None b T = T
+track-ref l place a (Some c) b T = track-added l place (plain_item a_ref c (text_in a "name") (text_in a "type") 0) b T
 
 track-group-to : (l : Limits) (place : ℕ) (a : Attributes) (id : ℕ) (o : Option ℕ) (b : Builder) → Tracked b → Holds Tracked (group_to l place a id o b)
-track-group-to l place a id none b T = T
-track-group-to l place a id (some m) b T = track-group l place (plain_item a_group m (text_in a "name") [] id) b T (some (next_position b))
+track-group-to l place a id None b T = T
+track-group-to l place a id (Some m) b T = track-group l place (plain_item a_group m (text_in a "name") [] id) b T (Some (next_position b))
 
 track-field-in : (l : Limits) (place : ℕ) (a : Attributes) (id m : ℕ) (o : Option ℕ) (b : Builder) → Tracked b → Holds Tracked (field_in l place a id m o b)
-track-field-in l place a id m none b T = track-added l place (plain_item a_field m (text_in a "name") (text_in a "type") id) b T
-track-field-in l place a id m (some g) b T =
+track-field-in l place a id m None b T = track-added l place (plain_item a_field m (text_in a "name") (text_in a "type") id) b T
+track-field-in l place a id m (Some g) b T =
     holds-pick Tracked (eqb (item_at b.schema g).owner m) (field_under l place a id g b) (refused _) (track-added l place (plain_item a_field g (text_in a "name") (text_in a "type") id) b T) tt
 
 track-field-to : (l : Limits) (place : ℕ) (a : Attributes) (id : ℕ) (o : Option ℕ) (b : Builder) → Tracked b → Holds Tracked (field_to l place a id o b)
-track-field-to l place a id none b T = T
-track-field-to l place a id (some m) b T = track-field-in l place a id m b.current.group b T
+track-field-to l place a id None b T = T
+track-field-to l place a id (Some m) b T = track-field-in l place a id m b.current.group b T
 
 -- a new enum: no validValue stands above it
 track-enum : (l : Limits) (place : ℕ) (a : Attributes) (b : Builder) → owed b.stack ≡ false → Holds Tracked (open_enum l place a b)
 unfolding open_enum
 track-enum l place a b f =
     let it : Item = plain_item an_enum 0 (text_in a "name") (text_in a "encodingType") 0 in
-    holds_then Tracked (λ c. owed c.stack ≡ false) (now_enum (some (next_position b))) (added l place it b)
+    holds_then Tracked (λ c. owed c.stack ≡ false) (now_enum (Some (next_position b))) (added l place it b)
     (λ c g. record { has = λ e q o. absurd (never (sym g ∙ o)) })
     (holds-added (λ c. owed c.stack ≡ false) l place it b f)
 
 -- a new validValue: its value is added to the current enum
 track-value : (l : Limits) (place : ℕ) (a : Attributes) (b : Builder) (o : Option ℕ) → b.current.enum ≡ o → Holds Tracked (value_to l place a o b)
-track-value l place a b none q = record { has = λ e r o. absurd (let z : ◌≡◌ {A = Option ℕ} none (some e) = sym q ∙ r in let y : ◌≡◌ {A = ℕ} 0 1 = cc in omega arith) }
-track-value l place a b (some e) q =
+track-value l place a b None q = record { has = λ e r o. absurd (let z : ◌≡◌ {A = Option ℕ} None (Some e) = sym q ∙ r in let y : ◌≡◌ {A = ℕ} 0 1 = cc in omega arith) }
+track-value l place a b (Some e) q =
     let it : Item = plain_item a_value e (text_in a "name") [] 0 in
     holds_then Tracked Tracked (with_text true []) (added l place it b)
     (λ c t. record { has = t.has })
@@ -244,11 +245,11 @@ module _ (l : Limits) (place : ℕ) (name : List ℕ) (a : Attributes) (b : Buil
       go element.MessageSchema q inside = track-schema place a (with_stack (name ∷ b.stack) b) (plain (λ o. rw q))
       go element.Type q inside = track-type l place inside a (with_stack (name ∷ b.stack) b) (plain (λ o. rw q))
       go element.Ref q inside = track-ref l place a b.current.composite (with_stack (name ∷ b.stack) b) (plain (λ o. rw q))
-      go element.Composite q inside = track-composite l place (plain_item a_composite 0 (text_in a "name") [] 0) (with_stack (name ∷ b.stack) b) (plain (λ o. rw q)) (some (next_position b))
+      go element.Composite q inside = track-composite l place (plain_item a_composite 0 (text_in a "name") [] 0) (with_stack (name ∷ b.stack) b) (plain (λ o. rw q)) (Some (next_position b))
       go element.Enum q inside = track-enum l place a (with_stack (name ∷ b.stack) b) (rw q)
       go element.ValidValue q inside = track-value l place a (with_stack (name ∷ b.stack) b) b.current.enum refl
       go element.Message q inside =
-          holds-number Tracked place (number_in a "id") _ (λ id. track-message l place (plain_item a_message 0 (text_in a "name") [] id) (with_stack (name ∷ b.stack) b) (plain (λ o. rw q)) (some (next_position b)))
+          holds-number Tracked place (number_in a "id") _ (λ id. track-message l place (plain_item a_message 0 (text_in a "name") [] id) (with_stack (name ∷ b.stack) b) (plain (λ o. rw q)) (Some (next_position b)))
       go element.Group q inside = holds-number Tracked place (number_in a "id") _ (λ id. track-group-to l place a id b.current.message (with_stack (name ∷ b.stack) b) (plain (λ o. rw q)))
       go element.Field q inside = holds-number Tracked place (number_in a "id") _ (λ id. track-field-to l place a id b.current.message (with_stack (name ∷ b.stack) b) (plain (λ o. rw q)))
       go element.Other q inside = plain (λ o. rw q)
@@ -260,9 +261,9 @@ unfolding element_of other_element_of same
 nameless = refl
 
 -- the value is given: the items keep their kinds and owners
-track-given : (b : Builder) (o : Option ℕ) → ((e : ℕ) → b.current.enum ≡ some e → Has e b.schema.items) → Tracked (with_text false [] (value_of_enum o b))
-track-given b none h = record { has = λ e q o. h e q }
-track-given b (some d) h = record { has = λ e q o. has-given e (last (under a_value d b.schema)) _ b.schema (h e q) }
+track-given : (b : Builder) (o : Option ℕ) → ((e : ℕ) → b.current.enum ≡ Some e → Has e b.schema.items) → Tracked (with_text false [] (value_of_enum o b))
+track-given b None h = record { has = λ e q o. h e q }
+track-given b (Some d) h = record { has = λ e q o. has-given e (last (under a_value d b.schema)) _ b.schema (h e q) }
 
 module _ (place : ℕ) (name : List ℕ) (b : Builder) (T : Tracked b) where
   pub track-close : Holds Tracked (closed place name b)
@@ -311,7 +312,7 @@ unfolding owed
 track-empty = record { has = λ e q o. absurd (never o) }
 
 -- so a closing validValue finds its value
-pub value_found : (b : Builder) (n : List ℕ) (ns : List (List ℕ)) (e : ℕ) → Tracked b → b.stack ≡ n ∷ ns → element_of n ≡ element.ValidValue → b.current.enum ≡ some e → HasValue e b.schema
+pub value_found : (b : Builder) (n : List ℕ) (ns : List (List ℕ)) (e : ℕ) → Tracked b → b.stack ≡ n ∷ ns → element_of n ≡ element.ValidValue → b.current.enum ≡ Some e → HasValue e b.schema
 unfolding owed tell
 value_found b n ns e T q v c = has-found e b.schema (T.has e c (ap owed q ∙ ap (λ x. tell x (owed ns)) v))
 
@@ -357,7 +358,7 @@ reached-tracked l doc c b (further d a b' r f q) = rw q at (track l doc (read_at
 
 -- WHEREVER A validValue CLOSES WITH A CURRENT ENUM, THAT ENUM HAS A VALUE
 pub valid_value-tracking :
-    (l : Limits) (doc : List ℕ) (c : Cursor) (b : Builder) (name n e : ℕ) → Reached l doc c b → (read_at doc c).event ≡ Close name n → element_of (piece doc name n) ≡ element.ValidValue → same (piece doc name n) (top b.stack) ≡ true → b.current.enum ≡ some e → HasValue e b.schema
+    (l : Limits) (doc : List ℕ) (c : Cursor) (b : Builder) (name n e : ℕ) → Reached l doc c b → (read_at doc c).event ≡ Close name n → element_of (piece doc name n) ≡ element.ValidValue → same (piece doc name n) (top b.stack) ≡ true → b.current.enum ≡ Some e → HasValue e b.schema
 valid_value-tracking l doc c b name n e r ev v t q = go b.stack refl t
   where
     go : (st : List (List ℕ)) → b.stack ≡ st → same (piece doc name n) (top st) ≡ true → HasValue e b.schema

@@ -1,6 +1,6 @@
 -- The reading of a whole document, and 01's order of refusals up to 31.
 use Rattle.std.specs.Prelude.{true, false, List, [], ℕ, zero, suc, ◌+◌, ◌*◌, ltb, length}
-use Rattle.std.proofs.Math.Option.{none}
+use Rattle.std.specs.Prelude.{None}
 use Rattle.texts.specs.Choice.{pick, ◌or◌}
 use Rattle.texts.specs.Text.{piece}
 use Rattle.texts.specs.Scan.{scan, is_ascii}
@@ -47,7 +47,7 @@ empty =
       stack = [];
       collected = [];
       collecting = false;
-      current = record { composite = none; enum = none; message = none; group = none };
+      current = record { composite = None; enum = None; message = None; group = None };
       schema = record { package_name = []; id = 0; version = 0; items = [] };
     }
 

@@ -42,7 +42,7 @@ returns c =
     let pre = c.requires in
     let e-field-attributes = c.field_attributes-tag.ensures in
     let e-read-number = c.read_number.ensures in
-    let g-id = c.in-Value.is in
+    let g-id = c.in-Some.is in
     let e-add-named = c.add_named-r.ensures in
     let e-with-current = c.with_current.ensures in
     search opening

@@ -45,7 +45,7 @@ returns-in_default-read_number c =
     let args = c.args in
     let e-schema-attributes = c.schema_attributes-tag.ensures in
     let e-read-number = c.read_number.ensures in
-    let g-id = c.in-Value.is in
+    let g-id = c.in-Some.is in
     let e-read-number2 = c.read_number-2.ensures in
     let e-refuse2 = c.refuse-in_default-read_number.ensures in
     let h = bad-version args.place args.doc.now args.attributes e-schema-attributes.0 e-schema-attributes.1 e-read-number e-read-number2 g-id in
@@ -57,9 +57,9 @@ take_value-package-requires c =
     let args = c.args in
     let e-schema-attributes = c.schema_attributes-tag.ensures in
     let e-read-number = c.read_number.ensures in
-    let g-id = c.in-Value.is in
+    let g-id = c.in-Some.is in
     let e-read-number2 = c.read_number-2.ensures in
-    let g-version = c.in-Value-read_number.is in
+    let g-version = c.in-Some-read_number.is in
     (package-high 0 args.s args.doc.now args.rec.now args.text.now args.attributes args.next pre.0 pre.1 e-schema-attributes.0 e-read-number e-schema-attributes.1 e-read-number2 e-schema-attributes.2, package-text 0 args.s args.doc.now args.rec.now args.text.now args.attributes args.next pre.0 pre.1 e-schema-attributes.0 e-read-number e-schema-attributes.1 e-read-number2)
 
 pub overflow_cast-name : goal.overflow_cast-name
@@ -67,9 +67,9 @@ overflow_cast-name c =
     let pre = c.requires in
     let e-schema-attributes = c.schema_attributes-tag.ensures in
     let e-read-number = c.read_number.ensures in
-    let g-id = c.in-Value.is in
+    let g-id = c.in-Some.is in
     let e-read-number2 = c.read_number-2.ensures in
-    let g-version = c.in-Value-read_number.is in
+    let g-version = c.in-Some-read_number.is in
     let e-take-value = c.take_value-package.ensures in
     search opening
 
@@ -78,9 +78,9 @@ overflow_cast-len c =
     let pre = c.requires in
     let e-schema-attributes = c.schema_attributes-tag.ensures in
     let e-read-number = c.read_number.ensures in
-    let g-id = c.in-Value.is in
+    let g-id = c.in-Some.is in
     let e-read-number2 = c.read_number-2.ensures in
-    let g-version = c.in-Value-read_number.is in
+    let g-version = c.in-Some-read_number.is in
     let e-take-value = c.take_value-package.ensures in
     search opening
 
@@ -92,8 +92,8 @@ returns c =
     let pre = c.requires in
     let e-schema-attributes = c.schema_attributes-tag.ensures in
     let e-read-number = c.read_number.ensures in
-    let g-id = c.in-Value.is in
+    let g-id = c.in-Some.is in
     let e-read-number2 = c.read_number-2.ensures in
-    let g-version = c.in-Value-read_number.is in
+    let g-version = c.in-Some-read_number.is in
     let e-take-value = c.take_value-package.ensures in
     search opening

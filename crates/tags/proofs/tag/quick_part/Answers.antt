@@ -1,9 +1,6 @@
 use Rattle.tags.proofs.Laws.{laws}
 use Rattle.tags.proofs.tag.quick_part.Goals as goal
 
-pub starts_with-requires : goal.starts_with-requires
-starts_with-requires c = search laws
-
 pub overflow_add-i : goal.overflow_add-i
 overflow_add-i c = search laws
 
@@ -13,17 +10,5 @@ known_at-known-requires c = search laws
 pub overflow_add-value : goal.overflow_add-value
 overflow_add-value c = search laws
 
-pub overflow_sub-len : goal.overflow_sub-len
-overflow_sub-len c = search laws
-
-pub quoted_part-part-requires : goal.quoted_part-part-requires
-quoted_part-part-requires c = search laws
-
 pub returns-then-code-gt0 : goal.returns-then-code-gt0
 returns-then-code-gt0 c = search laws
-
-pub tag_part_in-part-requires : goal.tag_part_in-part-requires
-tag_part_in-part-requires c = search laws
-
-pub returns : goal.returns
-returns c = search laws
