@@ -160,32 +160,12 @@ plain-last inv g k f t q = plain_over inv 8 g (omega arith) (f t) q
 
 -- b is whether both lack '&'
 module _ (w : ℕ) (s d : List ℕ) (at : ℕ) (g : w ≤ length s) {d₁ : List ℕ} (p : d₁ ≡ sets d at (piece s 0 w)) where
-  two-room : at + length s ≤ length d → at + (length s - w) + w ≤ length d₁
-  two-room h = omega (arith, ap length p, length-sets d at (piece s 0 w))
-
-  two-parts : length s ≤ w + w → scan (until (is 38)) s w ≡ scan (until (is 38)) s 0
-      → scan (until (is 38)) s (length s - w + w) ≡ scan (until (is 38)) s (length s - w)
+  pub two-parts : length s ≤ w + w → {b : Bool} → b ≡ true → (b ≡ true → scan (until (is 38)) s w ≡ scan (until (is 38)) s 0)
+      → (b ≡ true → scan (until (is 38)) s (length s - w + w) ≡ scan (until (is 38)) s (length s - w))
       → {e : List ℕ} → e ≡ sets d₁ (at + (length s - w)) (piece s (length s - w) w) → RestInto s d at (at + length s) e
-  two-parts m f₁ f₂ q =
-      let front : PlainTo s d at d₁ w = record { left = p; lacks = f₁; within = g } in
-      plain_over front w g (omega arith) f₂ q
-
-module _ (s d : List ℕ) (at : ℕ) {d₁ : List ℕ} where
-  pub halves-room : 4 ≤ length s → d₁ ≡ sets d at (piece s 0 4) → at + length s ≤ length d → at + (length s - 4) + 4 ≤ length d₁
-  halves-room g p = two-room 4 s d at g p
-
-  pub words-room : 8 ≤ length s → d₁ ≡ sets d at (piece s 0 8) → at + length s ≤ length d → at + (length s - 8) + 8 ≤ length d₁
-  words-room g p = two-room 8 s d at g p
-
-  pub two-halves : 4 ≤ length s → length s ≤ 8
-      → {b : Bool} → (b ≡ true → (scan (until (is 38)) s 4 ≡ scan (until (is 38)) s 0) × (scan (until (is 38)) s (length s - 4 + 4) ≡ scan (until (is 38)) s (length s - 4))) → b ≡ true
-      → d₁ ≡ sets d at (piece s 0 4) → {e : List ℕ} → e ≡ sets d₁ (at + (length s - 4)) (piece s (length s - 4) 4) → RestInto s d at (at + length s) e
-  two-halves g m f t p q = two-parts 4 s d at g p m (f t).0 (f t).1 q
-
-  pub two-words : 8 ≤ length s → length s ≤ 16
-      → {b : Bool} → (b ≡ true → (scan (until (is 38)) s 8 ≡ scan (until (is 38)) s 0) × (scan (until (is 38)) s (length s - 8 + 8) ≡ scan (until (is 38)) s (length s - 8))) → b ≡ true
-      → d₁ ≡ sets d at (piece s 0 8) → {e : List ℕ} → e ≡ sets d₁ (at + (length s - 8)) (piece s (length s - 8) 8) → RestInto s d at (at + length s) e
-  two-words g m f t p q = two-parts 8 s d at g p m (f t).0 (f t).1 q
+  two-parts m t f₁ f₂ q =
+      let front : PlainTo s d at d₁ w = record { left = p; lacks = f₁ t; within = g } in
+      plain_over front w g (omega arith) (f₂ t) q
 
 -- ---- a part of the document, known by another name
 
@@ -210,4 +190,4 @@ module _ (doc : List ℕ) (from len : ℕ) (d : List ℕ) (at : ℕ) {w : List �
       let t = le-leb (at + length (piece doc from len)) (length d) (omega (arith, ap length p)) in
       record { says = rw (t, part_length q); left = rw t (part_left q) }
 
-pub ruleset plain = (plain-start, plain-length, plain-room, plain-on, rest-room, rest-is, rest-whole, plain-whole, plain-last, halves-room, words-room, two-halves, two-words, part_room, part-short, part_length, part_left, part-written)
+pub ruleset plain = (plain-start, plain-length, plain-room, plain-on, rest-room, rest-is, rest-whole, plain-whole, plain-last, part_room, part-short, part_length, part_left, part-written)

@@ -12,7 +12,7 @@ ghost use Rattle.texts.specs.Text.{piece};
 ghost use Rattle.entities.specs.Entities.{front, decoded, DecodedInto};
 ghost use Rattle.entities.specs.Copying.{PlainTo, RestInto};
 
-use words::{copy_half, copy_word, lack_halves, lack_words, lacks_word};
+use words::{both_lack, copy, lacks};
 
 // The byte that stands at a place, and of how many bytes it is written.
 #[derive(Clone, Copy)]
@@ -72,8 +72,8 @@ fn copy_plain(raw: &[u8], dst: &mut [u8], at: usize) -> usize
 {
     let mut i = 0;
     while i + 8 <= raw.len() {
-        if lacks_word(raw, i, b'&') {
-            copy_word(raw, i, dst, at + i);
+        if lacks::<8>(raw, i, b'&') {
+            copy::<8>(raw, i, dst, at + i);
             i += 8;
         } else {
             return i;
@@ -96,8 +96,8 @@ fn decode_long(raw: &[u8], dst: &mut [u8], at: usize) -> usize
     if 8 <= n {
         let last = n - 8;
         if last < i {
-            if lacks_word(raw, last, b'&') {
-                copy_word(raw, last, dst, at + last);
+            if lacks::<8>(raw, last, b'&') {
+                copy::<8>(raw, last, dst, at + last);
                 return n;
             }
         }
@@ -113,9 +113,9 @@ fn decode_short(raw: &[u8], dst: &mut [u8], at: usize) -> usize
     let n = raw.len();
     if 4 <= n {
         let last = n - 4;
-        if lack_halves(raw, 0, last, b'&') {
-            copy_half(raw, 0, dst, at);
-            copy_half(raw, last, dst, at + last);
+        if both_lack::<4>(raw, 0, last, b'&') {
+            copy::<4>(raw, 0, dst, at);
+            copy::<4>(raw, last, dst, at + last);
             return n;
         }
     }
@@ -133,9 +133,9 @@ fn decode_all(raw: &[u8], dst: &mut [u8], at: usize) -> usize
     }
     if n <= 16 {
         let last = n - 8;
-        if lack_words(raw, 0, last, b'&') {
-            copy_word(raw, 0, dst, at);
-            copy_word(raw, last, dst, at + last);
+        if both_lack::<8>(raw, 0, last, b'&') {
+            copy::<8>(raw, 0, dst, at);
+            copy::<8>(raw, last, dst, at + last);
             return n;
         }
     }

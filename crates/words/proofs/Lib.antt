@@ -4,6 +4,5 @@ pub mod Lanes
 pub mod Finding
 pub mod Standing
 pub mod Pairing
-pub mod Lacking
 pub mod Alike
 pub mod Laws

@@ -2,8 +2,8 @@
 //
 // `word_at` gives the number of the eight bytes at a place, the first one lowest (specs/Word.antt); a word tells its
 // bytes (proofs/Digits.antt). By words `byte_from` finds where a byte first stands, whatever the bytes are, `pair_from` and
-// `three_from` do so for two or three bytes one after the other, and `lacks_word` tells that a byte is not among eight;
-// `copy_word` copies eight. `stands_short` and `stands_long` compare with a text that is given by its numbers, and `same_name`
+// `three_from` do so for two or three bytes one after the other. `lacks` and `both_lack` tell that a byte is not among a few,
+// and `copy` copies a few: how many is a const. `stands_short` and `stands_long` compare with a text that is given by its numbers, and `same_name`
 // compares two names. What works on one word asks that eight bytes are there, and no more. A half is four bytes.
 #![tactic(auto)]
 
@@ -22,25 +22,19 @@ const LOW: u64 = 0x7f7f_7f7f_7f7f_7f7f;
 
 const HIGH: u64 = 0x8080_8080_8080_8080;
 
-fn wide(b: u8) -> u64
-    ensures { (result ≡ b) × (b < 256) }
-{
-    b as u64
-}
-
 // The number of the 8 bytes from `i` on, the first one lowest. Written as this sum it is one load.
 pub fn word_at(s: &[u8], i: usize) -> u64
     requires { i + 8 ≤ length s.now }
     ensures { IsWord (piece s.now i 8) result }
 {
-    wide(s[i])
-        + wide(s[i + 1]) * 256
-        + wide(s[i + 2]) * 65536
-        + wide(s[i + 3]) * 16777216
-        + wide(s[i + 4]) * 4294967296
-        + wide(s[i + 5]) * 1099511627776
-        + wide(s[i + 6]) * 281474976710656
-        + wide(s[i + 7]) * 72057594037927936
+    u64::from(s[i])
+        + u64::from(s[i + 1]) * 256
+        + u64::from(s[i + 2]) * 65536
+        + u64::from(s[i + 3]) * 16777216
+        + u64::from(s[i + 4]) * 4294967296
+        + u64::from(s[i + 5]) * 1099511627776
+        + u64::from(s[i + 6]) * 281474976710656
+        + u64::from(s[i + 7]) * 72057594037927936
 }
 
 // The number of the 4 bytes from `i` on, the first one lowest.
@@ -48,7 +42,10 @@ pub fn half_at(s: &[u8], i: usize) -> u64
     requires { i + 4 ≤ length s.now }
     ensures { IsHalf (piece s.now i 4) result }
 {
-    wide(s[i]) + wide(s[i + 1]) * 256 + wide(s[i + 2]) * 65536 + wide(s[i + 3]) * 16777216
+    u64::from(s[i])
+        + u64::from(s[i + 1]) * 256
+        + u64::from(s[i + 2]) * 65536
+        + u64::from(s[i + 3]) * 16777216
 }
 
 // The high bit of each of the 8 bytes from `i` on that is `x`, and no other bit. No byte carries into the next.
@@ -56,7 +53,7 @@ fn marks(s: &[u8], i: usize, x: u8) -> u64
     requires { i + 8 ≤ length s.now }
     ensures { Marked x s.now i result }
 {
-    let differs = word_at(s, i) ^ (wide(x) * ONES);
+    let differs = word_at(s, i) ^ (u64::from(x) * ONES);
     let full = ((differs & LOW) + LOW) | differs;
     HIGH - (full & HIGH)
 }
@@ -70,115 +67,54 @@ fn quick_marks(s: &[u8], i: usize, x: u8) -> u64
     if x < 128 {
         let w = word_at(s, i);
         if w & HIGH == 0 {
-            let differs = w ^ (wide(x) * ONES);
+            let differs = w ^ (u64::from(x) * ONES);
             return (HIGH - differs) & HIGH;
         }
     }
     marks(s, i, x)
 }
 
-// Whether one of the 8 bytes from `i` on is `x`. Written as one `|` of tests it is one comparison of all the bytes.
-fn has_word(s: &[u8], i: usize, x: u8) -> bool
-    requires { i + 8 ≤ length s.now }
-    ensures { result ≡ false → scan (until (is x)) s.now (i + 8) ≡ scan (until (is x)) s.now i }
+// Whether none of the `N` bytes from `i` on is `x`: with no branch it is one comparison of all of them.
+pub fn lacks<const N: usize>(s: &[u8], i: usize, x: u8) -> bool
+    requires { i + N ≤ length s.now }
+    ensures { result ≡ true → scan (until (is x)) s.now (i + N) ≡ scan (until (is x)) s.now i }
 {
-    let a = (s[i] == x) | (s[i + 1] == x);
-    let b = (s[i + 2] == x) | (s[i + 3] == x);
-    let c = (s[i + 4] == x) | (s[i + 5] == x);
-    let d = (s[i + 6] == x) | (s[i + 7] == x);
-    a | b | c | d
+    let mut lacks = true;
+    for k in 0..N {
+        lacks &= s[i + k] != x;
+    }
+    lacks
 }
 
-// Whether none of the 8 bytes from `i` on is `x`.
-pub fn lacks_word(s: &[u8], i: usize, x: u8) -> bool
-    requires { i + 8 ≤ length s.now }
-    ensures { result ≡ true → scan (until (is x)) s.now (i + 8) ≡ scan (until (is x)) s.now i }
+// Whether `x` is neither among the `N` bytes from `i` on nor among those from `j` on: one test for both.
+pub fn both_lack<const N: usize>(s: &[u8], i: usize, j: usize, x: u8) -> bool
+    requires first { i + N ≤ length s.now }
+    requires second { j + N ≤ length s.now }
+    ensures first { result ≡ true → scan (until (is x)) s.now (i + N) ≡ scan (until (is x)) s.now i }
+    ensures second { result ≡ true → scan (until (is x)) s.now (j + N) ≡ scan (until (is x)) s.now j }
 {
-    !has_word(s, i, x)
+    lacks::<N>(s, i, x) & lacks::<N>(s, j, x)
 }
 
-// Whether one of the 4 bytes from `i` on is `x`.
-fn has_half(s: &[u8], i: usize, x: u8) -> bool
-    requires { i + 4 ≤ length s.now }
-    ensures { result ≡ false → scan (until (is x)) s.now (i + 4) ≡ scan (until (is x)) s.now i }
+// Copies the `N` bytes from `i` on to `at`.
+pub fn copy<const N: usize>(s: &[u8], i: usize, dst: &mut [u8], at: usize)
+    requires from { i + N ≤ length s.now }
+    requires to { at + N ≤ length dst.old }
+    ensures { dst.new ≡ sets dst.old at (piece s.now i N) }
 {
-    let a = (s[i] == x) | (s[i + 1] == x);
-    let b = (s[i + 2] == x) | (s[i + 3] == x);
-    a | b
-}
-
-// Whether `x` is neither among the 8 bytes from `i` on nor among those from `j` on: one test for both.
-pub fn lack_words(s: &[u8], i: usize, j: usize, x: u8) -> bool
-    requires { (i + 8 ≤ length s.now) × (j + 8 ≤ length s.now) }
-    ensures { result ≡ true → (scan (until (is x)) s.now (i + 8) ≡ scan (until (is x)) s.now i) × (scan (until (is x)) s.now (j + 8) ≡ scan (until (is x)) s.now j) }
-{
-    let one = has_word(s, i, x);
-    let two = has_word(s, j, x);
-    let any = one | two;
-    !any
-}
-
-// The same of 4 bytes.
-pub fn lack_halves(s: &[u8], i: usize, j: usize, x: u8) -> bool
-    requires { (i + 4 ≤ length s.now) × (j + 4 ≤ length s.now) }
-    ensures { result ≡ true → (scan (until (is x)) s.now (i + 4) ≡ scan (until (is x)) s.now i) × (scan (until (is x)) s.now (j + 4) ≡ scan (until (is x)) s.now j) }
-{
-    let one = has_half(s, i, x);
-    let two = has_half(s, j, x);
-    let any = one | two;
-    !any
-}
-
-// Copies the 8 bytes from `i` on to `at`. All are read before the first is written: it is one load and one store.
-pub fn copy_word(s: &[u8], i: usize, dst: &mut [u8], at: usize)
-    requires { (i + 8 ≤ length s.now) × (at + 8 ≤ length dst.old) }
-    ensures { dst.new ≡ sets dst.old at (piece s.now i 8) }
-{
-    let a = s[i];
-    let b = s[i + 1];
-    let c = s[i + 2];
-    let d = s[i + 3];
-    let e = s[i + 4];
-    let f = s[i + 5];
-    let g = s[i + 6];
-    let h = s[i + 7];
-    dst[at] = a;
-    dst[at + 1] = b;
-    dst[at + 2] = c;
-    dst[at + 3] = d;
-    dst[at + 4] = e;
-    dst[at + 5] = f;
-    dst[at + 6] = g;
-    dst[at + 7] = h;
-}
-
-// Copies the 4 bytes from `i` on to `at`.
-pub fn copy_half(s: &[u8], i: usize, dst: &mut [u8], at: usize)
-    requires { (i + 4 ≤ length s.now) × (at + 4 ≤ length dst.old) }
-    ensures { dst.new ≡ sets dst.old at (piece s.now i 4) }
-{
-    let a = s[i];
-    let b = s[i + 1];
-    let c = s[i + 2];
-    let d = s[i + 3];
-    dst[at] = a;
-    dst[at + 1] = b;
-    dst[at + 2] = c;
-    dst[at + 3] = d;
+    dst[at..at + N].copy_from_slice(&s[i..i + N]);
 }
 
 // Where the first `x` from `at` on stands, or the end, byte by byte.
 fn byte_each(s: &[u8], at: usize, x: u8) -> usize
     ensures { result ≡ scan (until (is x)) s.now at }
 {
-    let mut i = at;
-    while i < s.len() {
+    for i in at..s.len() {
         if s[i] == x {
             return i;
         }
-        i += 1;
     }
-    i
+    at.max(s.len())
 }
 
 // Where the first `x` from `at` on stands, or the end.

@@ -1,6 +1,7 @@
-use Rattle.entities.proofs.Copying.{plain}
-use Rattle.entities.proofs.Laws.{laws}
+use native.Mathlib.Omega.{arith}
+use Rattle.entities.proofs.Copying.{two-parts}
 use Rattle.entities.proofs.decode_all.Goals as goal
 
-pub returns-then-lack_words : goal.returns-then-lack_words
-returns-then-lack_words c = search (laws, plain)
+pub returns-then-both_lack : goal.returns-then-both_lack
+returns-then-both_lack c =
+    two-parts 8 c.args.raw.now c.args.dst.now c.args.at (omega arith) c.copy.ensures (omega arith) c.if-both_lack.true c.both_lack.ensures.first c.both_lack.ensures.second c.copy-then-both_lack.ensures

@@ -4,9 +4,6 @@ use Rattle.words.proofs.quick_marks.Goals as goal
 pub word_at-w-requires : goal.word_at-w-requires
 word_at-w-requires c = search laws
 
-pub wide-requires : goal.wide-requires
-wide-requires c = search laws
-
 pub overflow_mul-differs : goal.overflow_mul-differs
 overflow_mul-differs c = search laws
 
