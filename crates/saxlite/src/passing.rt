@@ -9,7 +9,7 @@ ghost use Rattle.words.specs.Standing.{ShortText};
 ghost use Rattle.saxlite.specs.Passing.{Idle, Stands, FoundAt, PastEnd};
 
 use tags::scan::{byte_from, find};
-use words::{pair_from, stands_short, three_from};
+use words::{stands_short, text_from};
 
 // Where `needle` first stands from `from` on, or the document's length.
 fn found(doc: &[u8], from: usize, needle: &[u8]) -> usize
@@ -39,7 +39,7 @@ pub fn comment_far(doc: &[u8], from: usize) -> usize
     if doc.len() < 8 {
         return found(doc, from, b"-->");
     }
-    let near = three_from(doc, from, b'-', b'-', b'>');
+    let near = text_from(doc, from, b"-->");
     found_by(doc, near, b"-->", 0x100_0000, 0x3e_2d2d)
 }
 
@@ -50,7 +50,7 @@ pub fn instruction_far(doc: &[u8], from: usize) -> usize
     if doc.len() < 8 {
         return found(doc, from, b"?>");
     }
-    let near = pair_from(doc, from, b'?', b'>');
+    let near = text_from(doc, from, b"?>");
     found_by(doc, near, b"?>", 0x1_0000, 0x3e3f)
 }
 

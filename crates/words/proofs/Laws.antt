@@ -5,7 +5,6 @@ use Rattle.texts.proofs.Scanning.{scan-start, scan-end, byte-on, byte-stop}
 use Rattle.words.proofs.Lanes.{marks-fit, marks-less, marks-made, low-less, low-made}
 use Rattle.words.proofs.Finding.{zeros-fit, word-lacks, word_on, word-stop, word_fits, word-within, scan-rest}
 use Rattle.words.proofs.Standing.{stands-short, stands-long, stands-not}
-use Rattle.words.proofs.Pairing.{lacks-start, pair-on, pair-stop, pair_fits, three-on, three-stop}
 use Rattle.words.proofs.Alike.{alike-start, alike-on, words-differ, words-decide, halves-differ, halves-decide}
 
-pub ruleset laws = (scan-start, scan-end, byte-on, byte-stop, marks-fit, marks-less, marks-made, low-less, low-made, zeros-fit, word-lacks, word_on, word-stop, word_fits, word-within, scan-rest, stands-short, stands-long, stands-not, lacks-start, pair-on, pair-stop, pair_fits, three-on, three-stop, same-lengths, alike-start, alike-on, words-differ, words-decide, halves-differ, halves-decide, rules)
+pub ruleset laws = (scan-start, scan-end, byte-on, byte-stop, marks-fit, marks-less, marks-made, low-less, low-made, zeros-fit, word-lacks, word_on, word-stop, word_fits, word-within, scan-rest, stands-short, stands-long, stands-not, same-lengths, alike-start, alike-on, words-differ, words-decide, halves-differ, halves-decide, rules)

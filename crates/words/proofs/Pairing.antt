@@ -1,23 +1,23 @@
--- Laws of finding a text of two or three bytes at eight places: the marks of its bytes, each a place on, and what they share.
+-- Laws of finding a short text at eight places: the marks of its bytes, each a place on, and what they share.
 use mathlib.Core.Path.{◌≡◌, refl, sym, ap, ap₂, ◌∙◌}
 use mathlib.Core.Bool.{Bool, true, false}
 use mathlib.Core.List.{List, [], ◌∷◌, ◌++◌, map}
-use Prim.Native.Nat.{ℕ, zero, suc, ◌+◌, ◌-◌, ◌*◌, ◌/◌, ◌^◌, ◌≤◌, ◌<◌}
+use Prim.Native.Nat.{ℕ, zero, suc, ◌+◌, ◌-◌, ◌*◌, ◌/◌, ◌≤◌, ◌<◌}
+use native.Mathlib.Numerals.{add-one}
 use native.Mathlib.Omega.{arith}
 use lib.Bits.{bit_and, and_block}
 use lib.Count.{count_trailing_zeros, trailing_of_zero, trailing_le}
 use lib.Dec.{eqb, ltb, lit<}
-use lib.ListN.{length, take, drop, length-drop}
-use lib.Seq.{drop-drop}
+use lib.ListN.{length, take, drop, get_or, replicate, length-drop}
+use lib.Seq.{drop-drop, take-suc}
+use Rattle.std.proofs.lemmas.List.{length-take-le}
 use borrow.Author.Tests.{ltb-true, ltb-false}
-use mir.Val.{Fits}
-use mir.Syntax.{w64}
 use Rattle.texts.specs.Choice.{pick, ◌and◌}
 use Rattle.texts.specs.Text.{starts_with}
 use Rattle.texts.proofs.Choosing.{by-test, pick_yes, pick_no}
 use Rattle.texts.proofs.Comparing.{starts-yes, starts-no, starts-append}
 use Rattle.words.specs.Word.{word_of}
-use Rattle.words.specs.Marks.{mark, Marked}
+use Rattle.words.specs.Marks.{mark, Marked, flags, Flagged}
 use Rattle.words.specs.Standing.{Lacks}
 use Rattle.words.proofs.Finding.{unmarked-byte, marked-byte}
 
@@ -25,10 +25,6 @@ use Rattle.words.proofs.Finding.{unmarked-byte, marked-byte}
 
 abbrev flag : Bool → ℕ
 flag b = pick b 128 0
-
-unfoldable flags : List ℕ → ℕ → List ℕ → List ℕ
-flags text zero u = []
-flags text (suc n) u = flag (starts_with text u) ∷ flags text n (drop 1 u)
 
 flag-lt : (b : Bool) → flag b < 256
 flag-lt true = lit< tt
@@ -98,10 +94,6 @@ zeros-none text (suc n) u (suc k) h =
 
 -- ---- eight places
 
--- m has the flags of the eight places from i on
-record Flagged (text s : List ℕ) (i m : ℕ) : Type 0 where
-  pub is : m ≡ word_of (flags text 8 (drop i s))
-
 byte-flagged : {x : ℕ} {s : List ℕ} {i m : ℕ} → Marked x s i m → i + 8 ≤ length s → Flagged (x ∷ []) s i m
 byte-flagged {x} {s} {i} e room = record { is = e.is ∙ ap word_of (byte-flags x 8 (drop i s) (omega (arith, length-drop i s))) }
 
@@ -139,29 +131,30 @@ module _ {text s : List ℕ} {at i m : ℕ} (inv : Lacks text s at i) (e : Flagg
 
 -- ---- as the loops come to it
 
-module _ {x y : ℕ} {s : List ℕ} {i a b : ℕ} (p : Marked x s i a) (q : Marked y s (i + 1) b) where
-  two : i + 9 ≤ length s → Flagged (x ∷ y ∷ []) s i (bit_and a b)
-  two h = both-flagged (byte-flagged p (omega arith)) (byte-flagged q (omega arith))
+-- the empty text stands everywhere
+none-flagged : (s : List ℕ) (n : ℕ) → word_of (flags [] n s) ≡ word_of (replicate n 128)
+unfolding flags word_of starts_with
+none-flagged s zero = refl
+none-flagged s (suc n) = ap (λ (w : ℕ). w * 256 + 128) (none-flagged (drop 1 s) n)
 
-  module _ {at last : ℕ} (inv : Lacks (x ∷ y ∷ []) s at i) (h : i ≤ last) (l : last + 9 ≡ length s) where
-    pub pair-on : bit_and a b ≡ 0 → Lacks (x ∷ y ∷ []) s at (i + 8)
-    pair-on z = flagged-on inv (two (omega arith)) z
+pub flagged-start : (s : List ℕ) (i : ℕ) → Flagged [] s i 9259542123273814144
+unfolding word_of
+flagged-start s i = record { is = sym (none-flagged (drop i s) 8) }
 
-    pub pair-stop : Lacks (x ∷ y ∷ []) s at (i + count_trailing_zeros 64 (bit_and a b) / 8)
-    pair-stop = flagged-stop inv (two (omega arith))
+-- one byte of the text more
+pub flagged-more : (t s : List ℕ) (i k : ℕ) {m a : ℕ} → Flagged (take k t) s i m → k < length t → Marked (get_or t k 0) s (i + k) a → i + k + 8 ≤ length s → Flagged (take (k + 1) t) s i (bit_and m a)
+flagged-more t s i k {m} {a} p h e room =
+    let l : length (take k t) ≡ k = length-take-le k t (omega arith) in
+    let q : Flagged (get_or t k 0 ∷ []) s (i + length (take k t)) a = rw l (byte-flagged e room) in
+    let w : take k t ++ (get_or t k 0 ∷ []) ≡ take (k + 1) t = sym (rw add-one (take-suc t k 0 h)) in
+    rw w at (both-flagged p q)
 
-    pub pair_fits : length s < 2 ^ 64 → Fits w64 (i + count_trailing_zeros 64 (bit_and a b) / 8)
-    pair_fits f = omega (arith, trailing_le 64 (bit_and a b))
+module _ {text s : List ℕ} {at i m : ℕ} (inv : Lacks text s at i) (e : Flagged text s i m) where
+  pub text-on : m ≡ 0 → Lacks text s at (i + 8)
+  text-on z = flagged-on inv e z
 
-  module _ {z c : ℕ} (r : Marked z s (i + 2) c) {at last : ℕ} (inv : Lacks (x ∷ y ∷ z ∷ []) s at i) (h : i ≤ last) (l : last + 10 ≡ length s) where
-    three : Flagged (x ∷ y ∷ z ∷ []) s i (bit_and (bit_and a b) c)
-    three = both-flagged (two (omega arith)) (byte-flagged r (omega arith))
+  pub text-stop : Lacks text s at (i + count_trailing_zeros 64 m / 8)
+  text-stop = flagged-stop inv e
 
-    pub three-on : bit_and (bit_and a b) c ≡ 0 → Lacks (x ∷ y ∷ z ∷ []) s at (i + 8)
-    three-on e = flagged-on inv three e
-
-    pub three-stop : Lacks (x ∷ y ∷ z ∷ []) s at (i + count_trailing_zeros 64 (bit_and (bit_and a b) c) / 8)
-    three-stop = flagged-stop inv three
-
-    pub three-fits : length s < 2 ^ 64 → Fits w64 (i + count_trailing_zeros 64 (bit_and (bit_and a b) c) / 8)
-    three-fits f = omega (arith, trailing_le 64 (bit_and (bit_and a b) c))
+pub zeros_few : (m : ℕ) → count_trailing_zeros 64 m / 8 ≤ 8
+zeros_few m = omega (arith, trailing_le 64 m)

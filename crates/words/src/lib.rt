@@ -1,8 +1,8 @@
 // Words: eight bytes of a lent slice at once, as one number.
 //
 // `word_at` gives the number of the eight bytes at a place, the first one lowest (specs/Word.antt); a word tells its
-// bytes (proofs/Digits.antt). By words `byte_from` finds where a byte first stands, whatever the bytes are, `pair_from` and
-// `three_from` do so for two or three bytes one after the other. `lacks` and `both_lack` tell that a byte is not among a few,
+// bytes (proofs/Digits.antt). By words `byte_from` finds where a byte first stands, whatever the bytes are, `text_from` does so for
+// a short text, all but near the end. `lacks` and `both_lack` tell that a byte is not among a few,
 // and `copy` copies a few: how many is a const. `stands_short` and `stands_long` compare with a text that is given by its numbers, and `same_name`
 // compares two names. What works on one word asks that eight bytes are there, and no more. A half is four bytes.
 #![tactic(auto)]
@@ -12,7 +12,7 @@ ghost use Rattle.std.proofs.lemmas.List.Edits.{sets};
 ghost use Rattle.texts.specs.Text.{piece, same};
 ghost use Rattle.texts.specs.Scan.{scan, until, is};
 ghost use Rattle.words.specs.Word.{IsWord, IsHalf};
-ghost use Rattle.words.specs.Marks.{Marked};
+ghost use Rattle.words.specs.Marks.{Marked, Flagged};
 ghost use Rattle.words.specs.Standing.{StandsShort, StandsLong, Lacks};
 
 // A 1, the seven low bits, and the high bit, in each of the eight bytes.
@@ -136,37 +136,29 @@ pub fn byte_from(s: &[u8], at: usize, x: u8) -> usize
     byte_each(s, i, x)
 }
 
-// Where the first `x` with `y` behind it stands from `at` on, or a place near the end: before it none stands, which is all
-// that is promised.
-pub fn pair_from(s: &[u8], at: usize, x: u8, y: u8) -> usize
-    ensures { Lacks (x ∷ y ∷ []) s.now at result }
+// The high bit of each of the 8 places from `i` on where `text` stands, and no other bit.
+fn marks_of<const N: usize>(s: &[u8], i: usize, text: &[u8; N]) -> u64
+    requires { i + 7 + N ≤ length s.now }
+    ensures { Flagged text.now s.now i result }
 {
-    if s.len() < 9 {
-        return at;
+    let mut m = HIGH;
+    for k in 0..N {
+        m &= marks(s, i + k, text[k]);
     }
-    let last = s.len() - 9;
-    let mut i = at;
-    while i <= last {
-        let m = marks(s, i, x) & marks(s, i + 1, y);
-        if m != 0 {
-            return i + (u64::trailing_zeros(m) / 8) as usize;
-        }
-        i += 8;
-    }
-    i
+    m
 }
 
-// The same of three bytes: `x`, `y` and `z`.
-pub fn three_from(s: &[u8], at: usize, x: u8, y: u8, z: u8) -> usize
-    ensures { Lacks (x ∷ y ∷ z ∷ []) s.now at result }
+// Where `text` first stands from `at` on, or a place near the end: before it it stands nowhere, which is all that is promised.
+pub fn text_from<const N: usize>(s: &[u8], at: usize, text: &[u8; N]) -> usize
+    ensures { Lacks text.now s.now at result }
 {
-    if s.len() < 10 {
+    if s.len() < N {
         return at;
     }
-    let last = s.len() - 10;
+    let room = s.len() - N;
     let mut i = at;
-    while i <= last {
-        let m = marks(s, i, x) & marks(s, i + 1, y) & marks(s, i + 2, z);
+    while i < room && 7 <= room - i {
+        let m = marks_of(s, i, text);
         if m != 0 {
             return i + (u64::trailing_zeros(m) / 8) as usize;
         }
