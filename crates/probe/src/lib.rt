@@ -17,7 +17,7 @@ pub mod dump;
 use entities::decode;
 use printing::{put_byte, put_bytes};
 use refusals::Refusal;
-use saxlite::reader::{Event, at_end, cursor_at, read_next};
+use saxlite::reader::{Cursor, Event};
 use tags::scan::{is_xmlns, prefix_len};
 use tags::tag::{TagPart, attribute, tag_part};
 use texts::{Range, part};
@@ -242,13 +242,13 @@ fn put_event(doc: &[u8], out: &mut [u8], at: usize, event: Event) -> usize {
 // There are never more events than bytes: a self-closed tag, which is two, has four.
 fn read_all(doc: &[u8], out: &mut [u8]) -> Reading {
     let mut p = 0;
-    let mut c = cursor_at(0);
+    let mut c = Cursor::at(0);
     let mut left = doc.len();
     while 0 < left {
-        if at_end(doc, c) {
+        if c.is_at_end(doc) {
             return finished(p, out.len());
         }
-        let read = read_next(doc, c);
+        let read = c.read(doc);
         let event = read.event;
         if let Event::Refused(r) = event {
             return refused(p, r);

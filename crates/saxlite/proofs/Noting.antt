@@ -16,11 +16,10 @@ use Rattle.tags.specs.Noting.{keys_of, NotedBy}
 use Rattle.saxlite.specs.declared.step.Step.{Step}
 use Rattle.saxlite.specs.declared.step.Step.TheVariants.{Text, Open, Close, Skipped, End, Refused}
 use Rattle.saxlite.specs.declared.step.NotedStep.{NotedStep}
-use Rattle.saxlite.specs.declared.reader.Event.TheVariants as event
 use Rattle.saxlite.specs.declared.reader.Cursor.{Cursor}
 use Rattle.saxlite.specs.declared.reader.Read.{Read}
 use Rattle.saxlite.specs.Step.{past_end, close_at, open_at, step_at}
-use Rattle.saxlite.specs.Reader.{cursor_at, read_step}
+use Rattle.saxlite.specs.Reader.{read_step, owed_close}
 use Rattle.saxlite.specs.Noting.{NotedOf, NotedAs, NotedIn, NotedAt}
 use Rattle.saxlite.proofs.Reading.{read-owed, read-step}
 
@@ -85,10 +84,10 @@ in_step doc at End noted n = tt
 in_step doc at (Refused q) noted n = tt
 
 module _ (doc : List ℕ) (c : Cursor) where
-  pub at_owed : c.owed ≡ true → {k : Cursor} → k ≡ cursor_at c.at → {noted : Notes} → NotedAt doc c (record { event = event.Close c.name c.len; place = c.place; cursor = k; noted = noted })
-  at_owed t e = record { is = read-owed doc c t e; noted = tt }
+  pub at_owed : c.owed ≡ true → {r : Read} → r ≡ owed_close c → {noted : Notes} → NotedAt doc c (record { read = r; noted = noted })
+  at_owed t e = record { is = read-owed doc c t e; noted = rw e tt }
 
-  pub at-step : c.owed ≡ false → {s : NotedStep} → NotedAs (step_at doc c.at) doc s → {r : Read} → r ≡ read_step c.at s.step → NotedAt doc c (record { event = r.event; place = r.place; cursor = r.cursor; noted = s.noted })
+  pub at-step : c.owed ≡ false → {s : NotedStep} → NotedAs (step_at doc c.at) doc s → {r : Read} → r ≡ read_step c.at s.step → NotedAt doc c (record { read = r; noted = s.noted })
   at-step t {s} n {r} e = record { is = read-step doc c t n.is e; noted = rw e (in_step doc c.at s.step s.noted n.noted) }
 
 -- what the reader's own proof cites

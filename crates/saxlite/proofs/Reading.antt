@@ -13,12 +13,12 @@ use Rattle.saxlite.specs.declared.reader.Event.TheVariants.{Text, Open, Close, S
 use Rattle.saxlite.specs.declared.reader.Cursor.{Cursor}
 use Rattle.saxlite.specs.declared.reader.Read.{Read}
 use Rattle.saxlite.specs.Step.{step_at}
-use Rattle.saxlite.specs.Reader.{cursor_at, read_step, read_at, at_end}
+use Rattle.saxlite.specs.Reader.{cursor_at, read_step, owed_close, read_at, at_end}
 
 module _ (doc : List ℕ) (c : Cursor) where
-  pub read-owed : c.owed ≡ true → {k : Cursor} → k ≡ cursor_at c.at → record { event = Close c.name c.len; place = c.place; cursor = k } ≡ read_at doc c
+  pub read-owed : c.owed ≡ true → {r : Read} → r ≡ owed_close c → r ≡ read_at doc c
   unfolding read_at
-  read-owed t e = rw (e, t)
+  read-owed t e = e ∙ rw t
 
   pub read-step : c.owed ≡ false → {s : Step} → s ≡ step_at doc c.at → {r : Read} → r ≡ read_step c.at s → r ≡ read_at doc c
   unfolding read_at

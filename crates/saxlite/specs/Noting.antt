@@ -37,5 +37,5 @@ NotedIn doc (Refused refusal) noted = Unit {0}
 
 -- what is read at a cursor, and what is noted of what it opens
 pub record NotedAt (doc : List ℕ) (c : Cursor) (r : ReadNoted) : Type 0 where
-  pub is : record { event = r.event; place = r.place; cursor = r.cursor } ≡ read_at doc c
-  pub noted : NotedIn doc r.event r.noted
+  pub is : r.read ≡ read_at doc c
+  pub noted : NotedIn doc r.read.event r.noted

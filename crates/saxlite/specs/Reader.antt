@@ -22,12 +22,13 @@ read_step at (step.Skipped next) = record { event = Skipped; place = at; cursor 
 read_step at step.End = record { event = End; place = at; cursor = cursor_at at }
 read_step at (step.Refused refusal) = record { event = Refused refusal; place = at; cursor = cursor_at at }
 
--- an owed close comes first; its place is that of its tag
+-- the close that is owed; its place is that of its tag
+abbrev pub owed_close : Cursor → Read
+owed_close c = record { event = Close c.name c.len; place = c.place; cursor = cursor_at c.at }
+
+-- an owed close comes first
 unfoldable pub read_at : List ℕ → Cursor → Read
-read_at doc c =
-    pick c.owed
-    (record { event = Close c.name c.len; place = c.place; cursor = cursor_at c.at })
-    (read_step c.at (step_at doc c.at))
+read_at doc c = pick c.owed (owed_close c) (read_step c.at (step_at doc c.at))
 
 -- nothing is left to read
 unfoldable pub at_end : List ℕ → Cursor → Bool

@@ -3,11 +3,11 @@
 #![tactic(auto, using(crate::proofs::Reading::reading, crate::proofs::Noting::noting))]
 
 ghost use Rattle.std.specs.Prelude.{◌≡◌};
-ghost use Rattle.classes.specs.Table.{IsTable};
-ghost use Rattle.saxlite.specs.Reader.{read_at, read_step, at_end, cursor_at};
+ghost use Rattle.saxlite.specs.Reader.{read_at, read_step, owed_close, at_end, cursor_at};
 ghost use Rattle.saxlite.specs.Noting.{NotedAt, NotedIn};
 
-use crate::step::{Step, step_at, step_noting};
+use crate::step::{NotedStep, Step, step_at, step_noting};
+use classes::Classes;
 use refusals::Refusal;
 use tags::tag::{Notes, nothing};
 
@@ -55,21 +55,70 @@ pub struct Read {
 // The same with what was noted of a tag that was opened.
 #[derive(Clone, Copy)]
 pub struct ReadNoted {
-    pub event: Event,
-    pub place: usize,
-    pub cursor: Cursor,
+    pub read: Read,
     pub noted: Notes,
 }
 
-pub fn cursor_at(at: usize) -> Cursor
-    ensures { result ≡ cursor_at at }
-{
-    Cursor {
-        at,
-        owed: false,
-        place: 0,
-        name: 0,
-        len: 0,
+impl Cursor {
+    // At a place, with no close owed.
+    pub fn at(at: usize) -> Cursor
+        ensures { result ≡ cursor_at at }
+    {
+        Cursor {
+            at,
+            owed: false,
+            place: 0,
+            name: 0,
+            len: 0,
+        }
+    }
+
+    // The close that is owed, where one is.
+    fn owed_close(self) -> Read
+        ensures { result ≡ owed_close self }
+    {
+        Read {
+            event: Event::Close {
+                name: self.name,
+                name_len: self.len,
+            },
+            place: self.place,
+            cursor: Cursor::at(self.at),
+        }
+    }
+
+    // What stands here, and what is noted of the tag that is opened here.
+    pub fn read_noting(self, doc: &[u8], t: &Classes) -> ReadNoted
+        ensures { NotedAt doc.now self result }
+    {
+        if self.owed {
+            return ReadNoted {
+                read: self.owed_close(),
+                noted: nothing(),
+            };
+        }
+        let NotedStep { step, noted } = step_noting(doc, self.at, t);
+        ReadNoted {
+            read: read_step(self.at, step),
+            noted,
+        }
+    }
+
+    // What stands here.
+    pub fn read(self, doc: &[u8]) -> Read
+        ensures { result ≡ read_at doc.now self }
+    {
+        if self.owed {
+            return self.owed_close();
+        }
+        read_step(self.at, step_at(doc, self.at))
+    }
+
+    // Whether nothing is left to read.
+    pub fn is_at_end(self, doc: &[u8]) -> bool
+        ensures { result ≡ at_end doc.now self }
+    {
+        !self.owed && doc.len() <= self.at
     }
 }
 
@@ -80,7 +129,7 @@ fn read_step(at: usize, step: Step) -> Read
         Step::Text { from, len, next } => Read {
             event: Event::Text { from, len },
             place: at,
-            cursor: cursor_at(next),
+            cursor: Cursor::at(next),
         },
         Step::Open {
             name,
@@ -111,84 +160,24 @@ fn read_step(at: usize, step: Step) -> Read
         } => Read {
             event: Event::Close { name, name_len },
             place: at,
-            cursor: cursor_at(next),
+            cursor: Cursor::at(next),
         },
         Step::Skipped { next } => Read {
             event: Event::Skipped,
             place: at,
-            cursor: cursor_at(next),
+            cursor: Cursor::at(next),
         },
         Step::End => Read {
             event: Event::End,
             place: at,
-            cursor: cursor_at(at),
+            cursor: Cursor::at(at),
         },
         Step::Refused(refusal) => Read {
             event: Event::Refused(refusal),
             place: at,
-            cursor: cursor_at(at),
+            cursor: Cursor::at(at),
         },
     }
-}
-
-// What stands at a cursor, and what is noted of the tag that is opened there.
-pub fn read_noting(doc: &[u8], c: Cursor, t: &[u8; 256]) -> ReadNoted
-    requires { IsTable t.now }
-    ensures { NotedAt doc.now c result }
-{
-    if c.owed {
-        return ReadNoted {
-            event: Event::Close {
-                name: c.name,
-                name_len: c.len,
-            },
-            place: c.place,
-            cursor: cursor_at(c.at),
-            noted: nothing(),
-        };
-    }
-    let at = c.at;
-    let s = step_noting(doc, at, t);
-    let step = s.step;
-    let read = read_step(at, step);
-    let event = read.event;
-    let place = read.place;
-    let cursor = read.cursor;
-    let noted = s.noted;
-    ReadNoted {
-        event,
-        place,
-        cursor,
-        noted,
-    }
-}
-
-// What stands at a cursor.
-pub fn read_next(doc: &[u8], c: Cursor) -> Read
-    ensures { result ≡ read_at doc.now c }
-{
-    if c.owed {
-        return Read {
-            event: Event::Close {
-                name: c.name,
-                name_len: c.len,
-            },
-            place: c.place,
-            cursor: cursor_at(c.at),
-        };
-    }
-    let at = c.at;
-    read_step(at, step_at(doc, at))
-}
-
-// Whether nothing is left to read.
-pub fn at_end(doc: &[u8], c: Cursor) -> bool
-    ensures { result ≡ at_end doc.now c }
-{
-    if c.owed {
-        return false;
-    }
-    doc.len() <= c.at
 }
 
 // A reader over the document that yields one event at a time.
@@ -198,31 +187,20 @@ pub struct Reader<'a> {
     pub cursor: Cursor,
 }
 
-// What the reader yields, and where it goes on.
-pub fn ahead<'a>(r: Reader<'a>) -> Read
-    ensures { result ≡ read_at r.entry.doc.now r.entry.cursor }
-{
-    read_next(r.doc, r.cursor)
-}
+impl<'a> Reader<'a> {
+    // What the reader yields, and where it goes on.
+    pub fn ahead(self) -> Read
+        ensures { result ≡ read_at self.entry.doc.now self.entry.cursor }
+    {
+        self.cursor.read(self.doc)
+    }
 
-// An event, the place of its '<' or of its first byte, and what was noted of a tag that it opens.
-#[derive(Clone, Copy)]
-pub struct Placed {
-    pub event: Event,
-    pub place: usize,
-    pub noted: Notes,
-}
-
-// The next event; the reader has moved on.
-pub fn next<'s, 'a, 't>(r: &'s mut Reader<'a>, t: &'t [u8; 256]) -> Placed
-    requires { IsTable t.now }
-    ensures { (r.new.doc ≡ r.old.doc) × (record { event = result.event; place = result.place; cursor = r.new.cursor } ≡ read_at r.old.doc.now r.old.cursor) × NotedIn r.old.doc.now result.event result.noted }
-{
-    let read = read_noting(r.doc, r.cursor, t);
-    r.cursor = read.cursor;
-    Placed {
-        event: read.event,
-        place: read.place,
-        noted: read.noted,
+    // The next event; the reader has moved on.
+    pub fn next(&mut self, t: &Classes) -> ReadNoted
+        ensures { (self.new.doc ≡ self.old.doc) × (result.read.cursor ≡ self.new.cursor) × (record { event = result.read.event; place = result.read.place; cursor = self.new.cursor } ≡ read_at self.old.doc.now self.old.cursor) × NotedIn self.old.doc.now result.read.event result.noted }
+    {
+        let told = self.cursor.read_noting(self.doc, t);
+        self.cursor = told.read.cursor;
+        told
     }
 }

@@ -2,19 +2,20 @@
 #![tactic(auto, using(crate::proofs::Laws::laws, crate::proofs::Laws::closing))]
 
 ghost use Rattle.std.specs.Prelude.{◌≡◌, ◌+◌, ◌≤◌, ◌<◌, length};
-ghost use Rattle.classes.specs.Table.{IsTable};
 ghost use Rattle.saxlite.specs.Step.{step_at, markup_at, close_at, open_at};
 ghost use Rattle.saxlite.specs.Passing.{StepPast};
 ghost use Rattle.saxlite.specs.Noting.{NotedAs};
 
 use crate::passing::{comment_far, instruction_far};
-use classes::table;
+use classes::Classes;
 use refusals::Refusal;
 use tags::beginning::{begin_at, closing_at};
 use tags::scan::{byte_from, prefix_len, skip_space, tag_name_end};
 use tags::tag::{Notes, nothing, tag_noting};
 
 // What stands at a place, and where the reader goes on.
+// kept: a refusal among the steps and the events. As a Result it would lie inside NotedStep, Read and ReadNoted, since what
+// stands beside it, the place and the cursor, is promised too: `?` would serve nowhere.
 #[derive(Clone, Copy)]
 pub enum Step {
     Text {
@@ -73,8 +74,8 @@ fn skip_past(doc: &[u8], end: usize, n: usize, refusal: Refusal) -> Step
 }
 
 // The close tag at `at`, of any name.
-fn close_any(doc: &[u8], at: usize, t: &[u8; 256]) -> Step
-    requires { (at + 2 ≤ length doc.now) × IsTable t.now }
+fn close_any(doc: &[u8], at: usize, t: &Classes) -> Step
+    requires { at + 2 ≤ length doc.now }
     ensures { result ≡ close_at doc.now at }
 {
     let name = at + 2;
@@ -99,29 +100,24 @@ fn close_any(doc: &[u8], at: usize, t: &[u8; 256]) -> Step
 }
 
 // The close tag at `at`: at once, where its name is known.
-fn close_at(doc: &[u8], at: usize, t: &[u8; 256]) -> Step
-    requires { (at + 2 ≤ length doc.now) × IsTable t.now }
+fn close_at(doc: &[u8], at: usize, t: &Classes) -> Step
+    requires { at + 2 ≤ length doc.now }
     ensures { result ≡ close_at doc.now at }
 {
     let name = at + 2;
-    let known = closing_at(doc, name);
-    if 0 < known.code {
-        let end = name + known.len;
-        let next = end + 1;
-        let local = name + known.lost;
-        let name_len = known.len - known.lost;
+    if let Some(known) = closing_at(doc, name) {
         return Step::Close {
-            name: local,
-            name_len,
-            next,
+            name: name + known.lost,
+            name_len: known.len - known.lost,
+            next: name + known.len + 1,
         };
     }
     close_any(doc, at, t)
 }
 
 // The open tag at `at`.
-fn open_at(doc: &[u8], at: usize, t: &[u8; 256]) -> NotedStep
-    requires { (at + 1 ≤ length doc.now) × IsTable t.now }
+fn open_at(doc: &[u8], at: usize, t: &Classes) -> NotedStep
+    requires { at + 1 ≤ length doc.now }
     ensures { NotedAs (open_at doc.now at) doc.now result }
 {
     let name = at + 1;
@@ -137,7 +133,7 @@ fn open_at(doc: &[u8], at: usize, t: &[u8; 256]) -> NotedStep
     let n = end - name;
     let local = name + lost;
     let name_len = n - lost;
-    let tag = tag_noting(doc, end, at, begun.keys, t);
+    let tag = tag_noting(doc, end, at, begun.kind, t);
     match tag.ending {
         Ok(ending) => NotedStep {
             step: Step::Open {
@@ -154,8 +150,8 @@ fn open_at(doc: &[u8], at: usize, t: &[u8; 256]) -> NotedStep
 }
 
 // What the '<' at `at` begins.
-fn markup_at(doc: &[u8], at: usize, t: &[u8; 256]) -> NotedStep
-    requires { (at < length doc.now) × IsTable t.now }
+fn markup_at(doc: &[u8], at: usize, t: &Classes) -> NotedStep
+    requires { at < length doc.now }
     ensures { NotedAs (markup_at doc.now at) doc.now result }
 {
     if texts::starts_with(doc, at, b"<!--") {
@@ -180,8 +176,7 @@ fn markup_at(doc: &[u8], at: usize, t: &[u8; 256]) -> NotedStep
 }
 
 // The step of the reader at `at`, and what is noted of the tag that it opens.
-pub fn step_noting(doc: &[u8], at: usize, t: &[u8; 256]) -> NotedStep
-    requires { IsTable t.now }
+pub fn step_noting(doc: &[u8], at: usize, t: &Classes) -> NotedStep
     ensures { NotedAs (step_at doc.now at) doc.now result }
 {
     if doc.len() <= at {
@@ -203,7 +198,5 @@ pub fn step_noting(doc: &[u8], at: usize, t: &[u8; 256]) -> NotedStep
 pub fn step_at(doc: &[u8], at: usize) -> Step
     ensures { result ≡ step_at doc.now at }
 {
-    let t = table();
-    let noted = step_noting(doc, at, &t);
-    noted.step
+    step_noting(doc, at, &Classes::new()).step
 }

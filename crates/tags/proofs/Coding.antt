@@ -1,7 +1,7 @@
 -- Laws of the numbers of names: which of them matter in a tag, and what is noted of an attribute by its number.
 use Rattle.tags.specs.declared.tag.Ending.{Ending}
 use Rattle.texts.specs.declared.Range.{Range}
-use Rattle.std.specs.Prelude.{Option, Result, Ok, Err}
+use Rattle.std.specs.Prelude.{Some, Option, Result, Ok, Err}
 use mathlib.Core.Path.{◌≡◌, refl, sym, ap, ◌∙◌}
 use mathlib.Core.Bool.{Bool, true, false, not}
 use mathlib.Core.List.{List, [], ◌∷◌}
@@ -24,9 +24,11 @@ use Rattle.tags.specs.declared.tag.TagPart.TheVariants.{Attribute as Part, TagEn
 use Rattle.tags.specs.declared.tag.Quick.{Quick}
 use Rattle.tags.specs.declared.tag.Notes.{Notes}
 use Rattle.refusals.specs.declared.Refusal.{Refusal}
+use Rattle.tags.specs.declared.tag.TagKind.{TagKind}
+use Rattle.tags.specs.declared.tag.TagKind.TheVariants.{Schema, «Type», Enum, Other}
 use Rattle.tags.specs.Names.{prefix_length, local_name, is_xmlns}
 use Rattle.tags.specs.Attributes.{tag_part_at, tag_at, later, attribute_at}
-use Rattle.tags.specs.Noting.{Keys, field_keys, no_notes, found_at, value_if_named, keys_of, NotedWith, NotedBy}
+use Rattle.tags.specs.Noting.{Keys, no_notes, found_at, value_if_named, keys_of, NotedWith, NotedBy}
 use Rattle.tags.specs.Known.{known_name, keys_by, codes, CodesOf, QuickAt, NamedAs, NotedMore}
 use Rattle.tags.proofs.Tagging.{Going, part-less, part-value, going_on, going_end, going-bad}
 use Rattle.tags.proofs.Looking.{found-value, Looking, looking-start, looking-on, looking-end, looking-bad}
@@ -34,44 +36,40 @@ use Rattle.tags.proofs.Knowing.{up-each, goes, plain_name, known-plain, goes-all
 
 -- ---- the numbers of the names that matter
 
-module _ (keys : ℕ) where
-  pub codes-schema : keys ≡ 1 → CodesOf (keys_by keys) (record { first = 2; second = 8; third = 9; fourth = 0 })
+module _ {kind : TagKind} where
+  pub codes-schema : kind ≡ Schema → CodesOf (keys_by kind) (record { first = 2; second = 8; third = 9; fourth = 0 })
   unfolding same
   codes-schema e = rw e (record { first = tt; second = tt; third = tt; fourth = tt })
 
-  pub codes-type : keys ≡ 2 → CodesOf (keys_by keys) (record { first = 4; second = 1; third = 5; fourth = 7 })
+  pub codes-type : kind ≡ «Type» → CodesOf (keys_by kind) (record { first = 4; second = 1; third = 5; fourth = 7 })
   unfolding same
   codes-type e = rw e (record { first = tt; second = tt; third = tt; fourth = tt })
 
-  pub codes-enum : keys ≡ 3 → CodesOf (keys_by keys) (record { first = 1; second = 6; third = 0; fourth = 0 })
+  pub codes-enum : kind ≡ Enum → CodesOf (keys_by kind) (record { first = 1; second = 6; third = 0; fourth = 0 })
   unfolding same
   codes-enum e = rw e (record { first = tt; second = tt; third = tt; fourth = tt })
 
-  module _ (f : keys ≡ 1 → ⊥) (g : keys ≡ 2 → ⊥) (h : keys ≡ 3 → ⊥) where
-    pub keys-other : keys_by keys ≡ field_keys
-    keys-other = rw (ne_eqb keys 1 f, ne_eqb keys 2 g, ne_eqb keys 3 h)
-
-    pub codes-other : CodesOf (keys_by keys) (record { first = 2; second = 1; third = 3; fourth = 0 })
-    unfolding same
-    codes-other = rw keys-other (record { first = tt; second = tt; third = tt; fourth = tt })
+  pub codes-other : kind ≡ Other → CodesOf (keys_by kind) (record { first = 2; second = 1; third = 3; fourth = 0 })
+  unfolding same
+  codes-other e = rw e (record { first = tt; second = tt; third = tt; fourth = tt })
 
 -- by the element's name: each b is what a comparison says
 module _ (name : List ℕ) {b₁ : Bool} (e₁ : b₁ ≡ same name (ascii "messageSchema")) where
-  pub keys-schema : b₁ ≡ true → keys_by 1 ≡ keys_of name
+  pub keys-schema : b₁ ≡ true → keys_by Schema ≡ keys_of name
   unfolding keys_of
   keys-schema t = rw (← e₁, t)
 
   module _ (f₁ : b₁ ≡ false) {b₂ : Bool} (e₂ : b₂ ≡ same name (ascii "type")) where
-    pub keys-type : b₂ ≡ true → keys_by 2 ≡ keys_of name
+    pub keys-type : b₂ ≡ true → keys_by «Type» ≡ keys_of name
     unfolding keys_of
     keys-type t = rw (← e₁, f₁, ← e₂, t)
 
     module _ (f₂ : b₂ ≡ false) {b₃ : Bool} (e₃ : b₃ ≡ same name (ascii "enum")) where
-      pub keys-enum : b₃ ≡ true → keys_by 3 ≡ keys_of name
+      pub keys-enum : b₃ ≡ true → keys_by Enum ≡ keys_of name
       unfolding keys_of
       keys-enum t = rw (← e₁, f₁, ← e₂, f₂, ← e₃, t)
 
-      pub keys-field : b₃ ≡ false → keys_by 0 ≡ keys_of name
+      pub keys-field : b₃ ≡ false → keys_by Other ≡ keys_of name
       unfolding keys_of
       keys-field t = rw (← e₁, f₁, ← e₂, f₂, ← e₃, t)
 
@@ -143,26 +141,29 @@ known_past code h l value len was cs k t =
         let n : code ≡ c → ⊥ = λ e. omega (arith, leb→le c 9 (and_left (leb c 9) _ u)) in
         known-noted code (omega arith) l value len key c x y u (sym (ne_eqb code c n)) refl refl
 
-module _ {doc : List ℕ} {name n code : ℕ} (e : NamedAs doc name n code) (h : 0 < code) where
+module _ {doc : List ℕ} {name n : ℕ} {known : Option ℕ} {code : ℕ} (e : NamedAs doc name n known) (h : known ≡ Some code) where
+  pub named-above : 0 < code
+  named-above = (e.named code h).0
+
   pub named-below : code < 18
-  named-below = (e.named h).0
+  named-below = (e.named code h).1
 
   pub by_name : (value len : ℕ) {was r : Notes} {cs : Codes} {k : Keys} → ((j : Keys) → CodesOf j cs → NotedMore (known_name code) value len j was r) → CodesOf k cs → NotedMore (piece doc name n) value len k was r
-  by_name value len {k = k} m t = rw (e.named h).1 (m k t)
+  by_name value len {k = k} m t = rw (e.named code h).2 (m k t)
 
--- by the number of the names that matter, where an attribute has any name
-module _ (raw : List ℕ) (value len keys : ℕ) {was r : Notes} where
-  pub other-schema : keys ≡ 1 → NotedWith raw value len (ascii "id") (ascii "version") (ascii "package") [] was r → NotedMore raw value len (keys_by keys) was r
+-- by the kind of the tag, where an attribute has any name
+module _ (raw : List ℕ) (value len : ℕ) {kind : TagKind} {was r : Notes} where
+  pub other-schema : kind ≡ Schema → NotedWith raw value len (ascii "id") (ascii "version") (ascii "package") [] was r → NotedMore raw value len (keys_by kind) was r
   other-schema e n = rw e (record { first = n.0; second = n.1; third = n.2; fourth = n.3 })
 
-  pub other-type : keys ≡ 2 → NotedWith raw value len (ascii "length") (ascii "name") (ascii "primitiveType") (ascii "characterEncoding") was r → NotedMore raw value len (keys_by keys) was r
+  pub other-type : kind ≡ «Type» → NotedWith raw value len (ascii "length") (ascii "name") (ascii "primitiveType") (ascii "characterEncoding") was r → NotedMore raw value len (keys_by kind) was r
   other-type e n = rw e (record { first = n.0; second = n.1; third = n.2; fourth = n.3 })
 
-  pub other-enum : keys ≡ 3 → NotedWith raw value len (ascii "name") (ascii "encodingType") [] [] was r → NotedMore raw value len (keys_by keys) was r
+  pub other-enum : kind ≡ Enum → NotedWith raw value len (ascii "name") (ascii "encodingType") [] [] was r → NotedMore raw value len (keys_by kind) was r
   other-enum e n = rw e (record { first = n.0; second = n.1; third = n.2; fourth = n.3 })
 
-  pub other-field : (keys ≡ 1 → ⊥) → (keys ≡ 2 → ⊥) → (keys ≡ 3 → ⊥) → NotedWith raw value len (ascii "id") (ascii "name") (ascii "type") [] was r → NotedMore raw value len (keys_by keys) was r
-  other-field f g h n = rw (keys-other keys f g h) (record { first = n.0; second = n.1; third = n.2; fourth = n.3 })
+  pub other-field : kind ≡ Other → NotedWith raw value len (ascii "id") (ascii "name") (ascii "type") [] was r → NotedMore raw value len (keys_by kind) was r
+  other-field e n = rw e (record { first = n.0; second = n.1; third = n.2; fourth = n.3 })
 
 -- ---- the loop of `tag_noting` stands at i; q is the part there
 
@@ -184,7 +185,7 @@ module _ (doc : List ℕ) (at place i : ℕ) {q : Quick} (u : QuickAt doc i plac
   quick-value f = part-value doc i place u.is f
 
   pub quick-named : {name n value len next : ℕ} → q.part ≡ Ok (Part name n value len next) → NamedAs doc name n q.code
-  quick-named f = record { named = λ h. rw f at (u.named h) }
+  quick-named f = record { named = λ k h. rw f at (u.named k h) }
 
   pub quick-on : Going doc at place i → {name n value len next : ℕ} → q.part ≡ Ok (Part name n value len next) → Going doc at place next
   quick-on g f = going_on g u.is f

@@ -1,6 +1,6 @@
 -- Laws of known attributes: what stands at a place is the part that the general way finds there.
 use Rattle.refusals.specs.declared.Refusal.{Refusal}
-use Rattle.std.specs.Prelude.{Result}
+use Rattle.std.specs.Prelude.{Some, None, Result}
 use mathlib.Core.Path.{◌≡◌, refl, sym, ap, subst, ◌∙◌}
 use mathlib.Core.Bool.{Bool, true, false, not}
 use mathlib.Core.List.{List, [], ◌∷◌, ◌++◌, append_assoc}
@@ -26,7 +26,7 @@ use Rattle.tags.specs.declared.known.Known.{Known}
 use Rattle.tags.specs.declared.tag.TagPart.{TagPart}
 use Rattle.tags.specs.Names.{is_xmlns}
 use Rattle.tags.specs.Attributes.{quoted_at, tag_part_at}
-use Rattle.tags.specs.Known.{known_name, KnownAt, up_to, Named, QuickAt}
+use Rattle.tags.specs.Known.{known_name, IsKnown, up_to, Named, QuickAt}
 use Rattle.tags.proofs.Searching.{stands-within}
 use Rattle.tags.proofs.Parting.{value-double, attribute-valued, part-attribute}
 
@@ -132,26 +132,26 @@ module _ (doc : List ℕ) (at place : ℕ) {i : ℕ} (e : i ≡ scan is_space do
 
 -- ---- the same for a known attribute
 
-quoted-named : (doc : List ℕ) (i code value place : ℕ) (n : ℕ) → code < 18 → piece doc i n ≡ known_name code → Named doc code (quoted_at 34 doc i n value place)
+quoted-named : (doc : List ℕ) (i code value place : ℕ) (n : ℕ) → 0 < code → code < 18 → piece doc i n ≡ known_name code → Named doc code (quoted_at 34 doc i n value place)
 unfolding quoted_at
-quoted-named doc i code value place n h e = pick-by (Named doc code) (ltb (scan (until (is 34)) doc value) (length doc)) (λ t. (h, e)) (λ f. tt)
+quoted-named doc i code value place n g h e = pick-by (Named doc code) (ltb (scan (until (is 34)) doc value) (length doc)) (λ t. (g, h, e)) (λ f. tt)
 
-module _ (doc : List ℕ) (at place : ℕ) {i : ℕ} (e : i ≡ scan is_space doc at) {k : Known} (known : KnownAt doc i k) (h : 0 < k.code) where
+module _ (doc : List ℕ) (at place : ℕ) {i : ℕ} (e : i ≡ scan is_space doc at) {k : Known} (known : IsKnown doc i k) where
   known_in : i + length (known_name k.code) + 2 ≤ length doc
-  known_in = within doc at place e (known_name k.code) (known-plain k.code h known.numbered) (known.stands h)
+  known_in = within doc at place e (known_name k.code) (known-plain k.code known.above known.below) known.stands
 
-  quick-known : {r : Result TagPart Refusal} → r ≡ quoted_at 34 doc i (length (known_name k.code)) (i + length (known_name k.code) + 2) place → QuickAt doc at place (record { code = k.code; part = r })
+  quick-known : {r : Result TagPart Refusal} → r ≡ quoted_at 34 doc i (length (known_name k.code)) (i + length (known_name k.code) + 2) place → QuickAt doc at place (record { code = Some k.code; part = r })
   quick-known {r} p =
       let n = known_name k.code in
-      let t = known-plain k.code h known.numbered in
+      let t = known-plain k.code known.above known.below in
       record {
-        is = plain-part doc at place e n t (known.stands h) p;
-        named = λ z. rw p (quoted-named doc i k.code (i + length n + 2) place (length n) known.numbered (plain-name doc at place e n t (known.stands h)));
+        is = plain-part doc at place e n t known.stands p;
+        named = λ c q. let z : k.code ≡ c = cc in rw (p, ← z) (quoted-named doc i k.code (i + length n + 2) place (length n) known.above known.below (plain-name doc at place e n t known.stands));
       }
 
 -- any other part
-pub other-quick : (doc : List ℕ) (at place : ℕ) {r : Result TagPart Refusal} → r ≡ tag_part_at doc at place → QuickAt doc at place (record { code = 0; part = r })
-other-quick doc at place e = record { is = e; named = λ z. absurd (omega arith) }
+pub other-quick : (doc : List ℕ) (at place : ℕ) {r : Result TagPart Refusal} → r ≡ tag_part_at doc at place → QuickAt doc at place (record { code = None; part = r })
+other-quick doc at place e = record { is = e; named = λ c q. absurd (let z : ◌≡◌ {A = ℕ} 0 1 = cc in omega arith) }
 
 -- ---- what stands behind one space
 
@@ -162,26 +162,26 @@ name-first [] s t = absurd t
 name-first (b ∷ n) s t = count_no is_space b (n ++ s) (by-test (is_space b) (λ y. absurd (rw y at (and_left (goes b) _ t))) (λ f. f))
 
 -- a known attribute behind one space
-module _ (doc : List ℕ) (at place : ℕ) {b : Bool} (e : b ≡ starts_with (ascii " ") (drop at doc)) (t : b ≡ true) {k : Known} (known : KnownAt doc (at + 1) k) (h : 0 < k.code) where
+module _ (doc : List ℕ) (at place : ℕ) {b : Bool} (e : b ≡ starts_with (ascii " ") (drop at doc)) (t : b ≡ true) {k : Known} (known : IsKnown doc (at + 1) k) where
   spaced : at + 1 ≡ scan is_space doc at
   unfolding is_space
   spaced =
       let n = known_name k.code in
-      let p = known-plain k.code h known.numbered in
+      let p = known-plain k.code known.above known.below in
       let s : drop at doc ≡ 32 ∷ drop (at + 1) doc = starts-split (ascii " ") (drop at doc) (sym e ∙ t) ∙ ap (λ l. 32 ∷ l) (drop-drop 1 at doc) in
-      let m : count_while is_space (drop (at + 1) doc) ≡ 0 = ap (count_while is_space) (starts-split (n ++ ascii "=\"") (drop (at + 1) doc) (known.stands h) ∙ append_assoc n (ascii "=\"") _) ∙ name-first n _ p in
+      let m : count_while is_space (drop (at + 1) doc) ≡ 0 = ap (count_while is_space) (starts-split (n ++ ascii "=\"") (drop (at + 1) doc) known.stands ∙ append_assoc n (ascii "=\"") _) ∙ name-first n _ p in
       ap (λ c. at + c) (sym (ap (count_while is_space) s ∙ count_yes is_space 32 (drop (at + 1) doc) refl ∙ ap suc m))
 
   pub spaced-fits : length doc < 2 ^ 64 → Fits w64 (at + k.skip)
-  spaced-fits l = omega (arith, known.ahead h, known_in doc at place spaced known h)
+  spaced-fits l = omega (arith, known.ahead, known_in doc at place spaced known)
 
-  pub spaced-quick : {r : Result TagPart Refusal} → r ≡ quoted_at 34 doc (at + 1) (k.skip - 3) (at + k.skip) place → QuickAt doc at place (record { code = k.code; part = r })
+  pub spaced-quick : {r : Result TagPart Refusal} → r ≡ quoted_at 34 doc (at + 1) (k.skip - 3) (at + k.skip) place → QuickAt doc at place (record { code = Some k.code; part = r })
   spaced-quick p =
       let n = length (known_name k.code) in
-      let l : k.skip - 3 ≡ n = omega (arith, known.ahead h) in
-      let v : at + k.skip ≡ at + 1 + n + 2 = omega (arith, known.ahead h) in
-      quick-known doc at place spaced known h (rw (l, v) at p)
+      let l : k.skip - 3 ≡ n = omega (arith, known.ahead) in
+      let v : at + k.skip ≡ at + 1 + n + 2 = omega (arith, known.ahead) in
+      quick-known doc at place spaced known (rw (l, v) at p)
 
 -- the name's length is what is left
-pub known-less : {doc : List ℕ} {i : ℕ} {k : Known} → KnownAt doc i k → 0 < k.code → 3 ≤ k.skip
-known-less known h = omega (arith, known.ahead h)
+pub known-less : {doc : List ℕ} {i : ℕ} {k : Known} → IsKnown doc i k → 3 ≤ k.skip
+known-less known = omega (arith, known.ahead)

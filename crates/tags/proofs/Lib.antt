@@ -6,7 +6,6 @@ mod Tagging
 mod Placeless
 mod Looking
 mod Stopping
-mod Striding
 mod Placing
 pub mod Ranges
 mod Knowing

@@ -1,5 +1,5 @@
--- Attributes whose names are known beforehand, by numbers from 1 on; 0 is none. Internal.
-use Rattle.std.specs.Prelude.{◌≡◌, Bool, true, false, List, [], ◌∷◌, ◌++◌, ℕ, zero, suc, ◌+◌, ◌<◌, T, eqb, leb, length, drop, Result, Ok, Err}
+-- Attributes whose names are known beforehand, by numbers from 1 on. Internal.
+use Rattle.std.specs.Prelude.{◌≡◌, Bool, true, false, List, [], ◌∷◌, ◌++◌, ℕ, zero, suc, ◌+◌, ◌<◌, T, eqb, leb, length, drop, Option, Some, None, Result, Ok, Err}
 use Rattle.texts.specs.Choice.{pick, ◌and◌}
 use Rattle.texts.specs.Text.{ascii, piece, same, starts_with}
 use Rattle.refusals.specs.declared.Refusal.{Refusal}
@@ -9,6 +9,8 @@ use Rattle.tags.specs.declared.known.Codes.{Codes}
 use Rattle.tags.specs.declared.tag.TagPart.{TagPart}
 use Rattle.tags.specs.declared.tag.TagPart.TheVariants.{Attribute as Part, TagEnd}
 use Rattle.tags.specs.declared.tag.Quick.{Quick}
+use Rattle.tags.specs.declared.tag.TagKind.{TagKind}
+use Rattle.tags.specs.declared.tag.TagKind.TheVariants.{Schema, «Type», Enum, Other}
 use Rattle.tags.specs.declared.tag.Notes.{Notes}
 use Rattle.tags.specs.Attributes.{tag_part_at, later}
 use Rattle.tags.specs.Noting.{Keys, schema_keys, type_keys, enum_keys, field_keys, found_at, value_if_named}
@@ -26,27 +28,49 @@ known_name = nth ([] ∷ ascii "name" ∷ ascii "id" ∷ ascii "type" ∷ ascii 
 abbrev pub known_text : ℕ → List ℕ
 known_text code = known_name code ++ ascii "=\""
 
--- r is none, or what stands at `at`; to the value, behind name, '=' and '"', it counts from the byte before `at`
-pub record KnownAt (doc : List ℕ) (at : ℕ) (r : Known) : Type 0 where
-  pub numbered : r.code < 18
-  pub stands : 0 < r.code → starts_with (known_text r.code) (drop at doc) ≡ true
-  pub ahead : 0 < r.code → r.skip ≡ length (known_name r.code) + 3
+-- k stands at `at`; to the value, behind name, '=' and '"', it counts from the byte before `at`
+pub record IsKnown (doc : List ℕ) (at : ℕ) (k : Known) : Type 0 where
+  pub above : 0 < k.code
+  pub below : k.code < 18
+  pub stands : starts_with (known_text k.code) (drop at doc) ≡ true
+  pub ahead : k.skip ≡ length (known_name k.code) + 3
+
+-- none, or what stands at `at`
+abbrev pub KnownAt : List ℕ → ℕ → Option Known → Type 0
+KnownAt doc at None = Unit {0}
+KnownAt doc at (Some k) = IsKnown doc at k
 
 -- the numbers by which such a text is told by words
 pub record ToldShort (code skip modulus front : ℕ) : Type 0 where
+  pub above : 0 < code
   pub below : code < 18
   pub ahead : skip ≡ length (known_name code) + 3
   pub text : ShortText (known_text code) modulus front
 
 pub record ToldLong (code skip front modulus back : ℕ) : Type 0 where
+  pub above : 0 < code
   pub below : code < 18
   pub ahead : skip ≡ length (known_name code) + 3
   pub text : LongText (known_text code) front modulus back
 
--- ---- the names that matter in a tag, by a number and by their numbers
+-- or as it stands
+pub record ToldText (code skip : ℕ) (w : List ℕ) : Type 0 where
+  pub above : 0 < code
+  pub below : code < 18
+  pub ahead : skip ≡ length (known_name code) + 3
+  pub text : w ≡ known_text code
 
-abbrev pub keys_by : ℕ → Keys
-keys_by n = pick (eqb n 1) schema_keys (pick (eqb n 2) type_keys (pick (eqb n 3) enum_keys field_keys))
+-- ---- the names that matter in a tag, by its kind and by their numbers
+
+abbrev pub keys_by : TagKind → Keys
+keys_by Schema = schema_keys
+keys_by «Type» = type_keys
+keys_by Enum = enum_keys
+keys_by Other = field_keys
+
+-- the kinds by number
+abbrev pub kind_by : ℕ → TagKind
+kind_by n = pick (eqb n 1) Schema (pick (eqb n 2) «Type» (pick (eqb n 3) Enum Other))
 
 -- a test holds of 1 to n
 abbrev pub up_to : ℕ → (ℕ → Bool) → Bool
@@ -67,17 +91,17 @@ pub record CodesOf (k : Keys) (c : Codes) : Type 0 where
 
 -- the attribute has the name of that number
 abbrev pub Named : List ℕ → ℕ → Result TagPart Refusal → Type 0
-Named doc code (Ok (Part name n value len next)) = (code < 18) × (piece doc name n ≡ known_name code)
+Named doc code (Ok (Part name n value len next)) = (0 < code) × (code < 18) × (piece doc name n ≡ known_name code)
 Named doc code (Ok (TagEnd ending)) = Unit {0}
 Named doc code (Err refusal) = Unit {0}
 
 pub record QuickAt (doc : List ℕ) (at place : ℕ) (r : Quick) : Type 0 where
   pub is : r.part ≡ tag_part_at doc at place
-  pub named : 0 < r.code → Named doc r.code r.part
+  pub named : (code : ℕ) → r.code ≡ Some code → Named doc code r.part
 
--- a raw name is that of the number
-pub record NamedAs (doc : List ℕ) (name n code : ℕ) : Type 0 where
-  pub named : 0 < code → (code < 18) × (piece doc name n ≡ known_name code)
+-- a raw name is that of the number, if there is one
+pub record NamedAs (doc : List ℕ) (name n : ℕ) (code : Option ℕ) : Type 0 where
+  pub named : (k : ℕ) → code ≡ Some k → (0 < k) × (k < 18) × (piece doc name n ≡ known_name k)
 
 -- what is noted under the four names after one more attribute with that raw name
 pub record NotedMore (raw : List ℕ) (value len : ℕ) (k : Keys) (was r : Notes) : Type 0 where

@@ -4,40 +4,30 @@
 #![tactic(auto, using(crate::proofs::Laws::beginning))]
 
 ghost use Rattle.std.specs.Prelude.{◌≡◌, ◌+◌, ◌≤◌, length};
-ghost use Rattle.classes.specs.Table.{IsTable};
 ghost use Rattle.tags.specs.Beginning.{tagged_text, KnownBeginning, KnownShort, KnownLong, BeginsAt};
 
 use crate::scan::raw_name;
-use crate::tag::keys_of;
+use crate::tag::TagKind::{Enum, Other, Schema, Type};
+use crate::tag::{TagKind, kind_of};
+use classes::Classes;
 use words::{stands_long, stands_short};
 
-// A beginning that is known: the number of its raw name (specs/Beginning.antt), 0 where none stands there, the number of
-// the names that matter there, and the lengths of the raw name and of its prefix.
+// A beginning that is known: the number of its raw name (specs/Beginning.antt), which names matter there, and the lengths of
+// the raw name and of its prefix.
 #[derive(Clone, Copy)]
 pub struct Opening {
     pub code: usize,
-    pub keys: usize,
+    pub kind: TagKind,
     pub len: usize,
     pub lost: usize,
 }
 
-// Any beginning: where the raw name ends, the length of its prefix, and the number of the names that matter.
+// Any beginning: where the raw name ends, the length of its prefix, and which names matter.
 #[derive(Clone, Copy)]
 pub struct Beginning {
     pub end: usize,
     pub lost: usize,
-    pub keys: usize,
-}
-
-fn none() -> Opening
-    ensures { result ≡ record { code = 0; keys = 0; len = 0; lost = 0 } }
-{
-    Opening {
-        code: 0,
-        keys: 0,
-        len: 0,
-        lost: 0,
-    }
+    pub kind: TagKind,
 }
 
 // The raw name of a number, where it stands at `at` with `behind` behind it: a text of less than eight bytes. That byte is
@@ -47,23 +37,24 @@ fn opening_short(
     at: usize,
     behind: u8,
     code: usize,
-    keys: usize,
+    kind: TagKind,
     len: usize,
     modulus: u64,
     front: u64,
-) -> Opening
-    requires { (at + 8 ≤ length doc.now) × KnownShort behind code keys len modulus front }
+) -> Option<Opening>
+    requires { (at + 8 ≤ length doc.now) × KnownShort behind code kind len modulus front }
     ensures { KnownBeginning behind doc.now at result }
 {
     if stands_short(doc, at, modulus, front) {
-        return Opening {
+        Some(Opening {
             code,
-            keys,
+            kind,
             len,
             lost: 0,
-        };
+        })
+    } else {
+        None
     }
-    none()
 }
 
 // The same for a text of 8 to 15 bytes.
@@ -77,24 +68,25 @@ fn opening_long(
     front: u64,
     modulus: u64,
     back: u64,
-) -> Opening
+) -> Option<Opening>
     requires { (at + 16 ≤ length doc.now) × KnownLong behind code len lost front modulus back }
     ensures { KnownBeginning behind doc.now at result }
 {
     if stands_long(doc, at, front, modulus, back) {
-        return Opening {
+        Some(Opening {
             code,
-            keys: 0,
+            kind: Other,
             len,
             lost,
-        };
+        })
+    } else {
+        None
     }
-    none()
 }
 
 // The two raw names with a prefix, where one stands at `at` with `behind` behind it: `back` is the number of the first one's
 // last bytes, and `schema` the second one, which is longer than two words.
-fn prefixed_at(doc: &[u8], at: usize, behind: u8, back: u64, schema: &[u8]) -> Opening
+fn prefixed_at(doc: &[u8], at: usize, behind: u8, back: u64, schema: &[u8]) -> Option<Opening>
     requires { (at + 16 ≤ length doc.now) × KnownLong behind 8 11 4 8319104456489001587 4294967296 back × (schema.now ≡ tagged_text behind 11) }
     ensures { KnownBeginning behind doc.now at result }
 {
@@ -109,32 +101,51 @@ fn prefixed_at(doc: &[u8], at: usize, behind: u8, back: u64, schema: &[u8]) -> O
         0x1_0000_0000,
         back,
     );
-    if 0 < message.code {
+    if message.is_some() {
         return message;
     }
     if texts::starts_with(doc, at, schema) {
-        return Opening {
+        Some(Opening {
             code: 11,
-            keys: 1,
+            kind: Schema,
             len: 17,
             lost: 4,
-        };
+        })
+    } else {
+        None
     }
-    none()
 }
 
 // The known beginning at `at`, by its first letter.
-fn opening_by(doc: &[u8], at: usize) -> Opening
+fn opening_by(doc: &[u8], at: usize) -> Option<Opening>
     requires { at + 16 ≤ length doc.now }
     ensures { KnownBeginning 32 doc.now at result }
 {
     match doc[at] {
         // "field ", "type ", "enum ", "group ", "ref "
-        b'f' => opening_short(doc, at, b' ', 1, 0, 5, 0x1_0000_0000_0000, 0x2064_6c65_6966),
-        b't' => opening_short(doc, at, b' ', 2, 2, 4, 0x100_0000_0000, 0x20_6570_7974),
-        b'e' => opening_short(doc, at, b' ', 3, 3, 4, 0x100_0000_0000, 0x20_6d75_6e65),
-        b'g' => opening_short(doc, at, b' ', 4, 0, 5, 0x1_0000_0000_0000, 0x2070_756f_7267),
-        b'r' => opening_short(doc, at, b' ', 5, 0, 3, 0x1_0000_0000, 0x2066_6572),
+        b'f' => opening_short(
+            doc,
+            at,
+            b' ',
+            1,
+            Other,
+            5,
+            0x1_0000_0000_0000,
+            0x2064_6c65_6966,
+        ),
+        b't' => opening_short(doc, at, b' ', 2, Type, 4, 0x100_0000_0000, 0x20_6570_7974),
+        b'e' => opening_short(doc, at, b' ', 3, Enum, 4, 0x100_0000_0000, 0x20_6d75_6e65),
+        b'g' => opening_short(
+            doc,
+            at,
+            b' ',
+            4,
+            Other,
+            5,
+            0x1_0000_0000_0000,
+            0x2070_756f_7267,
+        ),
+        b'r' => opening_short(doc, at, b' ', 5, Other, 3, 0x1_0000_0000, 0x2066_6572),
         // "validValue ", "composite ", "message "; "sbe:message ", "sbe:messageSchema "
         b'v' => opening_long(
             doc,
@@ -160,70 +171,63 @@ fn opening_by(doc: &[u8], at: usize) -> Opening
         ),
         b's' => prefixed_at(doc, at, b' ', 0x2065_6761, b"sbe:messageSchema "),
         b'm' => opening_long(doc, at, b' ', 9, 7, 0, 0x2065_6761_7373_656d, 1, 0),
-        _ => none(),
+        _ => None,
     }
 }
 
 // The known beginning at `at`; none is looked for in the last 15 bytes.
-fn opening_at(doc: &[u8], at: usize) -> Opening
+fn opening_at(doc: &[u8], at: usize) -> Option<Opening>
     ensures { KnownBeginning 32 doc.now at result }
 {
-    if doc.len() < 16 {
-        return none();
-    }
-    if doc.len() - 16 < at {
-        return none();
+    if doc.len() < 16 || doc.len() - 16 < at {
+        return None;
     }
     opening_by(doc, at)
 }
 
 // The beginning of the tag whose raw name is due at `name`.
-pub fn begin_at(doc: &[u8], name: usize, t: &[u8; 256]) -> Beginning
-    requires { (name ≤ length doc.now) × IsTable t.now }
+pub fn begin_at(doc: &[u8], name: usize, t: &Classes) -> Beginning
+    requires { name ≤ length doc.now }
     ensures { BeginsAt doc.now name result }
 {
-    let known = opening_at(doc, name);
-    if 0 < known.code {
-        let end = name + known.len;
+    if let Some(known) = opening_at(doc, name) {
         return Beginning {
-            end,
+            end: name + known.len,
             lost: known.lost,
-            keys: known.keys,
+            kind: known.kind,
         };
     }
     // The one tag that nearly every schema has without attributes.
     if name + 8 <= doc.len() {
-        let types = opening_short(
+        if let Some(types) = opening_short(
             doc,
             name,
             b'>',
             10,
-            0,
+            Other,
             5,
             0x1_0000_0000_0000,
             0x3e73_6570_7974,
-        );
-        if 0 < types.code {
-            let end = name + types.len;
+        ) {
             return Beginning {
-                end,
+                end: name + types.len,
                 lost: types.lost,
-                keys: types.keys,
+                kind: types.kind,
             };
         }
     }
     let raw = raw_name(doc, name, t);
-    let end = raw.end;
-    let lost = raw.lost;
-    let n = end - name;
-    let local = name + lost;
-    let len = n - lost;
-    let keys = keys_of(texts::part(doc, local, len));
-    Beginning { end, lost, keys }
+    let n = raw.end - name;
+    let local = texts::part(doc, name + raw.lost, n - raw.lost);
+    Beginning {
+        end: raw.end,
+        lost: raw.lost,
+        kind: kind_of(local),
+    }
 }
 
 // The known raw name at `at` with '>' behind it, by its first letter.
-fn closing_by(doc: &[u8], at: usize) -> Opening
+fn closing_by(doc: &[u8], at: usize) -> Option<Opening>
     requires { at + 16 ≤ length doc.now }
     ensures { KnownBeginning 62 doc.now at result }
 {
@@ -234,13 +238,22 @@ fn closing_by(doc: &[u8], at: usize) -> Opening
             at,
             b'>',
             10,
-            0,
+            Other,
             5,
             0x1_0000_0000_0000,
             0x3e73_6570_7974,
         ),
-        b'e' => opening_short(doc, at, b'>', 3, 3, 4, 0x100_0000_0000, 0x3e_6d75_6e65),
-        b'g' => opening_short(doc, at, b'>', 4, 0, 5, 0x1_0000_0000_0000, 0x3e70_756f_7267),
+        b'e' => opening_short(doc, at, b'>', 3, Enum, 4, 0x100_0000_0000, 0x3e_6d75_6e65),
+        b'g' => opening_short(
+            doc,
+            at,
+            b'>',
+            4,
+            Other,
+            5,
+            0x1_0000_0000_0000,
+            0x3e70_756f_7267,
+        ),
         // "validValue>", "composite>", "message>"; "sbe:message>", "sbe:messageSchema>"
         b'v' => opening_long(
             doc,
@@ -266,19 +279,16 @@ fn closing_by(doc: &[u8], at: usize) -> Opening
         ),
         b's' => prefixed_at(doc, at, b'>', 0x3e65_6761, b"sbe:messageSchema>"),
         b'm' => opening_long(doc, at, b'>', 9, 7, 0, 0x3e65_6761_7373_656d, 1, 0),
-        _ => none(),
+        _ => None,
     }
 }
 
 // The same; none is looked for in the last 15 bytes.
-pub fn closing_at(doc: &[u8], at: usize) -> Opening
+pub fn closing_at(doc: &[u8], at: usize) -> Option<Opening>
     ensures { KnownBeginning 62 doc.now at result }
 {
-    if doc.len() < 16 {
-        return none();
-    }
-    if doc.len() - 16 < at {
-        return none();
+    if doc.len() < 16 || doc.len() - 16 < at {
+        return None;
     }
     closing_by(doc, at)
 }

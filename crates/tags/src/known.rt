@@ -3,12 +3,13 @@
 #![tactic(auto, using(crate::proofs::Laws::telling))]
 
 ghost use Rattle.std.specs.Prelude.{◌≡◌, ◌+◌, ◌≤◌, length};
-ghost use Rattle.tags.specs.Known.{KnownAt, keys_by, CodesOf, ToldShort, ToldLong};
+ghost use Rattle.tags.specs.Known.{KnownAt, keys_by, CodesOf, ToldShort, ToldLong, ToldText};
 
+use crate::tag::TagKind;
 use words::{stands_long, stands_short};
 
-// A known attribute: the number of its name (specs/Known.antt), 0 where none stands there, and how far the value's first
-// byte is from the space before the name: the name's length and 3, so that one addition finds the value.
+// A known attribute: the number of its name (specs/Known.antt), and how far the value's first byte is from the space before
+// the name: the name's length and 3, so that one addition finds the value.
 #[derive(Clone, Copy)]
 pub struct Known {
     pub code: usize,
@@ -16,6 +17,7 @@ pub struct Known {
 }
 
 // The numbers of the four names that matter in a tag; 0 where a name is not known.
+// kept: as an Option each would be two comparisons, of a tag and of a number, at each attribute.
 #[derive(Clone, Copy)]
 pub struct Codes {
     pub first: usize,
@@ -24,30 +26,29 @@ pub struct Codes {
     pub fourth: usize,
 }
 
-// Those of the tags of messageSchema (1), type (2), enum (3) and every other element.
-pub fn codes_of(keys: usize) -> Codes
-    ensures { CodesOf (keys_by keys) result }
+pub fn codes_of(kind: TagKind) -> Codes
+    ensures { CodesOf (keys_by kind) result }
 {
-    match keys {
-        1 => Codes {
+    match kind {
+        TagKind::Schema => Codes {
             first: 2,
             second: 8,
             third: 9,
             fourth: 0,
         },
-        2 => Codes {
+        TagKind::Type => Codes {
             first: 4,
             second: 1,
             third: 5,
             fourth: 7,
         },
-        3 => Codes {
+        TagKind::Enum => Codes {
             first: 1,
             second: 6,
             third: 0,
             fourth: 0,
         },
-        _ => Codes {
+        TagKind::Other => Codes {
             first: 2,
             second: 1,
             third: 3,
@@ -56,21 +57,23 @@ pub fn codes_of(keys: usize) -> Codes
     }
 }
 
-fn none() -> Known
-    ensures { result ≡ record { code = 0; skip = 0 } }
-{
-    Known { code: 0, skip: 0 }
-}
-
 // The name of a number, where it stands at `at` with '=' and '"' behind it: a text of less than eight bytes.
-fn known_short(doc: &[u8], at: usize, code: usize, skip: usize, modulus: u64, front: u64) -> Known
+fn known_short(
+    doc: &[u8],
+    at: usize,
+    code: usize,
+    skip: usize,
+    modulus: u64,
+    front: u64,
+) -> Option<Known>
     requires { (at + 8 ≤ length doc.now) × ToldShort code skip modulus front }
     ensures { KnownAt doc.now at result }
 {
     if stands_short(doc, at, modulus, front) {
-        return Known { code, skip };
+        Some(Known { code, skip })
+    } else {
+        None
     }
-    none()
 }
 
 // The same for a text of 8 to 15 bytes.
@@ -82,37 +85,31 @@ fn known_long(
     front: u64,
     modulus: u64,
     back: u64,
-) -> Known
+) -> Option<Known>
     requires { (at + 16 ≤ length doc.now) × ToldLong code skip front modulus back }
     ensures { KnownAt doc.now at result }
 {
     if stands_long(doc, at, front, modulus, back) {
-        return Known { code, skip };
+        Some(Known { code, skip })
+    } else {
+        None
     }
-    none()
 }
 
 // And for the two that are longer.
-fn known_encoding(doc: &[u8], at: usize) -> Known
+fn known_text(doc: &[u8], at: usize, code: usize, skip: usize, text: &[u8]) -> Option<Known>
+    requires { ToldText code skip text.now }
     ensures { KnownAt doc.now at result }
 {
-    if texts::starts_with(doc, at, b"characterEncoding=\"") {
-        return Known { code: 7, skip: 20 };
+    if texts::starts_with(doc, at, text) {
+        Some(Known { code, skip })
+    } else {
+        None
     }
-    none()
-}
-
-fn known_version(doc: &[u8], at: usize) -> Known
-    ensures { KnownAt doc.now at result }
-{
-    if texts::starts_with(doc, at, b"semanticVersion=\"") {
-        return Known { code: 17, skip: 18 };
-    }
-    none()
 }
 
 // Where more than one name has a first letter: primitiveType, presence, package.
-fn known_p(doc: &[u8], at: usize) -> Known
+fn known_p(doc: &[u8], at: usize) -> Option<Known>
     requires { at + 16 ≤ length doc.now }
     ensures { KnownAt doc.now at result }
 {
@@ -125,18 +122,18 @@ fn known_p(doc: &[u8], at: usize) -> Known
         0x100_0000_0000_0000,
         0x22_3d65_7079_5465,
     );
-    if 0 < first.code {
+    if first.is_some() {
         return first;
     }
     let second = known_long(doc, at, 14, 11, 0x6563_6e65_7365_7270, 0x1_0000, 0x223d);
-    if 0 < second.code {
+    if second.is_some() {
         return second;
     }
     known_long(doc, at, 9, 10, 0x3d65_6761_6b63_6170, 0x100, 0x22)
 }
 
 // semanticType, sinceVersion, semanticVersion.
-fn known_s(doc: &[u8], at: usize) -> Known
+fn known_s(doc: &[u8], at: usize) -> Option<Known>
     requires { at + 16 ≤ length doc.now }
     ensures { KnownAt doc.now at result }
 {
@@ -149,7 +146,7 @@ fn known_s(doc: &[u8], at: usize) -> Known
         0x1_0000_0000_0000,
         0x223d_6570_7954,
     );
-    if 0 < first.code {
+    if first.is_some() {
         return first;
     }
     let second = known_long(
@@ -161,14 +158,14 @@ fn known_s(doc: &[u8], at: usize) -> Known
         0x1_0000_0000_0000,
         0x223d_6e6f_6973,
     );
-    if 0 < second.code {
+    if second.is_some() {
         return second;
     }
-    known_version(doc, at)
+    known_text(doc, at, 17, 18, b"semanticVersion=\"")
 }
 
 // blockLength, byteOrder.
-fn known_b(doc: &[u8], at: usize) -> Known
+fn known_b(doc: &[u8], at: usize) -> Option<Known>
     requires { at + 16 ≤ length doc.now }
     ensures { KnownAt doc.now at result }
 {
@@ -181,7 +178,7 @@ fn known_b(doc: &[u8], at: usize) -> Known
         0x100_0000_0000,
         0x22_3d68_7467,
     );
-    if 0 < first.code {
+    if first.is_some() {
         return first;
     }
     known_long(
@@ -196,7 +193,7 @@ fn known_b(doc: &[u8], at: usize) -> Known
 }
 
 // The known attribute that stands at `at`, by its first letter. The numbers are those of the bytes of name, '=' and '"'.
-fn known_by(doc: &[u8], at: usize) -> Known
+fn known_by(doc: &[u8], at: usize) -> Option<Known>
     requires { at + 16 ≤ length doc.now }
     ensures { KnownAt doc.now at result }
 {
@@ -227,19 +224,19 @@ fn known_by(doc: &[u8], at: usize) -> Known
             0x223d_6570_7954,
         ),
         b'b' => known_b(doc, at),
-        b'c' => known_encoding(doc, at),
+        b'c' => known_text(doc, at, 7, 20, b"characterEncoding=\""),
         b'v' => known_long(doc, at, 8, 10, 0x3d6e_6f69_7372_6576, 0x100, 0x22),
-        _ => none(),
+        _ => None,
     }
 }
 
 // The known attribute that stands at `at`; none is looked for in the last 15 bytes.
-pub fn known_at(doc: &[u8], at: usize) -> Known
+pub fn known_at(doc: &[u8], at: usize) -> Option<Known>
     requires { at ≤ length doc.now }
     ensures { KnownAt doc.now at result }
 {
     if at + 16 <= doc.len() {
         return known_by(doc, at);
     }
-    none()
+    None
 }

@@ -2,17 +2,16 @@
 #![tactic(auto, using(crate::proofs::Laws::laws))]
 
 ghost use Rattle.std.specs.Prelude.{◌≡◌, false, [], ◌<◌, ◌^◌, ◌≤◌, length};
-ghost use Rattle.classes.specs.Table.{IsTable};
 ghost use Rattle.texts.specs.Choice.{pick};
 ghost use Rattle.texts.specs.Text.{piece};
 ghost use Rattle.tags.specs.Names.{is_xmlns};
 ghost use Rattle.tags.specs.Attributes.{quoted_at, value_at, attribute_part_at, tag_part_at, tag_at, attribute_at};
 ghost use Rattle.tags.specs.Noting.{Keys, no_notes, found_at, noted_of, NotedWith, NotedBy, keys_of};
-ghost use Rattle.tags.specs.Known.{known_name, keys_by, CodesOf, QuickAt, NamedAs, NotedMore};
+ghost use Rattle.tags.specs.Known.{known_name, kind_by, keys_by, CodesOf, QuickAt, NamedAs, NotedMore};
 
 use crate::known::{Codes, codes_of, known_at};
 use crate::scan::{attribute_name_end, byte_from, is_xmlns_at, prefix_len, skip_space};
-use classes::table;
+use classes::Classes;
 use refusals::Refusal;
 use texts::Range;
 
@@ -34,6 +33,28 @@ pub enum TagPart {
 pub struct Ending {
     pub next: usize,
     pub self_closed: bool,
+}
+
+// The tags by the names that matter in them.
+#[derive(Clone, Copy, PartialEq, Eq)]
+pub enum TagKind {
+    Schema,
+    Type,
+    Enum,
+    Other,
+}
+
+impl From<usize> for TagKind {
+    ghost from_gives = { λ number kind. kind ≡ kind_by number };
+
+    fn from(number: usize) -> TagKind {
+        match number {
+            1 => TagKind::Schema,
+            2 => TagKind::Type,
+            3 => TagKind::Enum,
+            _ => TagKind::Other,
+        }
+    }
 }
 
 // What was noted under four names: 1 + the place of the raw value's first byte, 0 where there is none, and its length.
@@ -146,8 +167,7 @@ fn value_part(
 }
 
 // The attribute that is due at `at`.
-fn attribute_part(doc: &[u8], at: usize, place: usize, t: &[u8; 256]) -> Result<TagPart, Refusal>
-    requires { IsTable t.now }
+fn attribute_part(doc: &[u8], at: usize, place: usize, t: &Classes) -> Result<TagPart, Refusal>
     ensures { result ≡ attribute_part_at doc.now at place }
 {
     let end = attribute_name_end(doc, at, t);
@@ -166,8 +186,7 @@ fn attribute_part(doc: &[u8], at: usize, place: usize, t: &[u8; 256]) -> Result<
 }
 
 // The part of a tag at `at`; `place` is the tag's '<'. The table of classes is lent, so that a loop makes it once.
-pub fn tag_part_in(doc: &[u8], at: usize, place: usize, t: &[u8; 256]) -> Result<TagPart, Refusal>
-    requires { IsTable t.now }
+pub fn tag_part_in(doc: &[u8], at: usize, place: usize, t: &Classes) -> Result<TagPart, Refusal>
     ensures { result ≡ tag_part_at doc.now at place }
 {
     let i = skip_space(doc, at, t);
@@ -193,35 +212,34 @@ pub fn tag_part_in(doc: &[u8], at: usize, place: usize, t: &[u8; 256]) -> Result
 pub fn tag_part(doc: &[u8], at: usize, place: usize) -> Result<TagPart, Refusal>
     ensures { result ≡ tag_part_at doc.now at place }
 {
-    tag_part_in(doc, at, place, &table())
+    tag_part_in(doc, at, place, &Classes::new())
 }
 
-// A part of a tag, and the number of the attribute's name where that is known (specs/Known.antt), else 0.
+// A part of a tag, and the number of the attribute's name where that is known (specs/Known.antt).
 #[derive(Clone, Copy)]
 pub struct Quick {
-    pub code: usize,
+    pub code: Option<usize>,
     pub part: Result<TagPart, Refusal>,
 }
 
 // The part of a tag at `at`: at once, where it is a known attribute behind one space.
-fn quick_part(doc: &[u8], at: usize, place: usize, t: &[u8; 256]) -> Quick
-    requires { IsTable t.now }
+fn quick_part(doc: &[u8], at: usize, place: usize, t: &Classes) -> Quick
     ensures { QuickAt doc.now at place result }
 {
     if texts::starts_with(doc, at, b" ") {
         let i = at + 1;
-        let known = known_at(doc, i);
-        let code = known.code;
-        let skip = known.skip;
-        if 0 < code {
-            let value = at + skip;
-            let len = skip - 3;
-            let part = quoted_part(doc, i, len, value, b'"', place);
-            return Quick { code, part };
+        if let Some(known) = known_at(doc, i) {
+            let value = at + known.skip;
+            return Quick {
+                code: Some(known.code),
+                part: quoted_part(doc, i, known.skip - 3, value, b'"', place),
+            };
         }
     }
-    let part = tag_part_in(doc, at, place, t);
-    Quick { code: 0, part }
+    Quick {
+        code: None,
+        part: tag_part_in(doc, at, place, t),
+    }
 }
 
 // This one where `on` says so, else the earlier one.
@@ -229,6 +247,30 @@ fn latest(on: bool, this: usize, earlier: usize) -> usize
     ensures { result ≡ pick on this earlier }
 {
     if on { this } else { earlier }
+}
+
+// What is noted with one more value, under the names that it has: 1 + its place, and its length.
+fn noted_where(
+    is1: bool,
+    is2: bool,
+    is3: bool,
+    is4: bool,
+    at: usize,
+    len: usize,
+    earlier: Notes,
+) -> Notes
+    ensures { (result.first ≡ pick is1 at earlier.first) × (result.len1 ≡ pick is1 len earlier.len1) × (result.second ≡ pick is2 at earlier.second) × (result.len2 ≡ pick is2 len earlier.len2) × (result.third ≡ pick is3 at earlier.third) × (result.len3 ≡ pick is3 len earlier.len3) × (result.fourth ≡ pick is4 at earlier.fourth) × (result.len4 ≡ pick is4 len earlier.len4) }
+{
+    Notes {
+        first: latest(is1, at, earlier.first),
+        len1: latest(is1, len, earlier.len1),
+        second: latest(is2, at, earlier.second),
+        len2: latest(is2, len, earlier.len2),
+        third: latest(is3, at, earlier.third),
+        len3: latest(is3, len, earlier.len3),
+        fourth: latest(is4, at, earlier.fourth),
+        len4: latest(is4, len, earlier.len4),
+    }
 }
 
 // What is noted with one more attribute, which declares no namespace.
@@ -255,16 +297,7 @@ fn noted_with(
     let is2 = texts::equal(name, second);
     let is3 = texts::equal(name, third);
     let is4 = texts::equal(name, fourth);
-    Notes {
-        first: latest(is1, at, earlier.first),
-        len1: latest(is1, len, earlier.len1),
-        second: latest(is2, at, earlier.second),
-        len2: latest(is2, len, earlier.len2),
-        third: latest(is3, at, earlier.third),
-        len3: latest(is3, len, earlier.len3),
-        fourth: latest(is4, at, earlier.fourth),
-        len4: latest(is4, len, earlier.len4),
-    }
+    noted_where(is1, is2, is3, is4, at, len, earlier)
 }
 
 // What is noted under one name with one more attribute; one that declares a namespace counts for nothing.
@@ -300,16 +333,7 @@ fn noted_known(code: usize, codes: Codes, value: usize, len: usize, earlier: Not
     let is2 = code == codes.second;
     let is3 = code == codes.third;
     let is4 = code == codes.fourth;
-    Notes {
-        first: latest(is1, at, earlier.first),
-        len1: latest(is1, len, earlier.len1),
-        second: latest(is2, at, earlier.second),
-        len2: latest(is2, len, earlier.len2),
-        third: latest(is3, at, earlier.third),
-        len3: latest(is3, len, earlier.len3),
-        fourth: latest(is4, at, earlier.fourth),
-        len4: latest(is4, len, earlier.len4),
-    }
+    noted_where(is1, is2, is3, is4, at, len, earlier)
 }
 
 // The same with an attribute of another name, which declares no namespace, in a tag with these keys.
@@ -319,17 +343,17 @@ fn noted_other(
     n: usize,
     value: usize,
     len: usize,
-    keys: usize,
+    kind: TagKind,
     earlier: Notes,
 ) -> Notes
     requires { (value < length doc.now) × (is_xmlns (piece doc.now raw n) ≡ false) }
-    ensures { NotedMore (piece doc.now raw n) value len (keys_by keys) earlier result }
+    ensures { NotedMore (piece doc.now raw n) value len (keys_by kind) earlier result }
 {
-    match keys {
-        1 => noted_with(
+    match kind {
+        TagKind::Schema => noted_with(
             doc, raw, n, value, len, b"id", b"version", b"package", b"", earlier,
         ),
-        2 => noted_with(
+        TagKind::Type => noted_with(
             doc,
             raw,
             n,
@@ -341,7 +365,7 @@ fn noted_other(
             b"characterEncoding",
             earlier,
         ),
-        3 => noted_with(
+        TagKind::Enum => noted_with(
             doc,
             raw,
             n,
@@ -353,7 +377,7 @@ fn noted_other(
             b"",
             earlier,
         ),
-        _ => noted_with(
+        TagKind::Other => noted_with(
             doc, raw, n, value, len, b"id", b"name", b"type", b"", earlier,
         ),
     }
@@ -361,26 +385,26 @@ fn noted_other(
 
 // What is noted with one more attribute, of a known name or another; one that declares a namespace counts for nothing.
 fn noted_by(
-    code: usize,
+    code: Option<usize>,
     codes: Codes,
     doc: &[u8],
     raw: usize,
     n: usize,
     value: usize,
     len: usize,
-    keys: usize,
+    kind: TagKind,
     earlier: Notes,
 ) -> Notes
-    requires { (value < length doc.now) × CodesOf (keys_by keys) codes × NamedAs doc.now raw n code }
-    ensures { NotedMore (piece doc.now raw n) value len (keys_by keys) earlier result }
+    requires { (value < length doc.now) × CodesOf (keys_by kind) codes × NamedAs doc.now raw n code }
+    ensures { NotedMore (piece doc.now raw n) value len (keys_by kind) earlier result }
 {
-    if 0 < code {
-        return noted_known(code, codes, value, len, earlier);
+    if let Some(known) = code {
+        return noted_known(known, codes, value, len, earlier);
     }
     if is_xmlns_at(doc, raw, n) {
         return earlier;
     }
-    noted_other(doc, raw, n, value, len, keys, earlier)
+    noted_other(doc, raw, n, value, len, kind, earlier)
 }
 
 // Nothing found.
@@ -422,11 +446,10 @@ pub fn noted_of(notes: Notes) -> Noted
 }
 
 // The tag whose attributes begin at `at`: how it ends, and the raw values of the last attributes of four names.
-pub fn tag_noting(doc: &[u8], at: usize, place: usize, keys: usize, t: &[u8; 256]) -> Whole
-    requires { IsTable t.now }
-    ensures { (result.ending ≡ (tag_at doc.now at place).ending) × NotedBy (keys_by keys) doc.now at result.noted }
+pub fn tag_noting(doc: &[u8], at: usize, place: usize, kind: TagKind, t: &Classes) -> Whole
+    ensures { (result.ending ≡ (tag_at doc.now at place).ending) × NotedBy (keys_by kind) doc.now at result.noted }
 {
-    let codes = codes_of(keys);
+    let codes = codes_of(kind);
     let mut i = at;
     let mut noted = nothing();
     loop {
@@ -442,7 +465,7 @@ pub fn tag_noting(doc: &[u8], at: usize, place: usize, keys: usize, t: &[u8; 256
                 },
             ) => {
                 noted = noted_by(
-                    code, codes, doc, name, name_len, value, value_len, keys, noted,
+                    code, codes, doc, name, name_len, value, value_len, kind, noted,
                 );
                 i = next;
             }
@@ -462,27 +485,26 @@ pub fn tag_noting(doc: &[u8], at: usize, place: usize, keys: usize, t: &[u8; 256
     }
 }
 
-// Which names matter in a tag of the element `name`, by number.
-pub fn keys_of(name: &[u8]) -> usize
+// Which names matter in a tag of the element `name`.
+pub fn kind_of(name: &[u8]) -> TagKind
     ensures { keys_by result ≡ keys_of name.now }
 {
     if texts::equal(name, b"messageSchema") {
-        return 1;
+        TagKind::Schema
+    } else if texts::equal(name, b"type") {
+        TagKind::Type
+    } else if texts::equal(name, b"enum") {
+        TagKind::Enum
+    } else {
+        TagKind::Other
     }
-    if texts::equal(name, b"type") {
-        return 2;
-    }
-    if texts::equal(name, b"enum") {
-        return 3;
-    }
-    0
 }
 
 // The raw value of the last attribute of that name, in the tag whose attributes begin at `at`.
 pub fn attribute(doc: &[u8], at: usize, name: &[u8]) -> Option<Range>
     ensures { result ≡ attribute_at doc.now at name.now }
 {
-    let t = table();
+    let t = Classes::new();
     let mut i = at;
     let mut noted = nothing();
     loop {

@@ -25,7 +25,7 @@ use Rattle.xmlschema.specs.Whole.{step, accepted, refused_by, ending, run, readi
 use Rattle.model.specs.Store.{items_of, schema_of}
 use Rattle.builder.specs.Layout.{builder_of, stack_of, current, Kept, Ready, After, outcome, used_by}
 use Rattle.xmlschema.specs.Driving.{takes, Inside, first, shown, ReadInto, cursor_of}
-use Rattle.std.specs.Prelude.{Result, Ok, Err}
+use Rattle.std.specs.Prelude.{Result, Err}
 use Rattle.model.specs.declared.Model.{Model}
 use Rattle.xmlschema.specs.declared.build.Mark.{Mark}
 use Rattle.builder.specs.declared.state.Limits.{Limits}

@@ -1,6 +1,5 @@
 // Reads a whole document into the two lent buffers.
 ghost use Rattle.std.specs.Prelude.{◌≡◌, ◌≤◌, length};
-ghost use Rattle.classes.specs.Table.{IsTable};
 ghost use Rattle.saxlite.specs.Reader.{read_at, at_end};
 ghost use Rattle.saxlite.specs.Noting.{NotedIn};
 ghost use Rattle.xmlschema.specs.Whole.{step as step_of, reading};
@@ -11,11 +10,12 @@ use builder::close::{on_close, on_text};
 use builder::open::on_open;
 use builder::stack::{is_top, pop};
 use builder::state::{Current, Limits, Place, State, Stepped, Verdict};
+use classes::Classes;
 use elements::is_leaf_at;
 use model::{Head, Model};
 use refusals::Refusal;
 use saxlite::passing::{past_between, past_idle};
-use saxlite::reader::{Cursor, Event, Reader, at_end, next};
+use saxlite::reader::{Cursor, Event, Reader};
 use tags::tag::Notes;
 use texts::ascii_end;
 
@@ -108,16 +108,23 @@ fn turn(
     s: State,
     rec: &mut [u32],
     text: &mut [u8],
-    t: &[u8; 256],
+    t: &Classes,
 ) -> Turned
-    requires { Ready s (takes (read_at doc.now cursor).event) rec.old text.old × Inside doc.now (read_at doc.now cursor).event × (l.items ≤ 1024) × (l.depth ≤ 64) × (length doc.now ≤ 32768) × IsTable t.now }
+    requires { Ready s (takes (read_at doc.now cursor).event) rec.old text.old × Inside doc.now (read_at doc.now cursor).event × (l.items ≤ 1024) × (l.depth ≤ 64) × (length doc.now ≤ 32768) }
     ensures { (result.cursor ≡ (read_at doc.now cursor).cursor) × After (step_of l doc.now (read_at doc.now cursor).place (read_at doc.now cursor).event (builder_of s doc.now rec.old text.old)) s (takes (read_at doc.now cursor).event) doc.now (record { state = result.state; verdict = result.verdict }) rec.new text.new }
 {
     let mut reader = Reader { doc, cursor };
-    let told = next(&mut reader, t);
+    let told = reader.next(t);
     let mut state = s;
     let verdict = step(
-        &mut state, l, told.place, told.event, told.noted, doc, rec, text,
+        &mut state,
+        l,
+        told.read.place,
+        told.read.event,
+        told.noted,
+        doc,
+        rec,
+        text,
     );
     Turned {
         state,
@@ -189,9 +196,9 @@ fn turn_at(
     s: State,
     rec: &mut [u32],
     text: &mut [u8],
-    t: &[u8; 256],
+    t: &Classes,
 ) -> Marked
-    requires { Ready s (takes (read_at doc.now (cursor_of mark)).event) rec.old text.old × Inside doc.now (read_at doc.now (cursor_of mark)).event × (l.items ≤ 1024) × (l.depth ≤ 64) × (length doc.now ≤ 32768) × IsTable t.now }
+    requires { Ready s (takes (read_at doc.now (cursor_of mark)).event) rec.old text.old × Inside doc.now (read_at doc.now (cursor_of mark)).event × (l.items ≤ 1024) × (l.depth ≤ 64) × (length doc.now ≤ 32768) }
     ensures { (cursor_of result.mark ≡ (read_at doc.now (cursor_of mark)).cursor) × After (step_of l doc.now (read_at doc.now (cursor_of mark)).place (read_at doc.now (cursor_of mark)).event (builder_of s doc.now rec.old text.old)) s (takes (read_at doc.now (cursor_of mark)).event) doc.now (record { state = result.state; verdict = result.verdict }) rec.new text.new }
 {
     let cursor = cursor_of(mark);
@@ -209,8 +216,7 @@ fn turn_at(
 fn at_end_of(doc: &[u8], mark: Mark) -> bool
     ensures { result ≡ at_end doc.now (cursor_of mark) }
 {
-    let cursor = cursor_of(mark);
-    at_end(doc, cursor)
+    cursor_of(mark).is_at_end(doc)
 }
 
 // A state, and the mark where it was reached.
@@ -269,7 +275,7 @@ fn read_tested(l: Limits, doc: &[u8], rec: &mut [u32], text: &mut [u8]) -> Resul
     ensures { shown result rec.new text.new ≡ reading l doc.now }
 {
     let mut state = first_state();
-    let table = classes::table();
+    let table = Classes::new();
     let mut mark = free_mark(past_idle(doc, 0, false, true));
     while !at_end_of(doc, mark) {
         let t = turn_at(l, doc, mark, state, rec, text, &table);

@@ -18,4 +18,4 @@ returns-then-starts_with-3 c =
     search laws
 
 pub close_at-requires : goal.close_at-requires
-close_at-requires c = (stands_on (ascii "</") _ _ 2 c.starts_with-4.ensures c.if-starts_with-4.true tt tt, search laws)
+close_at-requires c = stands_on (ascii "</") _ _ 2 c.starts_with-4.ensures c.if-starts_with-4.true tt tt

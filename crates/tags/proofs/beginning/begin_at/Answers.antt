@@ -1,8 +1,8 @@
-use Rattle.tags.proofs.Laws.{beginning}
+use Rattle.tags.proofs.Begun.{known-begins, bare-begins}
 use Rattle.tags.proofs.beginning.begin_at.Goals as goal
 
-pub returns-then-known-gt0 : goal.returns-then-known-gt0
-returns-then-known-gt0 c = search beginning
+pub returns-in-Some : goal.returns-in-Some
+returns-in-Some c = known-begins c.args.doc.now c.args.name c.in-Some.ensures
 
-pub returns-then-types-gt0 : goal.returns-then-types-gt0
-returns-then-types-gt0 c = search beginning
+pub returns-in-Some-opening_short : goal.returns-in-Some-opening_short
+returns-in-Some-opening_short c = bare-begins c.args.doc.now c.args.name c.in-Some-opening_short.ensures

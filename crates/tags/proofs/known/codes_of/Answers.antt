@@ -1,14 +1,14 @@
-use Rattle.tags.proofs.Laws.{laws}
+use Rattle.tags.proofs.Coding.{codes-schema, codes-type, codes-enum, codes-other}
 use Rattle.tags.proofs.known.codes_of.Goals as goal
 
-pub returns-in-1 : goal.returns-in-1
-returns-in-1 c = search laws
+pub returns-in-Schema : goal.returns-in-Schema
+returns-in-Schema c = codes-schema c.in-Schema.is
 
-pub returns-in-2 : goal.returns-in-2
-returns-in-2 c = search laws
+pub returns-in-Type : goal.returns-in-Type
+returns-in-Type c = codes-type c.in-Type.is
 
-pub returns-in-3 : goal.returns-in-3
-returns-in-3 c = search laws
+pub returns-in-Enum : goal.returns-in-Enum
+returns-in-Enum c = codes-enum c.in-Enum.is
 
-pub returns-in_default : goal.returns-in_default
-returns-in_default c = search laws
+pub returns-in-Other : goal.returns-in-Other
+returns-in-Other c = codes-other c.in-Other.is

@@ -1,12 +1,11 @@
 use Prim.Native.Nat.{◌-◌}
 use lib.ListN.{length}
-use Rattle.classes.specs.Table.{IsTable}
 use Rattle.tags.specs.Noting.{found_at}
 use Rattle.tags.proofs.Looking.{Looking}
 use Rattle.tags.proofs.tag.attribute.Given as goal
 
 abbrev pub invariant-loop-raw : goal.invariant-loop-raw
-invariant-loop-raw l = Looking l.doc l.at l.name l.i (found_at l.noted.first l.noted.len1) × IsTable l.t
+invariant-loop-raw l = Looking l.doc l.at l.name l.i (found_at l.noted.first l.noted.len1)
 
 abbrev pub decreases-loop-raw : goal.decreases-loop-raw
 decreases-loop-raw l = length l.doc - l.i

@@ -1,11 +1,11 @@
 use Rattle.tags.proofs.Laws.{laws}
 use Rattle.tags.proofs.tag.noted_other.Goals as goal
 
-pub returns-in-2 : goal.returns-in-2
-returns-in-2 c = search laws
+pub returns-in-Type : goal.returns-in-Type
+returns-in-Type c = search laws
 
-pub returns-in-3 : goal.returns-in-3
-returns-in-3 c = search laws
+pub returns-in-Enum : goal.returns-in-Enum
+returns-in-Enum c = search laws
 
-pub returns-in_default : goal.returns-in_default
-returns-in_default c = search laws
+pub returns-in-Other : goal.returns-in-Other
+returns-in-Other c = search laws

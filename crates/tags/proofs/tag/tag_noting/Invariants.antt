@@ -6,7 +6,7 @@ use Rattle.tags.proofs.Coding.{LookingAll}
 use Rattle.tags.proofs.tag.tag_noting.Given as goal
 
 abbrev pub invariant-loop-name : goal.invariant-loop-name
-invariant-loop-name l = Going l.doc l.at l.place l.i × LookingAll l.doc l.at (keys_by l.keys) l.i l.noted × CodesOf (keys_by l.keys) l.codes
+invariant-loop-name l = Going l.doc l.at l.place l.i × LookingAll l.doc l.at (keys_by l.kind) l.i l.noted × CodesOf (keys_by l.kind) l.codes
 
 abbrev pub decreases-loop-name : goal.decreases-loop-name
 decreases-loop-name l = length l.doc - l.i

@@ -4,9 +4,6 @@ use Rattle.xmlschema.proofs.build.read_tested.Goals as goal
 pub first_state-state-requires : goal.first_state-state-requires
 first_state-state-requires c = search driving
 
-pub table-table-requires : goal.table-table-requires
-table-table-requires c = search driving
-
 pub past_idle-requires : goal.past_idle-requires
 past_idle-requires c = search driving
 
@@ -51,7 +48,7 @@ loop-l-preserved c =
     let more = c.loop-l-test in
     let e = c.at_end_of.ensures in
     let held = c.loop-l in
-    (search driving, search driving, search driving, search driving)
+    (search driving, search driving, search driving)
 
 pub enum_known-verdict : goal.enum_known-verdict
 enum_known-verdict c = search driving

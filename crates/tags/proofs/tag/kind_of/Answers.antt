@@ -1,5 +1,5 @@
 use Rattle.tags.proofs.Laws.{laws}
-use Rattle.tags.proofs.tag.keys_of.Goals as goal
+use Rattle.tags.proofs.tag.kind_of.Goals as goal
 
 pub returns-then-equal-3 : goal.returns-then-equal-3
 returns-then-equal-3 c = search laws
