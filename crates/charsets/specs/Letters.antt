@@ -1,5 +1,5 @@
 -- What the code says of the text while it is cleaned. Internal.
-use Rattle.std.specs.Prelude.{◌≡◌, List, ℕ, ◌≤◌, ◌<◌, length, take, drop}
+use Rattle.std.specs.Prelude.{◌≡◌, Option, Some, None, List, ℕ, ◌≤◌, ◌<◌, length, take, drop}
 use Rattle.charsets.specs.Charset.{cleaned}
 
 -- from `from` to r there is nothing but punctuation
@@ -8,7 +8,7 @@ pub record Passed (s : List ℕ) (from r : ℕ) : Type 0 where
   pub within : r ≤ length s
   pub on : from ≤ r
 
--- the first n of out are the cleaned s; or n is above 13, and there are more letters than that
-pub record Letters (s out : List ℕ) (n : ℕ) : Type 0 where
-  pub all : n ≤ 13 → take n out ≡ cleaned s
-  pub more : 13 < n → 13 < length (cleaned s)
+-- the first n of out are the cleaned s; or there are more than 13 letters
+abbrev pub Letters : List ℕ → List ℕ → Option ℕ → Type 0
+Letters s out (Some n) = take n out ≡ cleaned s
+Letters s out None = 13 < length (cleaned s)

@@ -5,16 +5,14 @@
 // letter more, and it is none of them.
 #![tactic(auto)]
 
-ghost use Rattle.std.specs.Prelude.{◌≡◌, true, ◌+◌, ◌≤◌, eqb, length, drop};
-ghost use Rattle.texts.specs.Choice.{pick};
+ghost use Rattle.std.specs.Prelude.{◌≡◌, true, ◌+◌, ◌≤◌, length, drop};
 ghost use Rattle.texts.specs.Lists.{among};
-ghost use Rattle.classes.specs.Table.{IsTable};
-ghost use Rattle.charsets.specs.Charset.{is_punctuation, cleaned, compatible};
-ghost use Rattle.charsets.specs.Names.{ansi_names, iso_names, other_names, is_name};
+ghost use Rattle.charsets.specs.Charset.{is_punctuation, cleaned, charsets, compatible};
+ghost use Rattle.charsets.specs.Names.{is_name};
 ghost use Rattle.charsets.specs.Letters.{Passed, Letters};
 
-use classes::table;
-use conversions::convert::lower_in;
+use classes::Classes;
+use conversions::convert::lower;
 use texts::{equal, part, trim};
 
 // How many letters the longest name has.
@@ -22,17 +20,12 @@ const LONGEST: usize = 13;
 
 // ---- punctuation: '-', '_', '.', ':' and the space
 
-fn one_if(a: u8, b: u8) -> u8
-    ensures { result ≡ pick (eqb a b) 1 0 }
+// Without a branch, so that eight are tested at once.
+#[tactic(auto, unfolding(crate::specs::Charset::is_punctuation))]
+fn is_punctuation(b: u8) -> bool
+    ensures { result ≡ is_punctuation b }
 {
-    if a == b { 1 } else { 0 }
-}
-
-// 1 for punctuation, else 0: without a branch, so that eight are marked at once.
-fn mark(b: u8) -> u8
-    ensures { result ≡ pick (is_punctuation b) 1 0 }
-{
-    one_if(b, b'-') | one_if(b, b'_') | one_if(b, b'.') | one_if(b, b':') | one_if(b, b' ')
+    (b == b'-') | (b == b'_') | (b == b'.') | (b == b':') | (b == b' ')
 }
 
 // Whether the 8 bytes from `i` on are punctuation.
@@ -40,12 +33,11 @@ fn is_punctuation_eight(s: &[u8], i: usize) -> bool
     requires { i + 8 ≤ length s.now }
     ensures { result ≡ true → cleaned (drop (i + 8) s.now) ≡ cleaned (drop i s.now) }
 {
-    let a = mark(s[i]) & mark(s[i + 1]);
-    let b = mark(s[i + 2]) & mark(s[i + 3]);
-    let c = mark(s[i + 4]) & mark(s[i + 5]);
-    let d = mark(s[i + 6]) & mark(s[i + 7]);
-    let all = a & b & c & d;
-    all == 1
+    let a = is_punctuation(s[i]) & is_punctuation(s[i + 1]);
+    let b = is_punctuation(s[i + 2]) & is_punctuation(s[i + 3]);
+    let c = is_punctuation(s[i + 4]) & is_punctuation(s[i + 5]);
+    let d = is_punctuation(s[i + 6]) & is_punctuation(s[i + 7]);
+    a & b & c & d
 }
 
 // Passes punctuation from `from` on, eight bytes at once.
@@ -55,44 +47,44 @@ fn past_eights(s: &[u8], from: usize) -> usize
 {
     let mut i = from;
     while i + 8 <= s.len() {
-        if is_punctuation_eight(s, i) {
-            i += 8;
-        } else {
+        if !is_punctuation_eight(s, i) {
             return i;
         }
+        i += 8;
     }
     i
 }
 
 // ---- the letters
 
-// Puts the letters of the cleaned text into `out`, and gives their number: 14 where there are more than 13.
-fn clean(out: &mut [u8], s: &[u8], t: &[u8; 256]) -> usize
-    requires { IsTable t.now × (13 ≤ length out.old) }
+// Puts the letters of the cleaned text into `out`, and gives their number, where there are no more than 13.
+fn clean(out: &mut [u8], s: &[u8], classes: &Classes) -> Option<usize>
+    requires { 13 ≤ length out.old }
     ensures { Letters s.now out.new result }
 {
     let mut i = 0;
     let mut n = 0;
     while i < s.len() {
-        if mark(s[i]) == 1 {
+        if is_punctuation(s[i]) {
             i = past_eights(s, i + 1);
         } else {
             if LONGEST <= n {
-                return LONGEST + 1;
+                return None;
             }
-            out[n] = lower_in(t, s[i]);
+            out[n] = lower(classes, s[i]);
             i += 1;
             n += 1;
         }
     }
-    n
+    Some(n)
 }
 
 // ---- the names
 
-// Of the 13 names, those of ANSI.
-fn is_ansi_name(w: &[u8]) -> bool
-    ensures { result ≡ among w.now ansi_names }
+// kept: name by name; the proofs of a loop over an array of names, of a `match`, and of a chain of `||` did not close.
+#[tactic(auto, unfolding(texts::specs::Lists::among))]
+fn is_listed(w: &[u8]) -> bool
+    ensures { result ≡ among w.now charsets }
 {
     if equal(w, b"usascii") {
         return true;
@@ -103,13 +95,9 @@ fn is_ansi_name(w: &[u8]) -> bool
     if equal(w, b"ansix341968") {
         return true;
     }
-    equal(w, b"ansix341986")
-}
-
-// Those of ISO, and "us".
-fn is_iso_name(w: &[u8]) -> bool
-    ensures { result ≡ among w.now iso_names }
-{
+    if equal(w, b"ansix341986") {
+        return true;
+    }
     if equal(w, b"iso646us") {
         return true;
     }
@@ -119,13 +107,9 @@ fn is_iso_name(w: &[u8]) -> bool
     if equal(w, b"iso646irv1991") {
         return true;
     }
-    equal(w, b"us")
-}
-
-// The others.
-fn is_other_name(w: &[u8]) -> bool
-    ensures { result ≡ among w.now other_names }
-{
+    if equal(w, b"us") {
+        return true;
+    }
     if equal(w, b"ibm367") {
         return true;
     }
@@ -138,34 +122,26 @@ fn is_other_name(w: &[u8]) -> bool
     if equal(w, b"utf8") {
         return true;
     }
-    equal(w, b"csutf8")
+    if equal(w, b"csutf8") {
+        return true;
+    }
+    false
 }
 
 // Whether a cleaned text is empty or one of the names.
+#[tactic(auto, using(crate::proofs::Cleaning::names))]
 fn is_name(w: &[u8]) -> bool
     ensures { result ≡ is_name w.now }
 {
-    if w.len() == 0 {
-        return true;
-    }
-    if is_ansi_name(w) {
-        return true;
-    }
-    if is_iso_name(w) {
-        return true;
-    }
-    is_other_name(w)
+    w.len() == 0 || is_listed(w)
 }
 
 pub fn is_compatible(encoding: &[u8]) -> bool
     ensures { result ≡ compatible encoding.now }
 {
-    let t = table();
-    let s = trim(encoding);
     let mut letters = [0u8; 16];
-    let n = clean(&mut letters, s, &t);
-    if LONGEST < n {
+    let Some(n) = clean(&mut letters, trim(encoding), &Classes::new()) else {
         return false;
-    }
+    };
     is_name(part(&letters, 0, n))
 }

@@ -1,5 +1,6 @@
 -- Laws of the prefix cut: a text is passed part by part.
 use mathlib.Core.Path.{◌≡◌, refl, sym, ◌∙◌}
+use Rattle.std.specs.Prelude.{Option, Some, None}
 use mathlib.Core.Bool.{Bool, true, false}
 use mathlib.Core.List.{List, [], ◌∷◌, ◌++◌}
 use Prim.Native.Nat.{ℕ, zero, suc, ◌+◌, ◌-◌, ◌≤◌, ◌<◌}
@@ -8,6 +9,7 @@ use native.Mathlib.Numerals.{add-one}
 use native.Mathlib.Omega.{arith}
 use lib.ListN.{length, get_or, drop, length-append, length-drop, drop_of_length-le}
 use lib.Seq.{drop-cons, drop-drop, take_all}
+use borrow.Author.Rules.{rules}
 use borrow.Author.Tests.{eq-eqb, ne_eqb}
 use Rattle.texts.specs.Text.{ascii, piece, starts_with}
 use Rattle.texts.proofs.Choosing.{by-test, pick_yes, pick_no}
@@ -16,72 +18,70 @@ use Rattle.printing.specs.Printed.{Printed}
 use Rattle.printing.specs.Repeated.{up_to}
 use Rattle.conversions.specs.Letters.{raised}
 use Rattle.conversions.specs.Conversions.{breaks_screaming, screaming_at, camel_to_screaming_snake, prefix_of, without_prefix, screaming_snake_to_pascal, strip_enum_prefix}
-use Rattle.conversions.specs.declared.prefix.Past.{Past}
-use Rattle.conversions.specs.declared.prefix.Past.TheVariants.{At, Nothing}
 use Rattle.conversions.specs.Prefix.{past_text}
 
 -- ---- part by part
 
 module _ (a b s : List ℕ) (j : ℕ) where
-  past-none-append : past_text a s j ≡ Nothing → past_text (a ++ b) s j ≡ Nothing
+  past-none-append : past_text a s j ≡ None → past_text (a ++ b) s j ≡ None
   unfolding past_text
   past-none-append e =
       by-test (starts_with a (drop j s))
-      (λ t. absurd (let z : ◌≡◌ {A = ℕ} 0 1 = cc (pick_yes (starts_with a (drop j s)) (At (j + length a)) Nothing t) in omega arith))
+      (λ t. absurd (let z : ◌≡◌ {A = ℕ} 0 1 = cc (pick_yes (starts_with a (drop j s)) (Some (j + length a)) None t) in omega arith))
       (λ f. rw (starts-append a b (drop j s), f))
 
-  past-append : {k : ℕ} → past_text a s j ≡ At k → past_text (a ++ b) s j ≡ past_text b s k
+  past-append : {k : ℕ} → past_text a s j ≡ Some k → past_text (a ++ b) s j ≡ past_text b s k
   unfolding past_text
   past-append {k} e =
       by-test (starts_with a (drop j s))
       (λ t.
-      let z : j + length a ≡ k = cc (pick_yes (starts_with a (drop j s)) (At (j + length a)) Nothing t) in
+      let z : j + length a ≡ k = cc (pick_yes (starts_with a (drop j s)) (Some (j + length a)) None t) in
       rw (starts-append a b (drop j s), t, drop-drop, z, length-append, ← add_assoc, z))
-      (λ f. absurd (let z : ◌≡◌ {A = ℕ} 0 1 = cc (pick_no (starts_with a (drop j s)) (At (j + length a)) Nothing f) in omega arith))
+      (λ f. absurd (let z : ◌≡◌ {A = ℕ} 0 1 = cc (pick_no (starts_with a (drop j s)) (Some (j + length a)) None f) in omega arith))
 
 -- ---- a byte
 
 module _ (s : List ℕ) (j b : ℕ) where
-  pub past-byte-out : length s ≤ j → Nothing ≡ past_text (b ∷ []) s j
+  pub past-byte-out : length s ≤ j → None ≡ past_text (b ∷ []) s j
   unfolding past_text starts_with
   past-byte-out h = rw (drop_of_length-le s h)
 
   module _ (h : j < length s) where
-    pub past-byte-yes : get_or s j 0 ≡ b → At (j + 1) ≡ past_text (b ∷ []) s j
+    pub past-byte-yes : get_or s j 0 ≡ b → Some (j + 1) ≡ past_text (b ∷ []) s j
     unfolding past_text starts_with
     past-byte-yes e = sym (pick_yes (starts_with (b ∷ []) (drop j s)) _ _ (rw (drop-cons s j 0) (starts-yes b (get_or s j 0) [] (drop (suc j) s) (eq-eqb _ b e))))
 
-    pub past-byte-no : (get_or s j 0 ≡ b → ⊥) → Nothing ≡ past_text (b ∷ []) s j
+    pub past-byte-no : (get_or s j 0 ≡ b → ⊥) → None ≡ past_text (b ∷ []) s j
     unfolding past_text starts_with
     past-byte-no n = sym (pick_no (starts_with (b ∷ []) (drop j s)) _ _ (rw (drop-cons s j 0) (starts-no b (get_or s j 0) [] (drop (suc j) s) (ne_eqb _ b n))))
 
--- ---- a position of the enum name: x is its byte, v that byte raised, d whether an underscore stands before it
+-- ---- a position of the enum name: v is its byte as shown, d whether an underscore stands before it
 
-module _ (s n : List ℕ) (i j : ℕ) {x v : ℕ} (ex : x ≡ get_or n i 0) (ev : v ≡ raised x) {d : Bool} (ed : d ≡ breaks_screaming n i) where
-  pub past-plain : d ≡ false → {r : Past} → r ≡ past_text (v ∷ []) s j → r ≡ past_text (screaming_at n i) s j
+module _ (s n : List ℕ) (i j : ℕ) {v : ℕ} (ev : v ≡ raised (get_or n i 0)) {d : Bool} (ed : d ≡ breaks_screaming n i) where
+  pub past-plain : d ≡ false → {r : Option ℕ} → r ≡ past_text (v ∷ []) s j → r ≡ past_text (screaming_at n i) s j
   unfolding screaming_at
-  past-plain t e = rw (← ex, ← ev, ← ed, t) e
+  past-plain t e = rw (← ev, ← ed, t) e
 
-  module _ (t : d ≡ true) {q : Past} (eq : q ≡ past_text (95 ∷ []) s j) where
-    pub past-broken : {k : ℕ} → q ≡ At k → {r : Past} → r ≡ past_text (v ∷ []) s k → r ≡ past_text (screaming_at n i) s j
+  module _ (t : d ≡ true) {q : Option ℕ} (eq : q ≡ past_text (95 ∷ []) s j) where
+    pub past-broken : {k : ℕ} → q ≡ Some k → {r : Option ℕ} → r ≡ past_text (v ∷ []) s k → r ≡ past_text (screaming_at n i) s j
     unfolding screaming_at
-    past-broken f e = rw (← ex, ← ev, ← ed, t) (e ∙ sym (past-append (95 ∷ []) (v ∷ []) s j (sym eq ∙ f)))
+    past-broken f e = rw (← ev, ← ed, t) (e ∙ sym (past-append (95 ∷ []) (v ∷ []) s j (sym eq ∙ f)))
 
-    pub past-unbroken : q ≡ Nothing → Nothing ≡ past_text (screaming_at n i) s j
+    pub past-unbroken : q ≡ None → None ≡ past_text (screaming_at n i) s j
     unfolding screaming_at
-    past-unbroken f = rw (← ex, ← ev, ← ed, t) (sym (past-none-append (95 ∷ []) (v ∷ []) s j (sym eq ∙ f)))
+    past-unbroken f = rw (← ev, ← ed, t) (sym (past-none-append (95 ∷ []) (v ∷ []) s j (sym eq ∙ f)))
 
 -- ---- the whole prefix: j is past the first i positions
 
 pub record Passing (s n : List ℕ) (j i : ℕ) : Type 0 where
-  pub past : past_text (up_to (screaming_at n) i) s 0 ≡ At j
+  pub past : past_text (up_to (screaming_at n) i) s 0 ≡ Some j
   pub bound : i ≤ length n
 
 pub passing-start : {s n : List ℕ} → Passing s n 0 0
 unfolding past_text starts_with up_to
 passing-start = record { past = refl; bound = omega arith }
 
-none_more : (f : ℕ → List ℕ) (s : List ℕ) (i m : ℕ) → past_text (up_to f i) s 0 ≡ Nothing → past_text (up_to f (i + m)) s 0 ≡ Nothing
+none_more : (f : ℕ → List ℕ) (s : List ℕ) (i m : ℕ) → past_text (up_to f i) s 0 ≡ None → past_text (up_to f (i + m)) s 0 ≡ None
 unfolding up_to
 none_more f s i zero e = let z : i + 0 ≡ i = omega arith in rw z e
 none_more f s i (suc m) e =
@@ -89,8 +89,8 @@ none_more f s i (suc m) e =
     rw z (past-none-append (up_to f (i + m)) (f (i + m)) s 0 (none_more f s i m e))
 
 module _ {s n : List ℕ} {j i : ℕ} (inv : Passing s n j i) where
-  module _ (h : i < length n) {q : Past} (e : q ≡ past_text (screaming_at n i) s j) where
-    pub passing-on : {k : ℕ} → q ≡ At k → Passing s n k (i + 1)
+  module _ (h : i < length n) {q : Option ℕ} (e : q ≡ past_text (screaming_at n i) s j) where
+    pub passing-on : {k : ℕ} → q ≡ Some k → Passing s n k (i + 1)
     unfolding up_to
     passing-on f =
         record {
@@ -98,14 +98,14 @@ module _ {s n : List ℕ} {j i : ℕ} (inv : Passing s n j i) where
           bound = omega arith;
         }
 
-    pub passing-not : q ≡ Nothing → Nothing ≡ past_text (prefix_of n) s 0
+    pub passing-not : q ≡ None → None ≡ past_text (prefix_of n) s 0
     unfolding prefix_of camel_to_screaming_snake up_to
     passing-not f =
-        let here : past_text (up_to (screaming_at n) (suc i)) s 0 ≡ Nothing = past-append (up_to (screaming_at n) i) (screaming_at n i) s 0 inv.past ∙ sym e ∙ f in
+        let here : past_text (up_to (screaming_at n) (suc i)) s 0 ≡ None = past-append (up_to (screaming_at n) i) (screaming_at n i) s 0 inv.past ∙ sym e ∙ f in
         let z : suc i + (length n - suc i) ≡ length n = omega arith in
         sym (past-none-append (up_to (screaming_at n) (length n)) (ascii "_") s 0 (rw z at (none_more (screaming_at n) s (suc i) (length n - suc i) here)))
 
-  pub passing-end : length n ≤ i → {r : Past} → r ≡ past_text (95 ∷ []) s j → r ≡ past_text (prefix_of n) s 0
+  pub passing-end : length n ≤ i → {r : Option ℕ} → r ≡ past_text (95 ∷ []) s j → r ≡ past_text (prefix_of n) s 0
   unfolding prefix_of camel_to_screaming_snake
   passing-end h e =
       let z : i ≡ length n = omega (arith, inv.bound) in
@@ -113,26 +113,23 @@ module _ {s n : List ℕ} {j i : ℕ} (inv : Passing s n j i) where
 
 -- ---- the cut
 
-module _ (s n : List ℕ) {q : Past} (e : q ≡ past_text (prefix_of n) s 0) where
-  pub cut-none : q ≡ Nothing → s ≡ without_prefix s n
+module _ (s n : List ℕ) {q : Option ℕ} (e : q ≡ past_text (prefix_of n) s 0) where
+  pub cut-none : q ≡ None → s ≡ without_prefix s n
   unfolding past_text without_prefix
   cut-none f =
       by-test (starts_with (prefix_of n) s)
-      (λ t. absurd (let z : ◌≡◌ {A = ℕ} 0 1 = cc (pick_yes (starts_with (prefix_of n) s) (At (0 + length (prefix_of n))) Nothing t) in omega arith))
+      (λ t. absurd (let z : ◌≡◌ {A = ℕ} 0 1 = cc (pick_yes (starts_with (prefix_of n) s) (Some (0 + length (prefix_of n))) None t) in omega arith))
       (λ u. rw u)
 
-  pub cut_at : {k : ℕ} → q ≡ At k → {w : List ℕ} → w ≡ piece s k (length s) → w ≡ without_prefix s n
+  pub cut_at : {k : ℕ} → q ≡ Some k → {w : List ℕ} → w ≡ piece s k (length s) → w ≡ without_prefix s n
   unfolding past_text without_prefix
   cut_at {k} f {w} g =
       by-test (starts_with (prefix_of n) s)
       (λ t.
-      let z : k ≡ 0 + length (prefix_of n) = cc (pick_yes (starts_with (prefix_of n) s) (At (0 + length (prefix_of n))) Nothing t) in
+      let z : k ≡ 0 + length (prefix_of n) = cc (pick_yes (starts_with (prefix_of n) s) (Some (0 + length (prefix_of n))) None t) in
       let y : k ≡ length (prefix_of n) = omega arith in
       let l : length (drop k s) ≤ length s = rw length-drop (omega arith) in
       rw (t, ← y) (g ∙ take_all (length s) (drop k s) l))
-      (λ u. absurd (let z : ◌≡◌ {A = ℕ} 0 1 = cc (pick_no (starts_with (prefix_of n) s) (At (0 + length (prefix_of n))) Nothing u) in omega arith))
+      (λ u. absurd (let z : ◌≡◌ {A = ℕ} 0 1 = cc (pick_no (starts_with (prefix_of n) s) (Some (0 + length (prefix_of n))) None u) in omega arith))
 
-pub stripped : (s n : List ℕ) {w : List ℕ} → w ≡ without_prefix s n → {o : List ℕ} {at : ℕ} {o' : List ℕ} {r : ℕ}
-    → Printed o at o' r (screaming_snake_to_pascal w) → Printed o at o' r (strip_enum_prefix s n)
-unfolding strip_enum_prefix
-stripped s n e p = rw (← e) p
+pub ruleset cutting = (past-byte-out, past-byte-yes, past-byte-no, past-plain, past-broken, past-unbroken, passing-start, passing-on, passing-not, passing-end, cut-none, cut_at, rules)

@@ -40,3 +40,5 @@ module _ (b : ℕ) {t : Bool} (e : t ≡ is_lower b) where
   pub raise-other : t ≡ false → b ≡ raised b
   unfolding raised
   raise-other v = sym (pick_no (is_lower b) (b - 32) b (sym e ∙ v))
+
+pub ruleset letters = (upper_fits, lower-upper, lower-other, lower-least, raise-lower, raise-other)

@@ -1,4 +1,2 @@
--- The laws of escaping.
-pub mod Escaping
+-- Laws of the escapes.
 pub mod Runs
-pub mod Laws

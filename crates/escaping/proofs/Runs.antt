@@ -1,107 +1,80 @@
--- Runs of bytes that are shown as they stand: what is to be printed from the place a on is the run, then what is to be printed behind it.
+-- Runs of bytes that are shown as they stand: what is to be written from the place i on is the run, then what is to be written behind it.
 use mathlib.Core.Path.{◌≡◌, refl, sym, ap, ◌∙◌}
-use mathlib.Core.Bool.{Bool, true}
-use mathlib.Core.List.{List, [], ◌∷◌, ◌++◌, append_assoc}
-use Prim.Native.Nat.{ℕ, suc, ◌+◌, ◌-◌, ◌≤◌, ◌<◌}
+use mathlib.Core.Bool.{Bool, true, false, not}
+use mathlib.Core.List.{List, [], ◌∷◌, ◌++◌}
+use Prim.Native.Nat.{ℕ, ◌+◌, ◌-◌, ◌≤◌, ◌<◌}
 use native.Mathlib.Numerals.{add-one}
 use native.Mathlib.Omega.{arith}
-use lib.Dec.{eqb, ltb}
-use lib.ListN.{length, drop, get_or, set, length-drop, length-set}
-use borrow.Author.Tests.{eqb-true, ltb-true, ltb-false}
-use Rattle.texts.proofs.Choosing.{by-test}
-use lib.Seq.{take-suc, drop-cons, get_or-drop, get_or-set_same, get_or-set_other}
+use lib.Dec.{eqb, leb}
+use lib.ListN.{length, take, drop, get_or, drop_of_length-le}
+use lib.Seq.{drop-cons, drop-drop}
+use borrow.Author.Rules.{rules}
+use borrow.Author.Tests.{leb-true, le-ltb, ne_eqb}
+use Rattle.texts.specs.Scan.{count_while, scan}
 use Rattle.texts.specs.Text.{piece}
 use Rattle.texts.specs.Lists.{each}
-use Rattle.printing.specs.Printed.{Printed}
-use Rattle.printing.proofs.Going.{Bytewise, going_on, bytes_on, bytes-end}
+use Rattle.texts.proofs.Choosing.{by-test, both_true}
+use Rattle.texts.proofs.Scanning.{count_yes, count_no}
+use Rattle.printing.specs.Written.{written, Wrote}
+use Rattle.printing.specs.declared.Output.{Output}
+use Rattle.printing.proofs.Writing.{written-append, written-nothing}
 use Rattle.escaping.specs.Escape.{escaped}
+use Rattle.escaping.specs.Escaping.{is_plain}
 
--- ---- marks
+not-true : (b : Bool) → not b ≡ true → b ≡ false
+not-true true e = cc
+not-true false e = refl
 
-module _ {b : ℕ} where
-  pub plain-when : {v : Bool} → (v ≡ true → escaped b ≡ b ∷ []) → v ≡ true → escaped b ≡ b ∷ []
-  plain-when h e = h e
+shown : (b : ℕ) → is_plain b ≡ true → escaped b ≡ b ∷ []
+unfolding escaped is_plain
+shown b t =
+    let p = both_true (leb 32 b) _ t in
+    let q = both_true (not (eqb b 34)) _ p.1 in
+    let r = both_true (not (eqb b 92)) _ q.1 in
+    let h : 32 ≤ b = leb-true 32 b p.0 in
+    rw (ne_eqb b 0 (omega arith), ne_eqb b 9 (omega arith), ne_eqb b 10 (omega arith), ne_eqb b 13 (omega arith), not-true _ q.0, not-true _ r.0, le-ltb b 32 h, not-true _ r.1)
 
-  pub not-marked : ◌≡◌ {A = ℕ} 1 0 → escaped b ≡ b ∷ []
-  not-marked e = absurd (omega arith)
+run : (t : List ℕ) → each escaped t ≡ take (count_while is_plain t) t ++ each escaped (drop (count_while is_plain t) t)
+unfolding each
+run [] = refl
+run (b ∷ t) =
+    by-test (is_plain b)
+    (λ v. rw (count_yes is_plain b t v, shown b v) (ap (λ r. b ∷ r) (run t)))
+    (λ v. rw (count_no is_plain b t v))
 
-  pub marked-plain : (t : List ℕ) → ((k : ℕ) → k < length t → get_or t k 0 ≡ 0 → escaped k ≡ k ∷ []) → b < length t → eqb (get_or t b 0) 0 ≡ true → escaped b ≡ b ∷ []
-  marked-plain t m h e = m b h (eqb-true (get_or t b 0) 0 e)
+run_at : (s : List ℕ) (i e : ℕ) → e ≡ scan is_plain s i → each escaped (drop i s) ≡ piece s i (e - i) ++ each escaped (drop e s)
+run_at s i e q =
+    let k = count_while is_plain (drop i s) in
+    let z : e - i ≡ k = omega arith in
+    rw (z, q, ← drop-drop k i s) (run (drop i s))
 
--- the bytes below i are marked: 0 for one that is shown as it stands
-pub record Marking (t₀ t : List ℕ) (i : ℕ) : Type 0 where
-  pub sofar : (b : ℕ) → b < i → get_or t b 0 ≡ 0 → escaped b ≡ b ∷ []
-  pub size : length t ≡ 256
-  pub same : length t ≡ length t₀
+-- ---- the loop: what is still to be written from i on makes the output what the whole would have made it
 
-pub marking-start : {t : List ℕ} → length t ≡ 256 → Marking t t 0
-marking-start e = record { sofar = λ b h z. absurd (omega arith); size = e; same = refl }
+pub record Runs (s : List ℕ) (o₀ o : Output) (i : ℕ) : Type 0 where
+  pub is : written o (each escaped (drop i s)) ≡ written o₀ (each escaped s)
 
-module _ {t₀ t : List ℕ} {i : ℕ} (inv : Marking t₀ t i) where
-  pub marking-same : length t ≡ length t₀
-  marking-same = inv.same
+pub runs-start : {s : List ℕ} {o : Output} → Runs s o o 0
+runs-start = record { is = refl }
 
-  pub marking-room : i < 256 → i < length t
-  marking-room h = omega (arith, inv.size)
+nothing-left : (s : List ℕ) (i : ℕ) → length s ≤ i → each escaped (drop i s) ≡ []
+unfolding each
+nothing-left s i h = rw (drop_of_length-le s h)
 
-  pub marking-on : {x : ℕ} → i < 256 → (x ≡ 0 → escaped i ≡ i ∷ []) → Marking t₀ (set t i x) (i + 1)
-  marking-on {x} h m =
-      let e = length-set t i x in
-      record {
-        sofar = λ b l z.
-            by-test (ltb b i)
-            (λ v. let k = ltb-true b i v in inv.sofar b k (sym (get_or-set_other t i b x 0 (omega arith)) ∙ z))
-            (λ v.
-            let q : b ≡ i = omega (arith, ltb-false b i v) in
-            rw q (m (sym (get_or-set_same t i x 0 (marking-room h)) ∙ (rw q at z))));
-        size = e ∙ inv.size;
-        same = e ∙ inv.same;
-      }
+module _ {s : List ℕ} {o₀ o : Output} {i : ℕ} (inv : Runs s o₀ o i) where
+  pub runs-end : length s ≤ i → Wrote o₀ o (each escaped s)
+  runs-end h = record { is = sym (written-nothing o) ∙ ap (written o) (sym (nothing-left s i h)) ∙ inv.is }
 
-  pub marking-end : 256 ≤ i → (b : ℕ) → b < length t → get_or t b 0 ≡ 0 → escaped b ≡ b ∷ []
-  marking-end h b l z = inv.sofar b (omega (arith, inv.size)) z
+  module _ {e : ℕ} (q : e ≡ scan is_plain s i) {t : List ℕ} (f : t ≡ piece s i (e - i)) {o₁ : Output} (w : Wrote o o₁ t) where
+    after : Runs s o₀ o₁ e
+    after = record { is = ap (λ x. written x (each escaped (drop e s))) (w.is ∙ ap (written o) f) ∙ written-append o _ _ ∙ ap (written o) (sym (run_at s i e q)) ∙ inv.is }
 
--- ---- runs
+    pub runs-last : length s ≤ e → Wrote o₀ o₁ (each escaped s)
+    runs-last h = record { is = sym (written-nothing o₁) ∙ ap (written o₁) (sym (nothing-left s e h)) ∙ after.is }
 
--- the bytes from a up to i are such a run
-pub record Run (s : List ℕ) (a i : ℕ) : Type 0 where
-  pub low : a ≤ i
-  pub is : each escaped (drop a s) ≡ piece s a (i - a) ++ each escaped (drop i s)
+    pub runs-on : e < length s → {o₂ : Output} → Wrote o₁ o₂ (escaped (get_or s e 0)) → Runs s o₀ o₂ (e + 1)
+    unfolding each
+    runs-on h {o₂} v =
+        let d : each escaped (drop e s) ≡ escaped (get_or s e 0) ++ each escaped (drop (e + 1) s) = rw (add-one, drop-cons s e 0) in
+        record { is = ap (λ x. written x (each escaped (drop (e + 1) s))) v.is ∙ written-append o₁ _ _ ∙ ap (written o₁) (sym d) ∙ after.is }
 
-pub run-start : {s : List ℕ} {a : ℕ} → Run s a a
-run-start {s} {a} =
-    let z : a - a ≡ 0 = omega arith in
-    record { low = omega arith; is = rw z }
-
-piece-more : (s : List ℕ) (a i : ℕ) → a ≤ i → i < length s → piece s a (i + 1 - a) ≡ piece s a (i - a) ++ (get_or s i 0 ∷ [])
-piece-more s a i l h =
-    let z : i + 1 - a ≡ suc (i - a) = omega arith in
-    let w : a + (i - a) ≡ i = omega arith in
-    let k : i - a < length (drop a s) = simp length-drop (omega arith) in
-    let g : get_or (drop a s) (i - a) 0 ≡ get_or s i 0 = get_or-drop a s (i - a) 0 ∙ ap (λ j. get_or s j 0) w in
-    rw (z, take-suc (drop a s) (i - a) 0 k, g)
-
-module _ {s : List ℕ} {a i : ℕ} (inv : Run s a i) where
-  pub run_on : {b : Bool} → i < length s → (b ≡ true → escaped (get_or s i 0) ≡ get_or s i 0 ∷ []) → b ≡ true → Run s a (i + 1)
-  unfolding each
-  run_on h e t =
-      let x = get_or s i 0 in
-      let rest = each escaped (drop (i + 1) s) in
-      let d : each escaped (drop i s) ≡ (x ∷ []) ++ rest = rw (add-one, drop-cons s i 0 h, e t) in
-      let q : each escaped (drop a s) ≡ piece s a (i - a) ++ ((x ∷ []) ++ rest) = inv.is ∙ ap (λ r. piece s a (i - a) ++ r) d in
-      record { low = omega (arith, inv.low); is = q ∙ sym (append_assoc (piece s a (i - a)) (x ∷ []) rest) ∙ ap (λ r. r ++ rest) (sym (piece-more s a i inv.low h)) }
-
-  pub run_end : (a ≤ i) × (each escaped (drop a s) ≡ piece s a (i - a) ++ each escaped (drop i s))
-  run_end = (inv.low, inv.is)
-
--- a run is printed as it stands; behind it the text ends, or one byte is escaped
-module _ {s : List ℕ} {i : ℕ} {o : List ℕ} {at : ℕ} {o' : List ℕ} {p : ℕ} (inv : Bytewise escaped s i o at o' p) {e : ℕ} (r : (i ≤ e) × (each escaped (drop i s) ≡ piece s i (e - i) ++ each escaped (drop e s)))
-    {t : List ℕ} (f : t ≡ piece s i (e - i)) {o'' : List ℕ} {q : ℕ} (d : Printed o' p o'' q t) where
-  run-printed : Bytewise escaped s e o at o'' q
-  run-printed = record { going = going_on inv.going r.1 (rw f at d) }
-
-  pub run-last : length s ≤ e → Printed o at o'' q (each escaped s)
-  run-last h = bytes-end run-printed h
-
-  pub run-next : e < length s → {o''' : List ℕ} {q' : ℕ} → Printed o'' q o''' q' (escaped (get_or s e 0)) → Bytewise escaped s (e + 1) o at o''' q'
-  run-next h z = bytes_on run-printed h z
+pub ruleset runs = (runs-start, runs-end, runs-last, runs-on, rules)

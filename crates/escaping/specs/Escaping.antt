@@ -1,8 +1,8 @@
--- What the code says of a byte before it is escaped: kind and length. Internal.
-use Rattle.std.specs.Prelude.{◌≡◌, List, [], ◌∷◌, ◌++◌, ℕ, length}
+-- What the code says of a byte before it is escaped. Internal.
+use Rattle.std.specs.Prelude.{Bool, not, List, [], ◌∷◌, ◌++◌, ℕ, eqb, leb}
+use Rattle.texts.specs.Choice.{◌and◌}
 use Rattle.texts.specs.Text.{ascii}
-use Rattle.escaping.specs.Escape.{hex, escaped}
-use Rattle.escaping.specs.declared.Escape.{Escape}
+use Rattle.escaping.specs.Escape.{hex}
 use Rattle.escaping.specs.declared.Kind.{Kind}
 use Rattle.escaping.specs.declared.Kind.TheVariants.{Plain, Letter, Hex}
 
@@ -12,11 +12,6 @@ shown_as Plain b = b ∷ []
 shown_as (Letter l) b = 92 ∷ l ∷ []
 shown_as Hex b = ascii "\\u{" ++ hex b ++ ascii "}"
 
--- r is the kind and the length of b's escape
-pub record Escapes (b : ℕ) (r : Escape) : Type 0 where
-  pub shown : shown_as r.kind b ≡ escaped b
-  pub long : r.len ≡ length (escaped b)
-
--- n is the length of b in hex within its braces
-pub record Unicode (b n : ℕ) : Type 0 where
-  pub long : n ≡ length (shown_as Hex b)
+-- a byte that is shown as it stands: no control, '"', '\' or 127
+unfoldable pub is_plain : ℕ → Bool
+is_plain b = leb 32 b and not (eqb b 34) and not (eqb b 92) and not (eqb b 127)

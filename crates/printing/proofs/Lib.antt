@@ -1,5 +1,6 @@
 -- The laws of printing that every printing function cites.
 pub mod Sequencing
+pub mod Writing
 pub mod Going
 pub mod Decimals
 pub mod Finishing

@@ -1,37 +1,24 @@
 -- Whole texts: one of which nothing fits is only counted, and one that fits is stored byte by byte.
 use mathlib.Core.Path.{◌≡◌, refl, sym, ◌∙◌}
 use mathlib.Core.List.{List, [], ◌∷◌}
-use Prim.Native.Nat.{ℕ, suc, ◌+◌, ◌-◌, ◌≤◌, ◌<◌, min}
+use Prim.Native.Nat.{ℕ, suc, ◌+◌, ◌≤◌, ◌<◌, min}
 use native.Mathlib.Numerals.{add-one}
 use native.Mathlib.Omega.{arith}
 use lib.ListN.{length, get_or, set, take}
 use lib.Seq.{set_out, take-suc, take_all}
-use borrow.Author.Rules.{rules}
 use borrow.Author.Tests.{eq-eqb, ne_eqb}
 use Rattle.printing.specs.Printed.{last, next, past, skipped, laid, Printed}
 use Rattle.printing.proofs.Sequencing.{blank, ◌▸◌, length-printed}
 
 -- ---- counted
 
-pub skipped-none : (at n : ℕ) → n ≡ 0 → at ≡ skipped at n
+skipped-none : (at n : ℕ) → n ≡ 0 → at ≡ skipped at n
 unfolding skipped
 skipped-none at n e = sym (rw (eq-eqb n 0 e))
 
 skipped-some : (at n : ℕ) → (n ≡ 0 → ⊥) → skipped at n ≡ min (at + n) last
 unfolding skipped
 skipped-some at n z = rw (ne_eqb n 0 z)
-
-module _ (at n : ℕ) (z : n ≡ 0 → ⊥) where
-  pub skipped-far : last ≤ at → last ≡ skipped at n
-  skipped-far h = omega (arith, skipped-some at n z)
-
-  pub skipped-on : at < last → n < last - at → at + n ≡ skipped at n
-  skipped-on h k = omega (arith, skipped-some at n z)
-
-  pub skipped-last : at < last → last - at ≤ n → last ≡ skipped at n
-  skipped-last h k = omega (arith, skipped-some at n z)
-
-pub ruleset skipping = (skipped-none, skipped-far, skipped-on, skipped-last, rules)
 
 pub past-skipped : (at : ℕ) (t : List ℕ) → past at t ≡ skipped at (length t)
 unfolding past skipped

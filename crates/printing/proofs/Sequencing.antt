@@ -7,12 +7,12 @@ use mathlib.Core.Bool.{Bool, true, false}
 use Rattle.texts.specs.Choice.{pick}
 use Rattle.printing.specs.Printed.{next, past, laid, Printed}
 
-past-append : (at : ℕ) (a b : List ℕ) → past at (a ++ b) ≡ past (past at a) b
+pub past-append : (at : ℕ) (a b : List ℕ) → past at (a ++ b) ≡ past (past at a) b
 unfolding past
 past-append at [] b = refl
 past-append at (x ∷ a) b = past-append (next at) a b
 
-laid-append : (out : List ℕ) (at : ℕ) (a b : List ℕ) → laid out at (a ++ b) ≡ laid (laid out at a) (past at a) b
+pub laid-append : (out : List ℕ) (at : ℕ) (a b : List ℕ) → laid out at (a ++ b) ≡ laid (laid out at a) (past at a) b
 unfolding laid past
 laid-append out at [] b = refl
 laid-append out at (x ∷ a) b = laid-append (set out at x) (next at) a b
@@ -35,7 +35,7 @@ first_part = record { is = refl; to = refl }
 pub second-part : {o : List ℕ} {at : ℕ} {o' : List ℕ} {r : ℕ} (a b : List ℕ) → Printed o at o' r (a ++ b) → Printed (laid o at a) (past at a) o' r b
 second-part a b p = record { is = p.is ∙ laid-append _ _ a b; to = p.to ∙ past-append _ a b }
 
-length-laid : (out : List ℕ) (at : ℕ) (t : List ℕ) → length (laid out at t) ≡ length out
+pub length-laid : (out : List ℕ) (at : ℕ) (t : List ℕ) → length (laid out at t) ≡ length out
 unfolding laid
 length-laid out at [] = refl
 length-laid out at (b ∷ t) = length-laid (set out at b) (next at) t ∙ length-set out at b

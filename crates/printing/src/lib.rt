@@ -1,10 +1,13 @@
 // Printing into a lent slice: one body measures and writes.
 //
-// Each function prints a text from a position on: it writes where the position lies in the slice,
-// and always counts on, so that printing into an empty slice measures. None but `put_again` asks anything
-// of its caller. The contract, `Printed` of specs/Printed.antt, gives every byte of the slice and the next
-// position; texts printed one after the other compose by `▸` of proofs/Sequencing.antt; and
-// proofs/Finishing.antt has "measure, then write", the law that every public entry ends with.
+// An `Output` is a lent slice and the position that printing has come to. Each method prints a text there: it writes where
+// the position lies in the slice, and always counts on, so that printing into an empty slice measures. None but `again`
+// asks anything of its caller. The contract, `Wrote` of specs/Written.antt, gives every byte of the slice and the next position;
+// texts printed one after the other compose by `written-append` of proofs/Writing.antt, and proofs/Finishing.antt has
+// "measure, then write", the law that every public entry ends with.
+//
+// kept: the functions under `Output` take the slice and the position by value, so that a loop above has both in registers;
+// printing by methods alone took a tenth longer.
 #![tactic(auto)]
 
 ghost use Rattle.std.specs.Prelude.{◌≡◌, [], ◌∷◌, ◌+◌, ◌≤◌, length};
@@ -12,6 +15,7 @@ ghost use Rattle.texts.specs.Choice.{pick};
 ghost use Rattle.texts.specs.Text.{piece};
 ghost use Rattle.printing.specs.Printed.{Printed, next, skipped};
 ghost use Rattle.printing.specs.Decimal.{decimal};
+ghost use Rattle.printing.specs.Written.{Wrote, opened, moved};
 
 // The largest position, which no slice reaches; counting stays there.
 const LAST: usize = 0x8000_0000_0000_0000;
@@ -21,6 +25,76 @@ fn step(at: usize) -> usize
 {
     if at < LAST { at + 1 } else { LAST }
 }
+
+// ---- the output
+
+// Where text goes, and the position that it has come to.
+#[derive(Drop)]
+pub struct Output<'a> {
+    pub bytes: &'a mut [u8],
+    pub at: usize,
+}
+
+#[tactic(auto, unfolding(crate::specs::Written::written), using(crate::proofs::Writing::writing))]
+impl<'a> Output<'a> {
+    // From the first byte of a slice on.
+    pub fn new(bytes: &'a mut [u8]) -> Output<'a>
+        ensures { result ≡ opened bytes.entry }
+    {
+        Output { bytes, at: 0 }
+    }
+
+    pub fn byte(&mut self, b: u8)
+        ensures { Wrote self.old self.new (b ∷ []) }
+    {
+        self.at = put_byte(self.bytes, self.at, b);
+    }
+
+    pub fn byte_if(&mut self, on: bool, b: u8)
+        ensures { Wrote self.old self.new (pick on (b ∷ []) []) }
+    {
+        if on {
+            self.byte(b);
+        }
+    }
+
+    pub fn text(&mut self, s: &[u8])
+        ensures { Wrote self.old self.new s.now }
+    {
+        self.at = put_bytes(self.bytes, self.at, s);
+    }
+
+    // A number in decimal.
+    pub fn decimal(&mut self, n: u32)
+        ensures { Wrote self.old self.new (decimal n) }
+    {
+        self.at = put_decimal(self.bytes, self.at, n);
+    }
+
+    // Again the `n` bytes at `from`, which stand before, where all of them fit.
+    pub fn again(&mut self, from: usize, n: usize)
+        requires { (from + n ≤ self.old.at) × (self.old.at + n ≤ length self.old.bytes.now) }
+        ensures { Wrote self.old self.new (piece self.old.bytes.now from n) }
+    {
+        self.at = put_again(self.bytes, self.at, from, n);
+    }
+
+    // The position `n` bytes on.
+    pub fn after(&self, n: usize) -> usize
+        ensures { result ≡ skipped self.now.at n }
+    {
+        skip(self.at, n)
+    }
+
+    // Passes `n` bytes, and writes none.
+    pub fn skip(&mut self, n: usize)
+        ensures { self.new ≡ moved self.old n }
+    {
+        self.at = skip(self.at, n);
+    }
+}
+
+// ---- over a slice and a position
 
 // Prints one byte.
 pub fn put_byte(out: &mut [u8], at: usize, b: u8) -> usize
@@ -35,23 +109,24 @@ pub fn put_byte(out: &mut [u8], at: usize, b: u8) -> usize
 }
 
 // Prints one byte where `on` says so.
+#[tactic(auto, unfolding(crate::specs::Written::written))]
 pub fn put_byte_if(out: &mut [u8], at: usize, on: bool, b: u8) -> usize
     ensures { Printed out.old at out.new result (pick on (b ∷ []) []) }
 {
-    if on { put_byte(out, at, b) } else { at }
+    let mut o = Output { bytes: out, at };
+    o.byte_if(on, b);
+    o.at
 }
 
 // The position `n` bytes on. A text that does not fit is passed so without a walk over it.
+#[tactic(auto, unfolding(crate::specs::Printed::skipped))]
 pub fn skip(at: usize, n: usize) -> usize
     ensures { result ≡ skipped at n }
 {
     if n == 0 {
         return at;
     }
-    if LAST <= at {
-        return LAST;
-    }
-    if n < LAST - at { at + n } else { LAST }
+    at.saturating_add(n).min(LAST)
 }
 
 // Prints the bytes of `s` where all of them fit: a loop with no test but its own.
@@ -59,10 +134,8 @@ fn copy(out: &mut [u8], at: usize, s: &[u8]) -> usize
     requires { at + length s.now ≤ length out.old }
     ensures { Printed out.old at out.new result s.now }
 {
-    let mut i = 0;
-    while i < s.len() {
+    for i in 0..s.len() {
         out[at + i] = s[i];
-        i += 1;
     }
     at + s.len()
 }
@@ -72,25 +145,33 @@ fn put_each(out: &mut [u8], at: usize, s: &[u8]) -> usize
     ensures { Printed out.old at out.new result s.now }
 {
     let mut p = at;
-    let mut i = 0;
-    while i < s.len() {
-        p = put_byte(out, p, s[i]);
-        i += 1;
+    for b in s {
+        p = put_byte(out, p, *b);
     }
     p
 }
 
-// Prints the bytes of `s`: counted where none fits, as when measuring, copied where all fit.
-pub fn put_bytes(out: &mut [u8], at: usize, s: &[u8]) -> usize
+// Prints the bytes of `s` where not all of them fit: counted where none does, as when measuring. Rare, and so kept out of
+// the way of the texts that fit.
+#[cold]
+#[inline(never)]
+fn put_cut(out: &mut [u8], at: usize, s: &[u8]) -> usize
     ensures { Printed out.old at out.new result s.now }
 {
     if out.len() <= at {
         return skip(at, s.len());
     }
-    if s.len() <= out.len() - at {
+    put_each(out, at, s)
+}
+
+// Prints the bytes of `s`.
+pub fn put_bytes(out: &mut [u8], at: usize, s: &[u8]) -> usize
+    ensures { Printed out.old at out.new result s.now }
+{
+    if at < out.len() && s.len() <= out.len() - at {
         return copy(out, at, s);
     }
-    put_each(out, at, s)
+    put_cut(out, at, s)
 }
 
 // Prints again the `n` bytes at `from`, which stand before `at`, where all of them fit: a loop inside the slice.
@@ -98,10 +179,8 @@ pub fn put_again(out: &mut [u8], at: usize, from: usize, n: usize) -> usize
     requires { (from + n ≤ at) × (at + n ≤ length out.old) }
     ensures { Printed out.old at out.new result (piece out.old from n) }
 {
-    let mut i = 0;
-    while i < n {
+    for i in 0..n {
         out[at + i] = out[from + i];
-        i += 1;
     }
     at + n
 }

@@ -1,24 +1,21 @@
-use Prim.Native.Nat.{◌≤◌, ◌<◌}
-use native.Mathlib.Omega.{arith}
+use Prim.Native.Nat.{◌<◌, ◌≤◌}
 use native.Mathlib.Numerals.{add-one}
+use native.Mathlib.Omega.{arith}
 use lib.ListN.{length}
 use lib.Seq.{take-suc, take_all}
-use Rattle.printing.proofs.Sequencing.{blank, ◌▸◌, length-printed}
+use Rattle.printing.proofs.Sequencing.{blank, ◌▸◌}
 use Rattle.printing.proofs.put_each.Goals as goal
 
-pub loop-i-init : goal.loop-i-init
-loop-i-init c = (blank, omega arith)
+pub loop-b-init : goal.loop-b-init
+loop-b-init c = blank
 
-pub loop-i-preserved : goal.loop-i-preserved
-loop-i-preserved c =
+pub loop-b-preserved : goal.loop-b-preserved
+loop-b-preserved c =
     let s = c.args.s.now in
-    let h : c.loop-i.i < length s = omega arith in
-    (rw (add-one, take-suc s c.loop-i.i 0) (c.loop-i.invariant.0 ▸ c.put_byte-p.ensures), omega arith)
-
-pub shape_of-out : goal.shape_of-out
-shape_of-out c = length-printed c.loop-i.invariant.0
+    let h : c.loop-b.b-index < length s = omega arith in
+    rw (add-one, take-suc s c.loop-b.b-index 0) (c.loop-b.invariant ▸ c.put_byte-p.ensures)
 
 pub returns : goal.returns
 returns c =
-    let h : length c.args.s.now ≤ c.loop-i.i = c.loop-i-test.false in
-    rw take_all at c.loop-i.invariant.0
+    let h : length c.args.s.now ≤ c.loop-b.b-index = omega arith in
+    rw take_all at c.loop-b.invariant

@@ -1,17 +1,9 @@
-use Rattle.conversions.proofs.Storing.{storing}
+use borrow.Author.Rules.{rules}
+use Rattle.conversions.proofs.Storing.{break-yes, break-no}
 use Rattle.conversions.proofs.convert.store_break.Goals as goal
 
-pub bounds-out-at : goal.bounds-out-at
-bounds-out-at c = search storing
-
-pub overflow_add-result : goal.overflow_add-result
-overflow_add-result c = search storing
-
-pub shape_of-out-then-on : goal.shape_of-out-then-on
-shape_of-out-then-on c = search storing
-
 pub returns-then-on : goal.returns-then-on
-returns-then-on c = search storing
+returns-then-on c = search (break-yes, rules)
 
 pub returns : goal.returns
-returns c = search storing
+returns c = search (break-no, rules)

@@ -1,35 +1,12 @@
-use Rattle.conversions.proofs.Laws.{laws}
+use Rattle.conversions.proofs.Cutting.{cutting, past-broken}
 use Rattle.conversions.proofs.prefix.past_position.Goals as goal
 
-pub byte_at-requires : goal.byte_at-requires
-byte_at-requires c = search laws
+pub returns-in_err-k : goal.returns-in_err-k
+returns-in_err-k c = search cutting
 
-pub raise_in-b-requires : goal.raise_in-b-requires
-raise_in-b-requires c = search laws
-
-pub breaks_screaming-requires : goal.breaks_screaming-requires
-breaks_screaming-requires c = search laws
-
-pub past_byte-requires : goal.past_byte-requires
-past_byte-requires c = search laws
-
-pub enum_known-k : goal.enum_known-k
-enum_known-k c = search laws
-
-pub past_byte-requires-in-At : goal.past_byte-requires-in-At
-past_byte-requires-in-At c = search laws
-
-pub enum_told-1 : goal.enum_told-1
-enum_told-1 c = search laws
-
-pub returns-in-At : goal.returns-in-At
-returns-in-At c = search laws
-
-pub returns-in-Nothing : goal.returns-in-Nothing
-returns-in-Nothing c = search laws
-
-pub past_byte-requires-2 : goal.past_byte-requires-2
-past_byte-requires-2 c = search laws
+pub returns-then-breaks : goal.returns-then-breaks
+returns-then-breaks c =
+    past-broken _ _ _ _ c.at-breaks.ensures.1 c.at-breaks.ensures.0 c.if-breaks.true c.past_byte.ensures c.in_ok-k.was c.past_byte-then-breaks.ensures
 
 pub returns : goal.returns
-returns c = search laws
+returns c = search cutting
