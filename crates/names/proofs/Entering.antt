@@ -1,7 +1,7 @@
 -- Laws of the entries: the tests of a name, and the answer after them.
 use mathlib.Core.Path.{◌≡◌, refl, ap, ◌∙◌}
 use mathlib.Core.List.{List}
-use Prim.Native.Nat.{ℕ, ◌≤◌, ◌<◌, ◌^◌}
+use Prim.Native.Nat.{ℕ, ◌≤◌, ◌<◌}
 use lib.ListN.{length}
 use borrow.Author.Tests.{lt-ltb, le-ltb}
 use Rattle.texts.specs.Scan.{scan, is_ascii}
@@ -9,10 +9,8 @@ use Rattle.std.specs.Prelude.{Ok, Err, IsErrAnd}
 use Rattle.std.proofs.lemmas.Result.{err_from_is_err_and}
 use Rattle.refusals.specs.Figures.{Answer}
 use Rattle.refusals.specs.declared.Refusal.{Refusal}
-use Rattle.refusals.specs.declared.Refusal.TheVariants.{TooLong, NotAscii, NoRoom}
-use Rattle.printing.specs.Printed.{Printed}
-use Rattle.printing.specs.Output.{output_after}
-use Rattle.printing.proofs.Finishing.{no_room, wrote, wrote-output}
+use Rattle.refusals.specs.declared.Refusal.TheVariants.{TooLong, NotAscii}
+use Rattle.printing.specs.Output.{output_after, Finishes}
 use Rattle.names.specs.Entry.{Tested, tested, tested_two, answer_after, Answers}
 
 -- ---- one name
@@ -59,22 +57,13 @@ module _ (v n : List ℕ) (h : length v ≤ 32768) where
 
 module _ {t : Tested} (text out : List ℕ) where
   -- what a `?` hands on
-  pub entry-refused : {q : Refusal} → Err q ≡ t → {r : Answer} → IsErrAnd r (λ e. e ≡ q) → Answers t text out out r
+  pub entry-refused : {q : Refusal} → t ≡ Err q → {r : Answer} → IsErrAnd r (λ e. e ≡ q) → Answers t text out out r
   unfolding answer_after output_after
   entry-refused {q} e {r} h =
       let p = err_from_is_err_and r h in
       let g : r ≡ Err q = p.1 ∙ ap (λ x. Err x) p.2 in
-      record { is = rw (← e) g; output = rw g refl }
+      record { is = rw e g; output = rw g refl }
 
-  module _ {u : Unit {0}} (e : Ok u ≡ t) {z z' : List ℕ} {n : ℕ} (m : Printed z 0 z' n text) where
-    pub entry-no-room : length out < n → Answers t text out out (Err NoRoom)
-    unfolding answer_after output_after
-    entry-no-room h = record { is = rw (← e) (no_room out m h); output = refl }
-
-    pub entry-wrote : n ≤ length out → length out < 2 ^ 63 → {out' : List ℕ} {k : ℕ} → Printed out 0 out' k text → Answers t text out out' (Ok k)
-    unfolding answer_after
-    entry-wrote h l w =
-        record {
-          is = rw (← e) (wrote m h l w);
-          output = rw (wrote m h l w) (wrote-output m h l w);
-        }
+  pub entry-finished : {u : Unit {0}} → t ≡ Ok u → {out' : List ℕ} {r : Answer} → Finishes text out out' r → Answers t text out out' r
+  unfolding answer_after
+  entry-finished e f = record { is = rw e f.is; output = f.output }

@@ -9,9 +9,15 @@
 
 ghost use Rattle.std.specs.Prelude.{ℕ, ◌≡◌, length};
 ghost use Rattle.conversions.specs.Conversions.{camel_to_snake, snake_to_camel, camel_to_screaming_snake, screaming_snake_to_pascal, strip_enum_prefix, singular_pascal};
+ghost use Rattle.printing.specs.Written.{Wrote};
 ghost use Rattle.names.specs.Entry.{tested, tested_two, Answers};
 
-use conversions::{convert, prefix};
+use classes::Classes;
+use conversions::convert::{
+    write_camel, write_pascal, write_screaming, write_singular, write_snake,
+};
+use conversions::prefix::write_stripped;
+use printing::{Output, Print, finish};
 use refusals::Refusal;
 
 // The longest name that is taken.
@@ -52,80 +58,119 @@ fn test_two(value: &[u8], enum_name: &[u8]) -> Result<(), Refusal>
     Ok(())
 }
 
+// What an entry answers after the tests.
+fn answer<P: Print>(tested: Result<(), Refusal>, name: &P, out: &mut [u8]) -> Result<usize, Refusal>
+    ensures { Answers tested (P.text name.now) out.old out.new result }
+{
+    tested?;
+    finish(name, out)
+}
+
+#[derive(Clone, Copy)]
+struct Snake<'a>(&'a [u8]);
+
+impl Print for Snake<'_> {
+    ghost text = { λ s. camel_to_snake s.0.now };
+
+    fn print(&self, out: &mut Output<'_>) {
+        write_snake(out, &Classes::new(), self.0);
+    }
+}
+
 pub fn camel_to_snake(name: &[u8], out: &mut [u8]) -> Result<usize, Refusal>
     ensures { Answers (tested name.now) (camel_to_snake name.now) out.old out.new result }
 {
-    test(name)?;
-    let mut none = [0u8; 0];
-    let n = convert::put_snake(&mut none, 0, name);
-    if out.len() < n {
-        return Err(Refusal::NoRoom);
+    answer(test(name), &Snake(name), out)
+}
+
+#[derive(Clone, Copy)]
+struct Camel<'a>(&'a [u8]);
+
+impl Print for Camel<'_> {
+    ghost text = { λ s. snake_to_camel s.0.now };
+
+    fn print(&self, out: &mut Output<'_>) {
+        write_camel(out, &Classes::new(), self.0);
     }
-    let m = convert::put_snake(out, 0, name);
-    Ok(m)
 }
 
 pub fn snake_to_camel(name: &[u8], out: &mut [u8]) -> Result<usize, Refusal>
     ensures { Answers (tested name.now) (snake_to_camel name.now) out.old out.new result }
 {
-    test(name)?;
-    let mut none = [0u8; 0];
-    let n = convert::put_camel(&mut none, 0, name);
-    if out.len() < n {
-        return Err(Refusal::NoRoom);
+    answer(test(name), &Camel(name), out)
+}
+
+#[derive(Clone, Copy)]
+struct Screaming<'a>(&'a [u8]);
+
+impl Print for Screaming<'_> {
+    ghost text = { λ s. camel_to_screaming_snake s.0.now };
+
+    fn print(&self, out: &mut Output<'_>) {
+        write_screaming(out, &Classes::new(), self.0);
     }
-    let m = convert::put_camel(out, 0, name);
-    Ok(m)
 }
 
 pub fn camel_to_screaming_snake(name: &[u8], out: &mut [u8]) -> Result<usize, Refusal>
     ensures { Answers (tested name.now) (camel_to_screaming_snake name.now) out.old out.new result }
 {
-    test(name)?;
-    let mut none = [0u8; 0];
-    let n = convert::put_screaming(&mut none, 0, name);
-    if out.len() < n {
-        return Err(Refusal::NoRoom);
+    answer(test(name), &Screaming(name), out)
+}
+
+#[derive(Clone, Copy)]
+struct Pascal<'a>(&'a [u8]);
+
+impl Print for Pascal<'_> {
+    ghost text = { λ s. screaming_snake_to_pascal s.0.now };
+
+    fn print(&self, out: &mut Output<'_>) {
+        write_pascal(out, &Classes::new(), self.0);
     }
-    let m = convert::put_screaming(out, 0, name);
-    Ok(m)
 }
 
 pub fn screaming_snake_to_pascal(name: &[u8], out: &mut [u8]) -> Result<usize, Refusal>
     ensures { Answers (tested name.now) (screaming_snake_to_pascal name.now) out.old out.new result }
 {
-    test(name)?;
-    let mut none = [0u8; 0];
-    let n = convert::put_pascal(&mut none, 0, name);
-    if out.len() < n {
-        return Err(Refusal::NoRoom);
+    answer(test(name), &Pascal(name), out)
+}
+
+#[derive(Clone, Copy)]
+struct Singular<'a>(&'a [u8]);
+
+impl Print for Singular<'_> {
+    ghost text = { λ s. singular_pascal s.0.now };
+
+    fn print(&self, out: &mut Output<'_>) {
+        write_singular(out, &Classes::new(), self.0);
     }
-    let m = convert::put_pascal(out, 0, name);
-    Ok(m)
 }
 
 pub fn singular_pascal(name: &[u8], out: &mut [u8]) -> Result<usize, Refusal>
     ensures { Answers (tested name.now) (singular_pascal name.now) out.old out.new result }
 {
-    test(name)?;
-    let mut none = [0u8; 0];
-    let n = convert::put_singular(&mut none, 0, name);
-    if out.len() < n {
-        return Err(Refusal::NoRoom);
+    answer(test(name), &Singular(name), out)
+}
+
+#[derive(Clone, Copy)]
+struct Stripped<'a> {
+    value: &'a [u8],
+    enum_name: &'a [u8],
+}
+
+impl Print for Stripped<'_> {
+    ghost text = { λ s. strip_enum_prefix s.value.now s.enum_name.now };
+
+    fn print(&self, out: &mut Output<'_>) {
+        write_stripped(out, &Classes::new(), self.value, self.enum_name);
     }
-    let m = convert::put_singular(out, 0, name);
-    Ok(m)
 }
 
 pub fn strip_enum_prefix(value: &[u8], enum_name: &[u8], out: &mut [u8]) -> Result<usize, Refusal>
     ensures { Answers (tested_two value.now enum_name.now) (strip_enum_prefix value.now enum_name.now) out.old out.new result }
 {
-    test_two(value, enum_name)?;
-    let mut none = [0u8; 0];
-    let n = prefix::put_stripped(&mut none, 0, value, enum_name);
-    if out.len() < n {
-        return Err(Refusal::NoRoom);
-    }
-    let m = prefix::put_stripped(out, 0, value, enum_name);
-    Ok(m)
+    answer(
+        test_two(value, enum_name),
+        &Stripped { value, enum_name },
+        out,
+    )
 }

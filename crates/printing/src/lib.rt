@@ -10,12 +10,15 @@
 // printing by methods alone took a tenth longer.
 #![tactic(auto)]
 
-ghost use Rattle.std.specs.Prelude.{◌≡◌, [], ◌∷◌, ◌+◌, ◌≤◌, length};
+ghost use Rattle.std.specs.Prelude.{List, ℕ, ◌≡◌, [], ◌∷◌, ◌+◌, ◌≤◌, length};
 ghost use Rattle.texts.specs.Choice.{pick};
 ghost use Rattle.texts.specs.Text.{piece};
 ghost use Rattle.printing.specs.Printed.{Printed, next, skipped};
 ghost use Rattle.printing.specs.Decimal.{decimal};
+ghost use Rattle.printing.specs.Output.{Finishes};
 ghost use Rattle.printing.specs.Written.{Wrote, opened, moved};
+
+use refusals::Refusal;
 
 // The largest position, which no slice reaches; counting stays there.
 const LAST: usize = 0x8000_0000_0000_0000;
@@ -92,6 +95,38 @@ impl<'a> Output<'a> {
     {
         self.at = skip(self.at, n);
     }
+}
+
+// ---- measure, then write
+
+// What can be printed.
+pub trait Print {
+    ghost text: { Self → List ℕ };
+
+    fn print(&self, out: &mut Output<'_>)
+        ensures { Wrote out.old out.new (text self.now) };
+}
+
+// Prints from the first byte of `out` on, and gives the next position.
+#[tactic(auto, unfolding(crate::specs::Written::written))]
+fn print_whole<P: Print>(p: &P, out: &mut [u8]) -> usize
+    ensures { Printed out.old 0 out.new result (P.text p.now) }
+{
+    let mut o = Output::new(out);
+    p.print(&mut o);
+    o.at
+}
+
+// Prints where there is room for the whole text: it is measured before a byte is written.
+pub fn finish<P: Print>(p: &P, out: &mut [u8]) -> Result<usize, Refusal>
+    ensures { Finishes (P.text p.now) out.old out.new result }
+{
+    let mut none = [0u8; 0];
+    let n = print_whole(p, &mut none);
+    if out.len() < n {
+        return Err(Refusal::NoRoom);
+    }
+    Ok(print_whole(p, out))
 }
 
 // ---- over a slice and a position
