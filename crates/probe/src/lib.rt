@@ -66,92 +66,53 @@ pub fn finished(n: usize, room: usize) -> Reading {
 
 // ---- attributes, in the order of their names
 
-// Where an attribute's raw name lies; or that there is none.
-#[derive(Clone, Copy)]
-struct Name {
-    known: bool,
-    from: usize,
-    len: usize,
-}
-
-fn no_name() -> Name {
-    Name {
-        known: false,
-        from: 0,
-        len: 0,
-    }
-}
-
 // A name without its prefix.
-fn local(doc: &[u8], from: usize, len: usize) -> &[u8] {
-    let whole = part(doc, from, len);
-    part(whole, prefix_len(whole), len)
+fn local(doc: &[u8], name: Range) -> &[u8] {
+    let whole = part(doc, name.from, name.len);
+    part(whole, prefix_len(whole), name.len)
 }
 
-// Whether `a` comes before `b` in the order of bytes.
-fn less(a: &[u8], b: &[u8]) -> bool {
-    let mut i = 0;
-    while i < a.len() {
-        if b.len() <= i {
-            return false;
-        }
-        if a[i] != b[i] {
-            return a[i] < b[i];
-        }
-        i += 1;
+// Whether the local name of `a` comes before that of `b` in the order of bytes; so it does where there is one name only.
+fn precedes(doc: &[u8], a: Option<Range>, b: Option<Range>) -> bool {
+    match (a, b) {
+        (Some(a), Some(b)) => local(doc, a) < local(doc, b),
+        _ => true,
     }
-    a.len() < b.len()
-}
-
-// Whether the local name of `a` comes before that of `b`; so it does where there is one name only.
-fn precedes(doc: &[u8], a: Name, b: Name) -> bool {
-    if a.known {
-        if b.known {
-            return less(local(doc, a.from, a.len), local(doc, b.from, b.len));
-        }
-    }
-    true
 }
 
 // The least of `best` and `this` where `this` comes after `last` and declares no namespace.
-fn least(doc: &[u8], last: Name, best: Name, this: Name) -> Name {
+fn least(doc: &[u8], last: Option<Range>, best: Option<Range>, this: Range) -> Option<Range> {
     if is_xmlns(part(doc, this.from, this.len)) {
         return best;
     }
-    if precedes(doc, last, this) {
-        if precedes(doc, this, best) {
-            return this;
-        }
+    if precedes(doc, last, Some(this)) && precedes(doc, Some(this), best) {
+        return Some(this);
     }
     best
 }
 
 // The least name after `last` in the tag whose attributes begin at `at`. Each attribute takes a byte.
-fn name_after(doc: &[u8], at: usize, last: Name) -> Name {
-    let mut best = no_name();
+fn name_after(doc: &[u8], at: usize, last: Option<Range>) -> Option<Range> {
+    let mut best = None;
     let mut i = at;
-    let mut left = doc.len();
-    while 0 < left {
+    for _ in 0..doc.len() {
         let Ok(
             TagPart::Attribute {
                 name,
                 name_len,
-                value: _,
-                value_len: _,
                 next,
+                ..
             },
         ) = tag_part(doc, i, 0)
         else {
             return best;
         };
-        let this = Name {
-            known: true,
+        let this = Range {
             from: name,
             len: name_len,
         };
         best = least(doc, last, best, this);
         i = next;
-        left -= 1;
     }
     best
 }
@@ -205,15 +166,13 @@ fn put_attribute(doc: &[u8], out: &mut [u8], at: usize, attributes: usize, name:
 // Each name takes a byte of the document.
 fn put_attributes(doc: &[u8], out: &mut [u8], at: usize, attributes: usize) -> usize {
     let mut p = at;
-    let mut last = no_name();
-    let mut left = doc.len();
-    while 0 < left {
-        last = name_after(doc, attributes, last);
-        if !last.known {
+    let mut last = None;
+    for _ in 0..doc.len() {
+        let Some(name) = name_after(doc, attributes, last) else {
             return p;
-        }
-        p = put_attribute(doc, out, p, attributes, local(doc, last.from, last.len));
-        left -= 1;
+        };
+        p = put_attribute(doc, out, p, attributes, local(doc, name));
+        last = Some(name);
     }
     p
 }
@@ -243,20 +202,16 @@ fn put_event(doc: &[u8], out: &mut [u8], at: usize, event: Event) -> usize {
 fn read_all(doc: &[u8], out: &mut [u8]) -> Reading {
     let mut p = 0;
     let mut c = Cursor::at(0);
-    let mut left = doc.len();
-    while 0 < left {
+    for _ in 0..doc.len() {
         if c.is_at_end(doc) {
             return finished(p, out.len());
         }
         let read = c.read(doc);
-        let event = read.event;
-        if let Event::Refused(r) = event {
+        if let Event::Refused(r) = read.event {
             return refused(p, r);
         }
-        p = put_event(doc, out, p, event);
-        let next = read.cursor;
-        c = next;
-        left -= 1;
+        p = put_event(doc, out, p, read.event);
+        c = read.cursor;
     }
     finished(p, out.len())
 }

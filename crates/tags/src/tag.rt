@@ -1,7 +1,7 @@
 // Tags: their parts, where they end, and their attributes.
 #![tactic(auto, using(crate::proofs::Laws::laws))]
 
-ghost use Rattle.std.specs.Prelude.{◌≡◌, false, [], ◌<◌, ◌^◌, ◌≤◌, length};
+ghost use Rattle.std.specs.Prelude.{◌≡◌, false, [], ◌+◌, ◌<◌, ◌^◌, ◌≤◌, length};
 ghost use Rattle.texts.specs.Choice.{pick};
 ghost use Rattle.texts.specs.Text.{piece};
 ghost use Rattle.tags.specs.Names.{is_xmlns};
@@ -250,161 +250,120 @@ fn latest(on: bool, this: usize, earlier: usize) -> usize
 }
 
 // What is noted with one more value, under the names that it has: 1 + its place, and its length.
-fn noted_where(
-    is1: bool,
-    is2: bool,
-    is3: bool,
-    is4: bool,
-    at: usize,
-    len: usize,
-    earlier: Notes,
-) -> Notes
-    ensures { (result.first ≡ pick is1 at earlier.first) × (result.len1 ≡ pick is1 len earlier.len1) × (result.second ≡ pick is2 at earlier.second) × (result.len2 ≡ pick is2 len earlier.len2) × (result.third ≡ pick is3 at earlier.third) × (result.len3 ≡ pick is3 len earlier.len3) × (result.fourth ≡ pick is4 at earlier.fourth) × (result.len4 ≡ pick is4 len earlier.len4) }
+fn noted_where(is1: bool, is2: bool, is3: bool, is4: bool, value: Range, earlier: Notes) -> Notes
+    requires { value.from < 2 ^ 63 }
+    ensures { (result.first ≡ pick is1 (value.from + 1) earlier.first) × (result.len1 ≡ pick is1 value.len earlier.len1) × (result.second ≡ pick is2 (value.from + 1) earlier.second) × (result.len2 ≡ pick is2 value.len earlier.len2) × (result.third ≡ pick is3 (value.from + 1) earlier.third) × (result.len3 ≡ pick is3 value.len earlier.len3) × (result.fourth ≡ pick is4 (value.from + 1) earlier.fourth) × (result.len4 ≡ pick is4 value.len earlier.len4) }
 {
+    let at = value.from + 1;
     Notes {
         first: latest(is1, at, earlier.first),
-        len1: latest(is1, len, earlier.len1),
+        len1: latest(is1, value.len, earlier.len1),
         second: latest(is2, at, earlier.second),
-        len2: latest(is2, len, earlier.len2),
+        len2: latest(is2, value.len, earlier.len2),
         third: latest(is3, at, earlier.third),
-        len3: latest(is3, len, earlier.len3),
+        len3: latest(is3, value.len, earlier.len3),
         fourth: latest(is4, at, earlier.fourth),
-        len4: latest(is4, len, earlier.len4),
+        len4: latest(is4, value.len, earlier.len4),
     }
+}
+
+// Where an attribute's raw name and its raw value lie.
+#[derive(Clone, Copy)]
+struct RawAttribute {
+    name: Range,
+    value: Range,
 }
 
 // What is noted with one more attribute, which declares no namespace.
 fn noted_with(
     doc: &[u8],
-    raw: usize,
-    n: usize,
-    value: usize,
-    len: usize,
+    a: RawAttribute,
     first: &[u8],
     second: &[u8],
     third: &[u8],
     fourth: &[u8],
     earlier: Notes,
 ) -> Notes
-    requires { (value < length doc.now) × (is_xmlns (piece doc.now raw n) ≡ false) }
-    ensures { NotedWith (piece doc.now raw n) value len first.now second.now third.now fourth.now earlier result }
+    requires { (a.value.from < length doc.now) × (is_xmlns (piece doc.now a.name.from a.name.len) ≡ false) }
+    ensures { NotedWith (piece doc.now a.name.from a.name.len) a.value.from a.value.len first.now second.now third.now fourth.now earlier result }
 {
-    let whole = texts::part(doc, raw, n);
+    let whole = texts::part(doc, a.name.from, a.name.len);
     let lost = prefix_len(whole);
-    let name = texts::part(whole, lost, n);
-    let at = value + 1;
+    let name = texts::part(whole, lost, a.name.len);
     let is1 = texts::equal(name, first);
     let is2 = texts::equal(name, second);
     let is3 = texts::equal(name, third);
     let is4 = texts::equal(name, fourth);
-    noted_where(is1, is2, is3, is4, at, len, earlier)
+    noted_where(is1, is2, is3, is4, a.value, earlier)
 }
 
 // What is noted under one name with one more attribute; one that declares a namespace counts for nothing.
-fn noted_one(
-    doc: &[u8],
-    raw: usize,
-    n: usize,
-    value: usize,
-    len: usize,
-    name: &[u8],
-    earlier: Notes,
-) -> Notes
-    requires { value < length doc.now }
-    ensures { NotedWith (piece doc.now raw n) value len name.now [] [] [] earlier result }
+fn noted_one(doc: &[u8], a: RawAttribute, name: &[u8], earlier: Notes) -> Notes
+    requires { a.value.from < length doc.now }
+    ensures { NotedWith (piece doc.now a.name.from a.name.len) a.value.from a.value.len name.now [] [] [] earlier result }
 {
-    if is_xmlns_at(doc, raw, n) {
+    if is_xmlns_at(doc, a.name.from, a.name.len) {
         return earlier;
     }
-    noted_with(doc, raw, n, value, len, name, b"", b"", b"", earlier)
+    noted_with(doc, a, name, b"", b"", b"", earlier)
 }
 
 // What is noted with a known attribute.
-fn noted_known(code: usize, codes: Codes, value: usize, len: usize, earlier: Notes) -> Notes
-    requires { (0 < code) × (code < 18) × (value < 2 ^ 63) }
-    ensures { (k : Keys) → CodesOf k codes → NotedMore (known_name code) value len k earlier result }
+fn noted_known(code: usize, codes: Codes, value: Range, earlier: Notes) -> Notes
+    requires { (0 < code) × (code < 18) × (value.from < 2 ^ 63) }
+    ensures { (k : Keys) → CodesOf k codes → NotedMore (known_name code) value.from value.len k earlier result }
 {
     // Names that matter in no tag.
     if 9 < code {
         return earlier;
     }
-    let at = value + 1;
     let is1 = code == codes.first;
     let is2 = code == codes.second;
     let is3 = code == codes.third;
     let is4 = code == codes.fourth;
-    noted_where(is1, is2, is3, is4, at, len, earlier)
+    noted_where(is1, is2, is3, is4, value, earlier)
 }
 
-// The same with an attribute of another name, which declares no namespace, in a tag with these keys.
-fn noted_other(
-    doc: &[u8],
-    raw: usize,
-    n: usize,
-    value: usize,
-    len: usize,
-    kind: TagKind,
-    earlier: Notes,
-) -> Notes
-    requires { (value < length doc.now) × (is_xmlns (piece doc.now raw n) ≡ false) }
-    ensures { NotedMore (piece doc.now raw n) value len (keys_by kind) earlier result }
+// The same with an attribute of another name, which declares no namespace, in a tag of that kind.
+fn noted_other(doc: &[u8], a: RawAttribute, kind: TagKind, earlier: Notes) -> Notes
+    requires { (a.value.from < length doc.now) × (is_xmlns (piece doc.now a.name.from a.name.len) ≡ false) }
+    ensures { NotedMore (piece doc.now a.name.from a.name.len) a.value.from a.value.len (keys_by kind) earlier result }
 {
     match kind {
-        TagKind::Schema => noted_with(
-            doc, raw, n, value, len, b"id", b"version", b"package", b"", earlier,
-        ),
+        TagKind::Schema => noted_with(doc, a, b"id", b"version", b"package", b"", earlier),
         TagKind::Type => noted_with(
             doc,
-            raw,
-            n,
-            value,
-            len,
+            a,
             b"length",
             b"name",
             b"primitiveType",
             b"characterEncoding",
             earlier,
         ),
-        TagKind::Enum => noted_with(
-            doc,
-            raw,
-            n,
-            value,
-            len,
-            b"name",
-            b"encodingType",
-            b"",
-            b"",
-            earlier,
-        ),
-        TagKind::Other => noted_with(
-            doc, raw, n, value, len, b"id", b"name", b"type", b"", earlier,
-        ),
+        TagKind::Enum => noted_with(doc, a, b"name", b"encodingType", b"", b"", earlier),
+        TagKind::Other => noted_with(doc, a, b"id", b"name", b"type", b"", earlier),
     }
 }
 
 // What is noted with one more attribute, of a known name or another; one that declares a namespace counts for nothing.
 fn noted_by(
+    doc: &[u8],
+    a: RawAttribute,
     code: Option<usize>,
     codes: Codes,
-    doc: &[u8],
-    raw: usize,
-    n: usize,
-    value: usize,
-    len: usize,
     kind: TagKind,
     earlier: Notes,
 ) -> Notes
-    requires { (value < length doc.now) × CodesOf (keys_by kind) codes × NamedAs doc.now raw n code }
-    ensures { NotedMore (piece doc.now raw n) value len (keys_by kind) earlier result }
+    requires { (a.value.from < length doc.now) × CodesOf (keys_by kind) codes × NamedAs doc.now a.name.from a.name.len code }
+    ensures { NotedMore (piece doc.now a.name.from a.name.len) a.value.from a.value.len (keys_by kind) earlier result }
 {
     if let Some(known) = code {
-        return noted_known(known, codes, value, len, earlier);
+        return noted_known(known, codes, a.value, earlier);
     }
-    if is_xmlns_at(doc, raw, n) {
+    if is_xmlns_at(doc, a.name.from, a.name.len) {
         return earlier;
     }
-    noted_other(doc, raw, n, value, len, kind, earlier)
+    noted_other(doc, a, kind, earlier)
 }
 
 // Nothing found.
@@ -464,9 +423,17 @@ pub fn tag_noting(doc: &[u8], at: usize, place: usize, kind: TagKind, t: &Classe
                     next,
                 },
             ) => {
-                noted = noted_by(
-                    code, codes, doc, name, name_len, value, value_len, kind, noted,
-                );
+                let a = RawAttribute {
+                    name: Range {
+                        from: name,
+                        len: name_len,
+                    },
+                    value: Range {
+                        from: value,
+                        len: value_len,
+                    },
+                };
+                noted = noted_by(doc, a, code, codes, kind, noted);
                 i = next;
             }
             Ok(TagPart::TagEnd(ending)) => {
@@ -519,7 +486,17 @@ pub fn attribute(doc: &[u8], at: usize, name: &[u8]) -> Option<Range>
                     next,
                 },
             ) => {
-                noted = noted_one(doc, raw, name_len, value, value_len, name, noted);
+                let a = RawAttribute {
+                    name: Range {
+                        from: raw,
+                        len: name_len,
+                    },
+                    value: Range {
+                        from: value,
+                        len: value_len,
+                    },
+                };
+                noted = noted_one(doc, a, name, noted);
                 i = next;
             }
             Ok(TagPart::TagEnd(_)) => return found_of(noted.first, noted.len1),

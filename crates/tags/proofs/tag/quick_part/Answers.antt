@@ -1,4 +1,5 @@
-use Rattle.tags.proofs.Knowing.{spaced-quick}
+use Prim.Native.Nat.{◌+◌}
+use Rattle.tags.specs.Known.{IsKnown}
 use Rattle.tags.proofs.Laws.{laws}
 use Rattle.tags.proofs.tag.quick_part.Goals as goal
 
@@ -9,5 +10,4 @@ pub known_at-requires : goal.known_at-requires
 known_at-requires c = search laws
 
 pub returns-in-Some : goal.returns-in-Some
-returns-in-Some c =
-    spaced-quick c.args.doc.now c.args.at c.args.place c.starts_with.ensures c.if-starts_with.true c.in-Some.ensures c.quoted_part.ensures
+returns-in-Some c = let k : IsKnown c.args.doc.now (c.args.at + 1) c.in-Some.known = c.in-Some.ensures in search laws
