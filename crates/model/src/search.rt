@@ -119,7 +119,8 @@ impl<'a> View<'a> {
 
     // The first item of a kind under an owner from a place on.
     pub fn next_under(&self, kind: u32, owner: u32, from: u32) -> Option<u32>
-        ensures { result ≡ next_under kind owner from self.now }
+        ensures is { result ≡ next_under kind owner from self.now }
+        ensures within { IfSome result (λ i. i + 1 < 2 ^ 32) }
     {
         next(self, &Under { kind, owner }, from)
     }

@@ -12,7 +12,7 @@ use Rattle.model.specs.Schema.{Schema, item_at, last_named, a_type, a_composite,
 use Rattle.model.proofs.Records.{by_less}
 use Rattle.std.specs.declared.cmp.Ordering.TheVariants.{Less, Equal, Greater}
 use Rattle.std.specs.Prelude.{Result, Ok, Err}
-use Rattle.ordered.specs.Ordered.{order, declares, numbered, number_in, worth, name_at, Rising, Placed, Inserted, Ordered, Meeting}
+use Rattle.ordered.specs.Ordered.{order, declares, numbered, number_in, worth, name_at, Rising, Placed, Inserted, Ordered, Meeting, Added}
 use Rattle.ordered.proofs.Comparing.{order-refl, greater-less}
 use Rattle.ordered.proofs.Numbering.{by_equal, number-none, number-all, number-aside, number-other, number-fresh, number-kept}
 
@@ -214,6 +214,10 @@ module _ (s : Schema) (i : ℕ) (names : List ℕ) (n p : ℕ) (x : Meeting s i 
   meet-other z = stays s i names n x.ordered x.inside x.declaring p x.within x.same (ne_eqb (item_at s (get_or names p 0)).kind a_type (λ q. z (sym kind-there ∙ q)))
 
 -- ---- what a name is declared as
+
+-- the names of all items, by what a caller sees of them
+pub all-added : {s : Schema} {k : ℕ} {v : Added} → record { schema = s; added = k } ≡ v → v.added ≡ length v.schema.items → {names : List ℕ} {n : ℕ} → Ordered s k names n → Ordered s (length s.items) names n
+all-added {s} {k} q e o = let z : k ≡ length s.items = ap (λ (a : Added). a.added) q ∙ e ∙ ap (λ (a : Added). length a.schema.items) (sym q) in rw z at o
 
 pub number-nothing : (s : Schema) (names name : List ℕ) {n : ℕ} → Ordered s (length s.items) names n → {r : Result ℕ ℕ} → Placed s names n name r → {p : ℕ} → r ≡ Err p → 0 ≡ numbered (last_named an_enum name s) (last_named a_composite name s) (last_named a_type name s)
 number-nothing s names name {n} o pl {p} q =

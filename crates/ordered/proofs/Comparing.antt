@@ -1,17 +1,16 @@
 -- Which of two texts comes first: an order, and what the loops that compare keep.
 use mathlib.Core.Path.{◌≡◌, refl, sym, ap, ◌∙◌}
 use mathlib.Core.List.{List, [], ◌∷◌, ◌++◌}
-use Prim.Native.Nat.{ℕ, suc, ◌+◌, ◌≤◌, ◌<◌}
-use native.Mathlib.Numerals.{add-one}
+use Prim.Native.Nat.{ℕ, ◌+◌, ◌-◌, ◌<◌}
 use native.Mathlib.Omega.{arith}
-use lib.ListN.{length, drop, get_or, drop_of_length-le, take-append-drop}
-use lib.Seq.{drop-cons, drop-drop}
+use lib.ListN.{length, take, drop, length-drop, take-append-drop}
+use Rattle.std.proofs.lemmas.List.{take_all}
+use lib.Seq.{drop-drop}
 use borrow.Author.Tests.{eq-eqb, ne_eqb, lt-ltb, le-ltb}
 use Rattle.texts.specs.Text.{piece}
 use Rattle.words.specs.Word.{IsWord}
 use Rattle.words.proofs.Digits.{word-tells}
 use Rattle.model.proofs.Records.{by_less}
-use Rattle.std.specs.declared.cmp.Ordering.{Ordering}
 use Rattle.std.specs.declared.cmp.Ordering.TheVariants.{Less, Equal, Greater}
 use Rattle.std.specs.Cmp.Lexicographic.{slice_cmp}
 use Rattle.std.specs.Ordering.{nat_cmp}
@@ -100,7 +99,11 @@ unfolding order
 order-is [] [] = refl
 order-is [] (y ∷ ys) = refl
 order-is (x ∷ xs) [] = refl
-order-is (x ∷ xs) (y ∷ ys) = by_order x y (λ l. ?) (λ e. ?) (λ l. ?)
+order-is (x ∷ xs) (y ∷ ys) =
+    by_order x y
+    (λ l. let q : nat_cmp x y ≡ Less = rw (lt-ltb x y l) in rw q (sym (order-less x y xs ys l)))
+    (λ e. let q : nat_cmp x y ≡ Equal = rw (le-ltb x y (omega arith), eq-eqb x y e) in rw q (order-is xs ys ∙ sym (order-on x y xs ys e)))
+    (λ l. let q : nat_cmp x y ≡ Greater = rw (le-ltb x y (omega arith), ne_eqb x y (λ e. omega arith)) in rw q (sym (order-greater x y xs ys l)))
 
 -- ---- a loop that compares a with b stands at i
 
@@ -119,5 +122,9 @@ module _ {a b : List ℕ} {i : ℕ} (inv : Comparing a b i) where
       let r : drop i b ≡ piece b i 8 ++ drop (i + 8) b = sym (take-append-drop 8 (drop i b)) ∙ rw drop-drop refl in
       record { rest = sym (order-common (piece b i 8) (drop (i + 8) a) (drop (i + 8) b)) ∙ sym (ap (λ x. order x (piece b i 8 ++ drop (i + 8) b)) q) ∙ sym (ap (order (drop i a)) r) ∙ inv.rest }
 
-  pub comparing-rest : slice_cmp nat_cmp (drop i a) (drop i b) ≡ order a b
-  comparing-rest = order-is (drop i a) (drop i b) ∙ inv.rest
+  -- what is left of each is compared by std
+  pub comparing-rest : slice_cmp nat_cmp (take (length a - i) (drop i a)) (take (length b - i) (drop i b)) ≡ order a b
+  comparing-rest = rw (whole a, whole b) (order-is (drop i a) (drop i b) ∙ inv.rest)
+    where
+      whole : (x : List ℕ) → take (length x - i) (drop i x) ≡ drop i x
+      whole x = take_all (length x - i) (drop i x) (simp length-drop (omega arith))

@@ -76,6 +76,7 @@ fn insert(names: &mut [u16], n: usize, p: usize, i: u32)
 }
 
 // The kinds that a type name is looked up among.
+#[tactic(auto, unfolding(crate::specs::Ordered::declares))]
 pub fn is_declaring(kind: u32) -> bool
     ensures { result ≡ declares kind }
 {
@@ -136,9 +137,10 @@ impl<'a> Names<'a> {
     fn new(view: &'a View<'a>) -> Names<'a>
         ensures { result ≡ record { schema = view.now; added = 0 } }
     {
+        let places = [0; SIZE];
         Names {
             view,
-            places: [0; SIZE],
+            places,
             count: 0,
             added: 0,
         }

@@ -20,8 +20,6 @@ pub mod view;
 
 ghost use Rattle.std.specs.Prelude.{◌≡◌, leb, length};
 ghost use Rattle.printing.specs.Printed.{past};
-ghost use Rattle.index.specs.Index.{Indexed};
-ghost use Rattle.model.specs.Store.{schema_of};
 ghost use Rattle.xmltoproto.specs.Source.{source};
 ghost use Rattle.xmltoproto.specs.Generate.{Generated};
 ghost use Rattle.xmltoproto.specs.Convert.{Converts};
@@ -35,29 +33,27 @@ use refusals::{Answer, Refusal};
 use xmlschema::build::{Schema, read_schema};
 
 // Whether the source fits into `room` bytes: by its bound where that is enough, else it is measured.
-fn has_room(m: Model, rec: &[u32], text: &[u8], ix: &[u16], room: usize) -> bool
-    requires { Indexed (schema_of m rec.now text.now) ix.now }
-    ensures { result ≡ leb (past 0 (source (schema_of m rec.now text.now))) room }
+fn has_room(s: &Index<'_>, room: usize) -> bool
+    ensures { result ≡ leb (past 0 (source s.now)) room }
 {
-    if count(m, rec, text) <= MOST {
-        if source_most(m, rec, text, ix) <= room {
+    if s.count() <= MOST {
+        if source_most(s) <= room {
             return true;
         }
     }
     let mut none = [0u8; 0];
-    put_source(&mut none, 0, m, rec, text, ix) <= room
+    put_source(&mut none, 0, s) <= room
 }
 
 // The array refusals, then the source, where it fits.
-fn generate_in(m: Model, rec: &[u32], text: &[u8], ix: &[u16], out: &mut [u8]) -> Answer
-    requires { Indexed (schema_of m rec.now text.now) ix.now }
-    ensures { Generated (schema_of m rec.now text.now) out.old out.new result }
+fn generate_in(s: &Index<'_>, out: &mut [u8]) -> Answer
+    ensures { Generated s.now out.old out.new result }
 {
-    match array_refusal(m, rec, text, ix) {
+    match array_refusal(s) {
         Arrays::Refused(r) => Answer::Refused(r),
         Arrays::Fine => {
-            if has_room(m, rec, text, ix, out.len()) {
-                let written = put_source(out, 0, m, rec, text, ix);
+            if has_room(s, out.len()) {
+                let written = put_source(out, 0, s);
                 return Answer::Accepted(written);
             }
             Answer::Refused(Refusal::NoRoom)
@@ -65,28 +61,28 @@ fn generate_in(m: Model, rec: &[u32], text: &[u8], ix: &[u16], out: &mut [u8]) -
     }
 }
 
-pub fn generate(m: Model, rec: &[u32], text: &[u8], out: &mut [u8]) -> Answer
-    ensures { Generated (schema_of m rec.now text.now) out.old out.new result }
+pub fn generate(s: &Index<'_>, out: &mut [u8]) -> Answer
+    ensures { Generated s.now out.old out.new result }
 {
-    let n = count(m, rec, text);
+    let n = s.count();
     if n <= LEAST {
         let mut ix = [0u16; LEAST_SIZE];
-        build(m, rec, text, &mut ix);
-        return generate_in(m, rec, text, &ix, out);
+        build(s, &mut ix);
+        return generate_in(s, &ix, out);
     }
     if n <= FEW {
         let mut ix = [0u16; FEW_SIZE];
-        build(m, rec, text, &mut ix);
-        return generate_in(m, rec, text, &ix, out);
+        build(s, &mut ix);
+        return generate_in(s, &ix, out);
     }
     if n <= SOME {
         let mut ix = [0u16; SOME_SIZE];
-        build(m, rec, text, &mut ix);
-        return generate_in(m, rec, text, &ix, out);
+        build(s, &mut ix);
+        return generate_in(s, &ix, out);
     }
     let mut ix = [0u16; SIZE];
-    build(m, rec, text, &mut ix);
-    generate_in(m, rec, text, &ix, out)
+    build(s, &mut ix);
+    generate_in(s, &ix, out)
 }
 
 // The converter: a document, two work buffers and an output are lent. Nothing is asked of the
