@@ -167,7 +167,8 @@ impl<'a> Index<'a> {
 
     // All items of a kind.
     pub fn all_of(&'a self, kind: u32) -> Walk<'a, OfKind>
-        ensures { ahead (λ it. eqb it.kind result.by.kind) result.from result.view.now ≡ all_of kind self.now }
+        ensures list { ahead (λ it. eqb it.kind result.by.kind) result.from result.view.now ≡ all_of kind self.now }
+        ensures few { length self.now.items < 2 ^ 32 }
     {
         self.view.all_of(kind)
     }
@@ -210,8 +211,10 @@ impl<'a> Index<'a> {
 
     // The items of a kind under an owner.
     pub fn children(&'a self, kind: u32, owner: u32) -> Children<'a>
-        ensures { ahead (λ it. eqb it.kind result.kind and eqb it.owner result.owner) result.from result.index.now ≡ under kind owner self.now }
+        ensures list { ahead (λ it. eqb it.kind result.kind and eqb it.owner result.owner) result.from result.index.now ≡ under kind owner self.now }
+        ensures few { length self.now.items < 2 ^ 32 }
     {
+        let _count = self.count();
         Children {
             index: self,
             kind,

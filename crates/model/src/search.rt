@@ -141,8 +141,10 @@ impl<'a> View<'a> {
 
     // All items of a kind.
     pub fn all_of(&'a self, kind: u32) -> Walk<'a, OfKind>
-        ensures { ahead (λ it. eqb it.kind result.by.kind) result.from result.view.now ≡ all_of kind self.now }
+        ensures list { ahead (λ it. eqb it.kind result.by.kind) result.from result.view.now ≡ all_of kind self.now }
+        ensures few { length self.now.items < 2 ^ 32 }
     {
+        let _count = self.count();
         Walk {
             view: self,
             by: OfKind { kind },

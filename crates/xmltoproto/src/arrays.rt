@@ -7,7 +7,7 @@ ghost use Rattle.xmltoproto.specs.Arrays.{first_from, refused_composite, is_arra
 ghost use Rattle.xmltoproto.specs.Refusing.{refusing, Arrayless};
 
 use crate::composites::is_printed;
-use crate::types::{Sense, is_array, sense};
+use crate::types::{Sense, is_array, sense_of};
 use index::seen::Index;
 use model::{COMPOSITE, FIELD, GROUP, MEMBER, MESSAGE};
 use refusals::Refusal;
@@ -99,7 +99,7 @@ impl ArrayTest for ArrayField {
     ghost test = { λ s i. is_array_type (meaning s (item_at s i).second) };
 
     fn passes(&self, s: &Index<'_>, i: u32) -> bool {
-        match sense(s.declared(i), s.second(i)) {
+        match sense_of(s.declared(i), s.second(i)) {
             Sense::Declared => false,
             Sense::Typed(t) => is_member_array(s, t),
             Sense::BuiltIn => false,
@@ -154,13 +154,13 @@ fn has_arrays(s: &Index<'_>) -> bool
 fn first_refusal(s: &Index<'_>) -> Arrays
     ensures { result ≡ refusing (array_refusal s.now) }
 {
-    if let Some(c) = first_place(s, COMPOSITE, &RefusedComposite) {
-        return Arrays::Refused(Refusal::ArrayInComposite { place: c as usize });
+    match first_place(s, COMPOSITE, &RefusedComposite) {
+        Some(c) => Arrays::Refused(Refusal::ArrayInComposite { place: c as usize }),
+        None => match first_place(s, MESSAGE, &RefusedMessage) {
+            Some(i) => Arrays::Refused(Refusal::ArrayInMessage { place: i as usize }),
+            None => Arrays::Fine,
+        },
     }
-    if let Some(i) = first_place(s, MESSAGE, &RefusedMessage) {
-        return Arrays::Refused(Refusal::ArrayInMessage { place: i as usize });
-    }
-    Arrays::Fine
 }
 
 // The same, where there is anything to look for.

@@ -3,6 +3,7 @@
 // Each item is counted at its longest, printed or not, by the kinds of specs/Bound.antt. That the sum is a bound
 // rests on each item having one owner (proofs/Owning.antt).
 ghost use Rattle.std.specs.Prelude.{◌≡◌, List, ℕ, ◌≤◌, length};
+ghost use Rattle.printing.specs.Decimal.{decimal};
 ghost use Rattle.model.specs.Schema.{item_at, a_field};
 ghost use Rattle.model.specs.Shown.{Shows};
 ghost use Rattle.xmltoproto.specs.Source.{source};
@@ -71,12 +72,20 @@ fn item_most(s: &Index<'_>, i: u32) -> usize
     }
 }
 
+// A number has at most ten digits.
+fn digits_most(n: u32) -> usize
+    ensures { (length (decimal n) ≤ result) × (result ≤ 10) }
+{
+    10
+}
+
 // At least the length of the source.
 pub fn source_most(s: &Index<'_>) -> usize
     requires { (length s.now.items ≤ 1024) }
     ensures { length (source s.now) ≤ result }
 {
-    let mut most = 137 + s.package().len();
+    let package = s.package();
+    let mut most = 117 + package.len() + digits_most(s.id()) + digits_most(s.version());
     for i in 0..s.count() {
         most += item_most(s, i);
     }

@@ -16,10 +16,10 @@ mod messages;
 pub mod source;
 mod typed;
 pub mod types;
-pub mod view;
 
-ghost use Rattle.std.specs.Prelude.{◌≡◌, leb, length};
+ghost use Rattle.std.specs.Prelude.{◌≡◌, ◌≤◌, leb, length, replicate};
 ghost use Rattle.printing.specs.Printed.{past};
+ghost use Rattle.index.specs.Index.{Blank};
 ghost use Rattle.xmltoproto.specs.Source.{source};
 ghost use Rattle.xmltoproto.specs.Generate.{Generated};
 ghost use Rattle.xmltoproto.specs.Convert.{Converts};
@@ -27,8 +27,9 @@ ghost use Rattle.xmltoproto.specs.Convert.{Converts};
 use crate::arrays::{Arrays, array_refusal};
 use crate::bound::source_most;
 use crate::source::put_source;
-use index::{FEW, FEW_SIZE, LEAST, LEAST_SIZE, MOST, SIZE, SOME, SOME_SIZE, build};
-use model::{Model, count};
+use index::seen::Index;
+use index::{FEW, FEW_SIZE, LEAST, LEAST_SIZE, MOST, SIZE, SOME, SOME_SIZE};
+use model::view::View;
 use refusals::{Answer, Refusal};
 use xmlschema::build::{Schema, read_schema};
 
@@ -61,28 +62,30 @@ fn generate_in(s: &Index<'_>, out: &mut [u8]) -> Answer
     }
 }
 
-pub fn generate(s: &Index<'_>, out: &mut [u8]) -> Answer
-    ensures { Generated s.now out.old out.new result }
+// The same with an index of `N` numbers.
+fn generate_with<const N: usize>(schema: View<'_>, out: &mut [u8]) -> Answer
+    requires { Blank schema (replicate N 0) × (N ≤ 13312) }
+    ensures { Generated schema.entry out.old out.new result }
 {
-    let n = s.count();
+    let mut links = [0u16; N];
+    let s = Index::of(schema, &mut links);
+    generate_in(&s, out)
+}
+
+pub fn generate(schema: View<'_>, out: &mut [u8]) -> Answer
+    ensures { Generated schema.entry out.old out.new result }
+{
+    let n = schema.count();
     if n <= LEAST {
-        let mut ix = [0u16; LEAST_SIZE];
-        build(s, &mut ix);
-        return generate_in(s, &ix, out);
+        return generate_with::<LEAST_SIZE>(schema, out);
     }
     if n <= FEW {
-        let mut ix = [0u16; FEW_SIZE];
-        build(s, &mut ix);
-        return generate_in(s, &ix, out);
+        return generate_with::<FEW_SIZE>(schema, out);
     }
     if n <= SOME {
-        let mut ix = [0u16; SOME_SIZE];
-        build(s, &mut ix);
-        return generate_in(s, &ix, out);
+        return generate_with::<SOME_SIZE>(schema, out);
     }
-    let mut ix = [0u16; SIZE];
-    build(s, &mut ix);
-    generate_in(s, &ix, out)
+    generate_with::<SIZE>(schema, out)
 }
 
 // The converter: a document, two work buffers and an output are lent. Nothing is asked of the
@@ -97,6 +100,6 @@ pub fn xml_to_proto(
 {
     match read_schema(document, records, text) {
         Schema::Refused(r) => Answer::Refused(r),
-        Schema::Accepted(m) => generate(m, records, text, output),
+        Schema::Accepted(m) => generate(View::new(m, records, text), output),
     }
 }

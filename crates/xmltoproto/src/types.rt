@@ -7,7 +7,6 @@ ghost use Rattle.xmltoproto.specs.Types.{built_ins, chars, is_byte, is_raw, is_a
 ghost use Rattle.xmltoproto.specs.Shapes.{form, proto_in, meaning_in};
 ghost use Rattle.xmltoproto.specs.Names.{signed_names, unsigned_names, other_primitives};
 
-use crate::view::second_at;
 use charsets::is_compatible;
 use index::seen::Declaration;
 use texts::equal;
@@ -164,7 +163,7 @@ pub fn is_built_in(name: &[u8]) -> bool
 }
 
 // Enums, composites, types: the last declaration of the name wins; a built-in where there is none.
-pub fn sense(declared: Option<Declaration>, name: &[u8]) -> Sense
+pub fn sense_of(declared: Option<Declaration>, name: &[u8]) -> Sense
     ensures { (s : Schema) → declared ≡ declaration_of s name.now → meaning_in s name.now result ≡ meaning s name.now }
 {
     match declared {

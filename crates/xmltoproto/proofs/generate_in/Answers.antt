@@ -1,34 +1,14 @@
 use Prim.Native.Nat.{◌<◌, ◌^◌}
 use native.Mathlib.Omega.{arith}
 use lib.ListN.{length}
-use Rattle.xmltoproto.proofs.Laws.{generate as laws}
+use Rattle.xmltoproto.proofs.Generating.{generated-refused, generated-no-room, generated-wrote}
 use Rattle.xmltoproto.proofs.generate_in.Goals as goal
 
-pub array_refusal-requires : goal.array_refusal-requires
-array_refusal-requires c = search laws
-
-pub enum_known-r : goal.enum_known-r
-enum_known-r c = search laws
-
-pub enum_told-1 : goal.enum_told-1
-enum_told-1 c = search laws
-
-pub has_room-requires : goal.has_room-requires
-has_room-requires c = search laws
-
-pub put_source-written-requires : goal.put_source-written-requires
-put_source-written-requires c = search laws
-
-pub shape_of-out-then-has_room : goal.shape_of-out-then-has_room
-shape_of-out-then-has_room c = search laws
-
 pub returns-then-has_room : goal.returns-then-has_room
-returns-then-has_room c =
-    let l : length c.args.out.now < 2 ^ 63 = omega arith in
-    search laws
+returns-then-has_room c = let l : length c.args.out.now < 2 ^ 63 = omega arith in generated-wrote _ _ c.array_refusal.ensures c.in-Fine.is c.has_room.ensures c.if-has_room.true l c.put_source-written.ensures
 
 pub returns-in-Refused : goal.returns-in-Refused
-returns-in-Refused c = search laws
+returns-in-Refused c = generated-refused _ _ c.array_refusal.ensures c.in-Refused.is
 
 pub returns-else-has_room : goal.returns-else-has_room
-returns-else-has_room c = search laws
+returns-else-has_room c = generated-no-room _ _ c.array_refusal.ensures c.in-Fine.is c.has_room.ensures c.if-has_room.false

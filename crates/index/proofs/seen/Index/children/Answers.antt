@@ -3,6 +3,6 @@ use Rattle.model.specs.Schema.{under}
 use Rattle.model.specs.Search.{ahead}
 use Rattle.index.proofs.seen.Index.children.Goals as goal
 
-pub returns : goal.returns
+pub returns-clause-list : goal.returns-clause-list
 unfolding ahead under
-returns c = refl
+returns-clause-list c = refl
