@@ -1,9 +1,7 @@
 -- Laws of closing an element, and of text.
-use Rattle.std.specs.Prelude.{Some, None}
 use mathlib.Core.Path.{◌≡◌, refl, sym, ap, subst, ◌∙◌}
 use mathlib.Core.Bool.{Bool, true, false}
 use mathlib.Core.List.{List, [], ◌++◌}
-use mathlib.Core.Option.{Option, none, some}
 use Prim.Native.Nat.{ℕ, ◌+◌, ◌*◌, ◌-◌, ◌≤◌, ◌<◌}
 use native.Mathlib.Omega.{arith}
 use mir.Val.{Fits}
@@ -19,20 +17,20 @@ use Rattle.entities.specs.Entities.{decoded}
 use Rattle.model.specs.Schema.{Schema, no_item, under, last, positions_from, a_value}
 use Rattle.model.specs.Search.{last_under}
 use Rattle.builder.specs.Builder.{Builder, Currents, on, refused, with_stack, with_text, with_schema, with_second, given_to, close_value, close_by, closed, collect, top, rest}
-use Rattle.model.specs.Store.{entry_at, words_of, item_of, items_of, schema_of, found}
+use Rattle.model.specs.Store.{entry_at, words_of, item_of, items_of, schema_of}
 use Rattle.builder.specs.Layout.{current, model_in, builder_of, stack_of, recurrent, valued, given_at, higher, Alike, Kept, Ready, After, used_by}
 use Rattle.elements.specs.Elements.{element_of, other_element_of}
 use Rattle.elements.specs.Leaf.{leaf}
 use Rattle.elements.specs.declared.Element.{Element}
 use Rattle.elements.specs.declared.Element.TheVariants as element
 use Rattle.model.specs.declared.Entry.{Entry}
-use Rattle.model.specs.declared.Position.{Position}
-use Rattle.model.specs.declared.Position.TheVariants.{At, Nothing}
+use Rattle.model.specs.declared.Model.{Model}
+use Rattle.std.specs.Prelude.{Option, None, Some}
 use Rattle.builder.specs.declared.state.State.{State}
 use Rattle.builder.specs.declared.state.Stepped.{Stepped}
 use Rattle.builder.specs.declared.state.Verdict.TheVariants.{Fine, Refused}
 use Rattle.model.proofs.Records.{items-set, get_or-items}
-use Rattle.model.proofs.Searching.{owned_so, last-below}
+use Rattle.model.proofs.Searching.{owned_so, last_in}
 use Rattle.builder.proofs.Alikes.{alike_self, alike-sets, alike-trans, alike-lower}
 use Rattle.builder.proofs.Stacking.{stack-put, pop-builder}
 use Rattle.builder.proofs.Adding.{after-as, after-refused}
@@ -41,28 +39,17 @@ use Rattle.builder.proofs.Takes.{decoded-most}
 
 -- ---- a value given
 
-found_at : (o : Option ℕ) {i : ℕ} → At i ≡ found o → o ≡ some i
-found_at none e = absurd (let z : ◌≡◌ {A = ℕ} 0 1 = cc in omega arith)
-found_at (some j) {i} e = let z : j ≡ i = cc in rw z
+-- o is what the search answered
+module _ (m : Model) (rec text : List ℕ) (owner : ℕ) (v : Range) {o : Option ℕ} (f : o ≡ last_under a_value owner (schema_of m rec text).items) where
+  pub give-none : o ≡ None → rec ≡ given_at (last_under a_value owner (schema_of m rec text).items) v rec
+  give-none e = rw (sym f ∙ e)
 
-found_none : (o : Option ℕ) → Nothing ≡ found o → o ≡ none
-found_none none e = refl
-found_none (some j) e = absurd (let z : ◌≡◌ {A = ℕ} 0 1 = cc in omega arith)
+  pub give-fits : {i : ℕ} → o ≡ Some i → m.count ≤ 1024 → 16384 ≤ length rec → 15 * i + 10 ≤ length rec
+  unfolding last_under schema_of
+  give-fits {i} e h k = omega (arith, last_in (owned_so a_value owner) m.count rec text (sym f ∙ e))
 
--- p is what the search answered
-module _ (rec : List ℕ) (count owner : ℕ) (v : Range) {p : Position} (f : (text : List ℕ) → p ≡ found (last_under a_value owner (items_of count rec text))) where
-  pub give-none : p ≡ Nothing → (text : List ℕ) → rec ≡ given_at (last_under a_value owner (items_of count rec text)) v rec
-  give-none e text = rw (found_none (last_under a_value owner (items_of count rec text)) (sym e ∙ f text))
-
-  pub give-below : {i : ℕ} → p ≡ At i → i < count
-  unfolding last_under
-  give-below {i} e = last-below (owned_so a_value owner) count rec [] (found_at (last_under a_value owner (items_of count rec [])) (sym e ∙ f []))
-
-  pub give-fits : {i : ℕ} → p ≡ At i → count ≤ 1024 → 16384 ≤ length rec → 15 * i + 10 ≤ length rec
-  give-fits {i} e h k = omega (arith, give-below e)
-
-  pub give-some : {i : ℕ} → p ≡ At i → {e : Entry} → e ≡ entry_at rec i → {rec' : List ℕ} → rec' ≡ sets rec (15 * i) (words_of (valued v e)) → (text : List ℕ) → rec' ≡ given_at (last_under a_value owner (items_of count rec text)) v rec
-  give-some q ee er text = er ∙ rw (found_at (last_under a_value owner (items_of count rec text)) (sym q ∙ f text), ee)
+  pub give-some : {i : ℕ} → o ≡ Some i → {e : Entry} → e ≡ entry_at rec i → {rec' : List ℕ} → rec' ≡ sets rec (15 * i) (words_of (valued v e)) → rec' ≡ given_at (last_under a_value owner (schema_of m rec text).items) v rec
+  give-some q ee er = er ∙ rw (sym f ∙ q, ee)
 
 valued-item : (t : List ℕ) (v : Range) (e : Entry) (w : List ℕ) → piece t v.from v.len ≡ w → item_of t (valued v e) ≡ with_second w (item_of t e)
 unfolding item_of
@@ -89,15 +76,15 @@ module _ (s : State) (doc rec text : List ℕ) (k : Kept s rec text) (v : Range)
       go : (o : Option ℕ) → last (positions_from 0 (owned_so a_value owner) (items_of s.place.count rec text)) ≡ o
           → record { package_name = piece t s.head.name s.head.len; id = s.head.id; version = s.head.version; items = items_of s.place.count (given_at o v rec) t }
           ≡ given_to o value (record { package_name = piece text s.head.name s.head.len; id = s.head.id; version = s.head.version; items = items_of s.place.count rec text })
-      go none q = st
-      go (some i) q =
-          let h : i < s.place.count = last-below (owned_so a_value owner) s.place.count rec text q in
+      go None q = st
+      go (Some i) q =
+          let h : i < s.place.count = last_in (owned_so a_value owner) s.place.count rec text q in
           let items : items_of s.place.count rec t ≡ items_of s.place.count rec text = ap (λ (x : Schema). x.items) st in
           let pk : piece t s.head.name s.head.len ≡ piece text s.head.name s.head.len = ap (λ (x : Schema). x.package_name) st in
           let e : item_of t (entry_at rec i) ≡ item_of text (entry_at rec i) = sym (get_or-items s.place.count rec t i h) ∙ ap (λ l. get_or l i no_item) items ∙ get_or-items s.place.count rec text i h in
           let n : item_of t (valued v (entry_at rec i)) ≡ with_second value (get_or (items_of s.place.count rec text) i no_item) =
           valued-item t v (entry_at rec i) value (same-value t a) ∙ ap (with_second value) (e ∙ sym (get_or-items s.place.count rec text i h)) in
-          let w' : items_of s.place.count (given_at (some i) v rec) t ≡ set (items_of s.place.count rec text) i (with_second value (get_or (items_of s.place.count rec text) i no_item)) =
+          let w' : items_of s.place.count (given_at (Some i) v rec) t ≡ set (items_of s.place.count rec text) i (with_second value (get_or (items_of s.place.count rec text) i no_item)) =
           items-set s.place.count rec t i (valued v (entry_at rec i)) (omega (arith, k.many, k.records)) h ∙ ap (λ l. set l i (item_of t (valued v (entry_at rec i)))) items ∙ ap (set (items_of s.place.count rec text) i) n in
           rw (w', pk)
 
@@ -106,15 +93,15 @@ module _ (s : State) (doc rec text : List ℕ) (k : Kept s rec text) (v : Range)
   given-stack = go (last (positions_from 0 (owned_so a_value owner) (items_of s.place.count rec text))) refl
     where
       go : (o : Option ℕ) → last (positions_from 0 (owned_so a_value owner) (items_of s.place.count rec text)) ≡ o → stack_of s.place.depth (given_at o v rec) doc ≡ stack_of s.place.depth rec doc
-      go none q = refl
-      go (some i) q = stack-put s.place.depth i rec doc (valued v (entry_at rec i)) (omega (arith, last-below (owned_so a_value owner) s.place.count rec text q, k.many))
+      go None q = refl
+      go (Some i) q = stack-put s.place.depth i rec doc (valued v (entry_at rec i)) (omega (arith, last_in (owned_so a_value owner) s.place.count rec text q, k.many))
 
   given-long : length rec' ≡ length rec
   given-long = go (last_under a_value owner (items_of s.place.count rec text))
     where
       go : (o : Option ℕ) → length (given_at o v rec) ≡ length rec
-      go none = refl
-      go (some i) = length-sets rec (15 * i) (words_of (valued v (entry_at rec i)))
+      go None = refl
+      go (Some i) = length-sets rec (15 * i) (words_of (valued v (entry_at rec i)))
 
 -- ---- a validValue closes
 
@@ -147,11 +134,12 @@ module _ (s : State) (doc rec text : List ℕ) (k : Kept s rec text) {a : Steppe
       }))
 
   pub value-given : (s.current.enumer ≡ 0 → ⊥) → {v : Range} → TrimmedTo text s.place.start (s.place.low - s.place.start) v → {rec' : List ℕ}
-      → ((t : List ℕ) → rec' ≡ given_at (last_under a_value (s.current.enumer - 1) (items_of s.place.count rec t)) v rec) → After (on (close_value (builder_of s doc rec text))) s 0 doc a rec' text
+      → rec' ≡ given_at (last_under a_value (s.current.enumer - 1) (schema_of (model_in s) rec text).items) v rec → After (on (close_value (builder_of s doc rec text))) s 0 doc a rec' text
+  unfolding schema_of
   value-given z {v} w er =
       let o : s.place.low - s.place.low ≡ 0 = omega arith in
       let owner = s.current.enumer - 1 in
-      rw (ea, er text)
+      rw (ea, er)
       (after-as (ap on (value-some (builder_of s doc rec text) (current-some s.current.enumer z)))
       (record {
         is = rw (o, given-stack s doc rec text k v w owner, given-schema s doc rec text k v w owner text alike_self);

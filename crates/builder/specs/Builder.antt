@@ -1,6 +1,5 @@
 -- 01, "The builder": what one event makes of its state.
 use Rattle.std.specs.Prelude.{Bool, true, false, List, [], ◌∷◌, ◌++◌, ℕ, eqb, leb, length, set, Option, Some, None}
-use Rattle.std.proofs.Math.Option as math
 use Prim.Native.String.{String}
 use Rattle.texts.specs.Choice.{pick}
 use Rattle.texts.specs.Text.{ascii, same}
@@ -227,9 +226,9 @@ abbrev pub with_second : List ℕ → Item → Item
 with_second v it = record { kind = it.kind; owner = it.owner; name = it.name; second = v; number = it.number; given = it.given; encoding = it.encoding }
 
 -- a value given to the item at a position, if there is one
-abbrev pub given_to : math.Option ℕ → List ℕ → Schema → Schema
-given_to math.none v s = s
-given_to (math.some i) v s = with_items (set s.items i (with_second v (item_at s i))) s
+abbrev pub given_to : Option ℕ → List ℕ → Schema → Schema
+given_to None v s = s
+given_to (Some i) v s = with_items (set s.items i (with_second v (item_at s i))) s
 
 -- the collected text, trimmed, is the value of the last value of the current enum
 abbrev pub value_of_enum : Option ℕ → Builder → Builder

@@ -1,6 +1,5 @@
 -- How the builder's state lies in the state by value, the records and the text, and what each step keeps of it. Internal.
 use Rattle.std.specs.Prelude.{◌≡◌, Bool, List, [], ◌∷◌, ℕ, zero, suc, ◌+◌, ◌*◌, ◌-◌, ◌≤◌, length, get_or, take, drop, set, Option, Some, None}
-use Rattle.std.proofs.Math.Option as math
 use Rattle.std.proofs.lemmas.List.Edits.{sets}
 use Rattle.texts.specs.Text.{ascii, piece, same}
 use Rattle.texts.specs.declared.Range.{Range}
@@ -78,9 +77,9 @@ recurrent s composite enumer message group = record { place = s.place; current =
 abbrev pub valued : Range → Entry → Entry
 valued r e = record { kind = e.kind; owner = e.owner; name = e.name; nlen = e.nlen; second = r.from; slen = r.len; number = e.number; given = e.given; encoding = e.encoding; elen = e.elen }
 
-abbrev pub given_at : math.Option ℕ → Range → List ℕ → List ℕ
-given_at math.none r rec = rec
-given_at (math.some i) r rec = sets rec (15 * i) (words_of (valued r (entry_at rec i)))
+abbrev pub given_at : Option ℕ → Range → List ℕ → List ℕ
+given_at None r rec = rec
+given_at (Some i) r rec = sets rec (15 * i) (words_of (valued r (entry_at rec i)))
 
 -- t is a text as far as it is used: below low, and from high on
 pub record Alike (low high : ℕ) (text t : List ℕ) : Type 0 where

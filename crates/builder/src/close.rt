@@ -5,7 +5,7 @@ ghost use Rattle.texts.specs.Text.{piece};
 ghost use Rattle.entities.specs.Entities.{decoded};
 ghost use Rattle.model.specs.Schema.{a_value};
 ghost use Rattle.model.specs.Search.{last_under};
-ghost use Rattle.model.specs.Store.{items_of};
+ghost use Rattle.model.specs.Store.{schema_of};
 ghost use Rattle.builder.specs.Builder.{on, close_value, close_by, closed, collect};
 ghost use Rattle.builder.specs.Layout.{builder_of, recurrent, given_at, Kept, Ready, After};
 
@@ -13,38 +13,37 @@ use crate::stack::{is_open, pop};
 use crate::state::{Current, Place, State, Stepped, Verdict};
 use elements::{Element, element_at};
 use entities::decode_room;
-use model::{Entry, Position, VALUE, entry_at, last_under, put_entry};
+use model::view::View;
+use model::{Entry, Model, VALUE, entry_at, put_entry};
 use refusals::Refusal;
 use texts::{Range, trim_range};
 
 // A range of the text becomes the value of the last value of an enum, if it has one.
-fn give(rec: &mut [u32], count: u32, owner: u32, value: Range)
-    requires { (count ≤ 1024) × (16384 ≤ length rec.old) × (value.from + value.len ≤ 65536) }
-    ensures { (text : List ℕ) → rec.new ≡ given_at (last_under a_value owner (items_of count rec.old text)) value rec.old }
+fn give(m: Model, rec: &mut [u32], text: &[u8], owner: u32, value: Range)
+    requires { (m.count ≤ 1024) × (16384 ≤ length rec.old) × (value.from + value.len ≤ 65536) }
+    ensures { rec.new ≡ given_at (last_under a_value owner (schema_of m rec.old text.now).items) value rec.old }
 {
-    match last_under(rec, count, VALUE, owner) {
-        Position::Nothing => {}
-        Position::At(i) => {
-            let e = entry_at(rec, i);
-            let second = value.from as u32;
-            let slen = value.len as u32;
-            put_entry(
-                rec,
-                i,
-                Entry {
-                    kind: e.kind,
-                    owner: e.owner,
-                    name: e.name,
-                    nlen: e.nlen,
-                    second,
-                    slen,
-                    number: e.number,
-                    given: e.given,
-                    encoding: e.encoding,
-                    elen: e.elen,
-                },
-            );
-        }
+    let last = View::new(m, rec, text).last_under(VALUE, owner);
+    if let Some(i) = last {
+        let e = entry_at(rec, i);
+        let second = value.from as u32;
+        let slen = value.len as u32;
+        put_entry(
+            rec,
+            i,
+            Entry {
+                kind: e.kind,
+                owner: e.owner,
+                name: e.name,
+                nlen: e.nlen,
+                second,
+                slen,
+                number: e.number,
+                given: e.given,
+                encoding: e.encoding,
+                elen: e.elen,
+            },
+        );
     }
 }
 
@@ -78,7 +77,11 @@ fn close_value(s: State, doc: &[u8], rec: &mut [u32], text: &[u8]) -> Stepped
     }
     let start = s.place.start;
     let value = trim_range(text, start, s.place.low - start);
-    give(rec, s.place.count, enumer - 1, value);
+    let m = Model {
+        head,
+        count: s.place.count,
+    };
+    give(m, rec, text, enumer - 1, value);
     fine(cleared)
 }
 

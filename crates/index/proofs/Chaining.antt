@@ -1,7 +1,7 @@
 -- The chains of the first items' names, and one more item behind them.
 use mathlib.Core.Path.{◌≡◌, refl, sym, ap, ◌∙◌}
 use mathlib.Core.Bool.{Bool, true, false}
-use mathlib.Core.Option.{Option, none, some}
+use Rattle.std.specs.Prelude.{Option, Some, None}
 use mathlib.Core.List.{List}
 use Prim.Native.Nat.{ℕ, zero, suc, ◌+◌, ◌*◌, ◌-◌, ◌≤◌, ◌<◌}
 use native.Mathlib.Numerals.{add-one}
@@ -26,24 +26,24 @@ module _ (p q : Item → Bool) (s : Schema) (narrow : (it : Item) → p it ≡ t
   missed : (it : Item) → q it ≡ false → p it ≡ false
   missed it f = by-test (p it) (λ t. absurd (let e = sym (narrow it t) ∙ f in let z : ◌≡◌ {A = ℕ} 0 1 = cc in omega arith)) (λ g. g)
 
-  pub none_passes : (n : ℕ) → n ≤ length s.items → last_by q n s ≡ none → last_by p n s ≡ none
+  pub none_passes : (n : ℕ) → n ≤ length s.items → last_by q n s ≡ None → last_by p n s ≡ None
   unfolding positions_from last
   none_passes zero h e = refl
   none_passes (suc n) h e =
       by-test (q (item_at s n))
-      (λ t. absurd (let w : some n ≡ none = sym (last-yes q s n h t) ∙ (rw add-one e) in let z : ◌≡◌ {A = ℕ} 0 1 = cc (w) in omega arith))
-      (λ f. let u : last_by q n s ≡ none = sym (last-no q s n h f) ∙ (rw add-one e) in
-      let v : last_by p (n + 1) s ≡ none = last-no p s n h (missed (item_at s n) f) ∙ none_passes n (omega arith) u in rw add-one at v)
+      (λ t. absurd (let w : Some n ≡ None = sym (last-yes q s n h t) ∙ (rw add-one e) in let z : ◌≡◌ {A = ℕ} 0 1 = cc (w) in omega arith))
+      (λ f. let u : last_by q n s ≡ None = sym (last-no q s n h f) ∙ (rw add-one e) in
+      let v : last_by p (n + 1) s ≡ None = last-no p s n h (missed (item_at s n) f) ∙ none_passes n (omega arith) u in rw add-one at v)
 
-  pub some-passes : (n : ℕ) → n ≤ length s.items → (j : ℕ) → last_by q n s ≡ some j → (j < n) × (q (item_at s j) ≡ true) × (last_by p n s ≡ last_by p (j + 1) s)
+  pub some-passes : (n : ℕ) → n ≤ length s.items → (j : ℕ) → last_by q n s ≡ Some j → (j < n) × (q (item_at s j) ≡ true) × (last_by p n s ≡ last_by p (j + 1) s)
   unfolding positions_from last
   some-passes zero h j e = absurd (let z : ◌≡◌ {A = ℕ} 0 1 = cc in omega arith)
   some-passes (suc n) h j e =
       by-test (q (item_at s n))
-      (λ t. let w : some n ≡ some j = sym (last-yes q s n h t) ∙ (rw add-one e) in
+      (λ t. let w : Some n ≡ Some j = sym (last-yes q s n h t) ∙ (rw add-one e) in
       let z : n ≡ j = cc (w) in
       (omega arith, rw (sym z) t, rw (sym z, add-one)))
-      (λ f. let u : last_by q n s ≡ some j = sym (last-no q s n h f) ∙ (rw add-one e) in
+      (λ f. let u : last_by q n s ≡ Some j = sym (last-no q s n h f) ∙ (rw add-one e) in
       let ih = some-passes n (omega arith) j u in
       let l : j < n = ih.0 in
       let v : last_by p (n + 1) s ≡ last_by p (j + 1) s = last-no p s n h (missed (item_at s n) f) ∙ ih.2 in
@@ -51,15 +51,15 @@ module _ (p q : Item → Bool) (s : Schema) (narrow : (it : Item) → p it ≡ t
 
 -- ---- the chains
 
-pub code-none : (o : Option ℕ) → code o ≡ 0 → o ≡ none
-code-none none e = refl
-code-none (some i) e = absurd (omega arith)
+pub code-none : (o : Option ℕ) → code o ≡ 0 → o ≡ None
+code-none None e = refl
+code-none (Some i) e = absurd (omega arith)
 
-pub code-some : (o : Option ℕ) (p : ℕ) → 0 < p → p ≡ code o → o ≡ some (p - 1)
-code-some none p h e = absurd (omega arith)
-code-some (some i) p h e = let z : i ≡ p - 1 = omega arith in rw z
+pub code-some : (o : Option ℕ) (p : ℕ) → 0 < p → p ≡ code o → o ≡ Some (p - 1)
+code-some None p h e = absurd (omega arith)
+code-some (Some i) p h e = let z : i ≡ p - 1 = omega arith in rw z
 
--- none so far
+-- None so far
 pub chained-start : (s : Schema) (ix : List ℕ) → ((k : ℕ) → get_or ix k 0 ≡ 0) → Chained s 0 ix
 unfolding last_hashed positions_from last
 chained-start s ix z =
@@ -84,7 +84,7 @@ module _ (s : Schema) (ix : List ℕ) (n : ℕ) (c : Chained s n ix) (h : n < le
   unfolding last_hashed
   head-kept b l f = c.head b l ∙ ap code (sym (last-no (hashed s b) s n h f))
 
-  head-new : declares (item_at s n).kind ≡ true → last_hashed (place s (item_at s n).name) (n + 1) s ≡ some n
+  head-new : declares (item_at s n).kind ≡ true → last_hashed (place s (item_at s n).name) (n + 1) s ≡ Some n
   unfolding last_hashed
   head-new d = last-yes (hashed s (place s (item_at s n).name)) s n h (is-hashed s (item_at s n) d)
 

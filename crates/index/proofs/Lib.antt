@@ -1,4 +1,3 @@
--- Laws of the index.
 pub mod Fronting
 pub mod Hashing
 pub mod Linking

@@ -1,6 +1,6 @@
 -- The links of the items from a place on, and one more item before them.
 use mathlib.Core.Path.{◌≡◌, sym, ap, ◌∙◌}
-use mathlib.Core.Option.{none, some}
+use Rattle.std.specs.Prelude.{Some, None}
 use mathlib.Core.List.{List}
 use Prim.Native.Nat.{ℕ, suc, ◌+◌, ◌*◌, ◌≤◌, ◌<◌}
 use native.Mathlib.Numerals.{add-one}
@@ -19,12 +19,12 @@ use Rattle.index.proofs.Fronting.{fronted-head, fronted-at, fronted-other}
 
 -- ---- one step of the model's search
 
-pub under-end : (s : Schema) (k o j : ℕ) → length s.items ≤ j → next_under k o j s ≡ none
+pub under-end : (s : Schema) (k o j : ℕ) → length s.items ≤ j → next_under k o j s ≡ None
 unfolding next_under positions_from first
 under-end s k o j h = rw (drop_of_length-le s.items h)
 
 module _ (s : Schema) (k o j : ℕ) (h : j < length s.items) where
-  pub under-hit : (item_at s j).kind ≡ k → (item_at s j).owner ≡ o → next_under k o j s ≡ some j
+  pub under-hit : (item_at s j).kind ≡ k → (item_at s j).owner ≡ o → next_under k o j s ≡ Some j
   unfolding next_under
   under-hit ek eo = rw (drop-cons s.items j no_item) (first-yes (owned_so k o) j (item_at s j) (drop (suc j) s.items) (rw (eq-eqb (item_at s j).kind k ek, eq-eqb (item_at s j).owner o eo)))
 
@@ -37,7 +37,7 @@ module _ (s : Schema) (k o j : ℕ) (h : j < length s.items) where
 
 -- ---- the links
 
--- none so far
+-- None so far
 pub linked-start : (s : Schema) (ix : List ℕ) → ((k o : ℕ) → k < 10 → o < length s.items → get_or ix (12 * o + 2 + k) 0 ≡ 0) → (n : ℕ) → length s.items ≤ n → Linked s n ix
 linked-start s ix z n h =
     record {

@@ -1,7 +1,7 @@
 -- Following a chain for what a name is declared as.
 use mathlib.Core.Path.{◌≡◌, refl, sym, ap, ◌∙◌}
 use mathlib.Core.Bool.{Bool, true, false}
-use mathlib.Core.Option.{Option, none, some}
+use Rattle.std.specs.Prelude.{Option, Some, None}
 use mathlib.Core.List.{List}
 use Prim.Native.Nat.{ℕ, ◌+◌, ◌*◌, ◌-◌, ◌≤◌, ◌<◌}
 use native.Mathlib.Omega.{arith}
@@ -15,11 +15,7 @@ use Rattle.texts.proofs.Choosing.{by-test, both_true}
 use Rattle.texts.proofs.Comparing.{same-equal}
 use Rattle.model.specs.Schema.{Item, Schema, item_at, last_named, a_type, a_composite, an_enum}
 use Rattle.model.proofs.Searching.{named_so}
-use Rattle.model.specs.Store.{item_of, schema_of}
-use Rattle.model.specs.declared.Entry.{Entry}
-use Rattle.model.specs.declared.Model.{Model}
 use Rattle.ordered.specs.Ordered.{declares, last_by}
-use Rattle.ordered.proofs.Reading.{kind-is, name-is}
 use Rattle.ordered.proofs.Lasts.{last_step}
 use Rattle.ordered.proofs.Numbering.{by_kind}
 use Rattle.index.specs.Declarations.{declared_by, declaration_of, number_of, kept_by}
@@ -29,58 +25,58 @@ use Rattle.index.proofs.Chaining.{none_passes, some-passes, code-none, code-some
 -- ---- what is kept
 
 type_number : Option ℕ → ℕ
-type_number none = 0
-type_number (some i) = i + 2
+type_number None = 0
+type_number (Some i) = i + 2
 
 -- the number, where `kept` is kept and e, c, t are the last enum, composite and type of the name that are still to come
 pub chosen : ℕ → Option ℕ → Option ℕ → Option ℕ → ℕ
-chosen kept (some i) c t = 1
-chosen kept none (some i) t = 1
-chosen kept none none t = pick (ltb 0 kept) kept (type_number t)
+chosen kept (Some i) c t = 1
+chosen kept None (Some i) t = 1
+chosen kept None None t = pick (ltb 0 kept) kept (type_number t)
 
 chosen-first : (e c t : Option ℕ) → chosen 0 e c t ≡ number_of (declared_by e c t)
 unfolding chosen type_number
-chosen-first (some i) c t = refl
-chosen-first none (some i) t = refl
-chosen-first none none (some i) = refl
-chosen-first none none none = refl
+chosen-first (Some i) c t = refl
+chosen-first None (Some i) t = refl
+chosen-first None None (Some i) = refl
+chosen-first None None None = refl
 
-chosen_last : (kept : ℕ) → chosen kept none none none ≡ kept
+chosen_last : (kept : ℕ) → chosen kept None None None ≡ kept
 unfolding chosen type_number
 chosen_last kept = by-test (ltb 0 kept) (λ t. rw t) (λ f. let l = ltb-false 0 kept f in let z : 0 ≡ kept = omega arith in rw f z)
 
 chosen-one : (e c t : Option ℕ) → chosen 1 e c t ≡ 1
 unfolding chosen
-chosen-one (some i) c t = refl
-chosen-one none (some i) t = refl
-chosen-one none none t = refl
+chosen-one (Some i) c t = refl
+chosen-one None (Some i) t = refl
+chosen-one None None t = refl
 
 -- one item of each kind: b where it has the name
 module _ (kept j : ℕ) where
-  step-type : (b : Bool) (e c t : Option ℕ) → chosen kept e c (pick b (some j) t) ≡ chosen (pick (ltb 0 kept) kept (pick b (j + 2) 0)) e c t
+  step-type : (b : Bool) (e c t : Option ℕ) → chosen kept e c (pick b (Some j) t) ≡ chosen (pick (ltb 0 kept) kept (pick b (j + 2) 0)) e c t
   unfolding chosen type_number
-  step-type b (some i) c t = refl
-  step-type b none (some i) t = refl
-  step-type b none none t = go b (ltb 0 kept) refl
+  step-type b (Some i) c t = refl
+  step-type b None (Some i) t = refl
+  step-type b None None t = go b (ltb 0 kept) refl
     where
-      go : (b w : Bool) → ltb 0 kept ≡ w → pick (ltb 0 kept) kept (type_number (pick b (some j) t)) ≡ pick (ltb 0 (pick (ltb 0 kept) kept (pick b (j + 2) 0))) (pick (ltb 0 kept) kept (pick b (j + 2) 0)) (type_number t)
+      go : (b w : Bool) → ltb 0 kept ≡ w → pick (ltb 0 kept) kept (type_number (pick b (Some j) t)) ≡ pick (ltb 0 (pick (ltb 0 kept) kept (pick b (j + 2) 0))) (pick (ltb 0 kept) kept (pick b (j + 2) 0)) (type_number t)
       go b true f = rw (f, f)
       go true false f = rw (f, lt-ltb 0 (j + 2) (omega arith))
       go false false f = rw f
 
-  step-composite : (b : Bool) (e c t : Option ℕ) → chosen kept e (pick b (some j) c) t ≡ chosen (pick b 1 kept) e c t
+  step-composite : (b : Bool) (e c t : Option ℕ) → chosen kept e (pick b (Some j) c) t ≡ chosen (pick b 1 kept) e c t
   unfolding chosen
   step-composite false e c t = refl
-  step-composite true (some i) c t = refl
-  step-composite true none c t = sym (chosen-one none c t)
+  step-composite true (Some i) c t = refl
+  step-composite true None c t = sym (chosen-one None c t)
 
-  step-enum : (b : Bool) (e c t : Option ℕ) → chosen kept (pick b (some j) e) c t ≡ chosen (pick b 1 kept) e c t
+  step-enum : (b : Bool) (e c t : Option ℕ) → chosen kept (pick b (Some j) e) c t ≡ chosen (pick b 1 kept) e c t
   unfolding chosen
   step-enum false e c t = refl
   step-enum true e c t = sym (chosen-one e c t)
 
   step-any : (k : ℕ) → declares k ≡ true → (b : Bool) (e c t : Option ℕ)
-      → chosen kept (pick (eqb k an_enum and b) (some j) e) (pick (eqb k a_composite and b) (some j) c) (pick (eqb k a_type and b) (some j) t) ≡ chosen (pick (eqb k a_type) (pick (ltb 0 kept) kept (pick b (j + 2) 0)) (pick b 1 kept)) e c t
+      → chosen kept (pick (eqb k an_enum and b) (Some j) e) (pick (eqb k a_composite and b) (Some j) c) (pick (eqb k a_type and b) (Some j) t) ≡ chosen (pick (eqb k a_type) (pick (ltb 0 kept) kept (pick b (j + 2) 0)) (pick b 1 kept)) e c t
   step-any k d b e c t = by_kind k d (λ q. rw q (step-type b e c t)) (λ q. rw q (step-composite b e c t)) (λ q. rw q (step-enum b e c t))
 
 -- ---- along the chain
@@ -116,7 +112,7 @@ module _ (name : List ℕ) (s : Schema) {p kept : ℕ} (k : Seeking name s p kep
   unfolding last_hashed declares
   seeking-none h = sym (chosen_last kept) ∙ (rw (gone an_enum refl, gone a_composite refl, gone a_type refl) at k.same)
     where
-      gone : (kind : ℕ) → declares kind ≡ true → last_by (named_so kind name) k.n s ≡ none
+      gone : (kind : ℕ) → declares kind ≡ true → last_by (named_so kind name) k.n s ≡ None
       gone kind d = none_passes (named_so kind name) (hashed s (place s name)) s (narrow s kind name d) k.n k.within (code-none (last_hashed (place s name) k.n s) (let z : p ≡ 0 = omega arith in sym k.leads ∙ z))
 
   module _ (h : 0 < p) where
@@ -131,7 +127,7 @@ module _ (name : List ℕ) (s : Schema) {p kept : ℕ} (k : Seeking name s p kep
     pub seeking-few : length s.items ≤ 1024 → p - 1 < 1024
     seeking-few most = let l = seeking-low in omega arith
 
-    turned : (kind : ℕ) → declares kind ≡ true → last_by (named_so kind name) k.n s ≡ pick (named_so kind name (item_at s (p - 1))) (some (p - 1)) (last_by (named_so kind name) (p - 1) s)
+    turned : (kind : ℕ) → declares kind ≡ true → last_by (named_so kind name) k.n s ≡ pick (named_so kind name (item_at s (p - 1))) (Some (p - 1)) (last_by (named_so kind name) (p - 1) s)
     turned kind d = (passed kind d).2 ∙ last_step (named_so kind name) s (p - 1) seeking-low
 
     declaring : declares (item_at s (p - 1)).kind ≡ true
@@ -157,43 +153,29 @@ module _ (name : List ℕ) (s : Schema) {p kept : ℕ} (k : Seeking name s p kep
       pub seeking-on : {r : ℕ} → r ≡ kept_by (item_at s (p - 1)) (p - 1) name kept → Seeking name s q r
       seeking-on er = record { n = p - 1; within = let l = seeking-low in omega arith; leads = next-leads; same = kept_same er }
 
-      pub seeking-less : q < p
-      unfolding last_hashed declares
-      seeking-less = below (last_hashed (place s name) (p - 1) s) refl next-leads
-        where
-          below : (o : Option ℕ) → last_hashed (place s name) (p - 1) s ≡ o → q ≡ code o → q < p
-          below none f e = omega arith
-          below (some i) f e =
-              let l : i < p - 1 = (some-passes (named_so a_type name) (hashed s (place s name)) s (narrow s a_type name refl) (p - 1) (let w = seeking-low in omega arith) i f).0 in
-              omega arith
-
--- a chain that is too long tells nothing
-pub untold : (name : List ℕ) (s : Schema) → 1026 < 1026 → 1026 ≡ number_of (declaration_of s name)
-untold name s l = absurd (omega arith)
-
 -- ---- what is kept, by the tests of an item
 
-module _ (m : Model) (rec : List ℕ) (i : ℕ) (e : Entry) (f : (t : List ℕ) → item_of t e ≡ item_at (schema_of m rec t) i) (text name : List ℕ) (kept : ℕ) where
-  module _ (ek : e.kind ≡ 1) where
-    typed : eqb (item_at (schema_of m rec text) i).kind a_type ≡ true
-    typed = eq-eqb (item_at (schema_of m rec text) i).kind a_type (sym (kind-is m rec i e f text) ∙ ek)
+module _ (s : Schema) (i : ℕ) {k : ℕ} (f : k ≡ (item_at s i).kind) (name : List ℕ) (kept : ℕ) where
+  module _ (ek : k ≡ 1) where
+    typed : eqb (item_at s i).kind a_type ≡ true
+    typed = eq-eqb (item_at s i).kind a_type (sym f ∙ ek)
 
-    pub kept-so-far : 0 < kept → kept ≡ kept_by (item_at (schema_of m rec text) i) i name kept
+    pub kept-so-far : 0 < kept → kept ≡ kept_by (item_at s i) i name kept
     kept-so-far h = rw (typed, lt-ltb 0 kept h)
 
-    module _ (h : kept ≤ 0) {w : List ℕ} (ew : w ≡ (item_of text e).name) {b : Bool} (eb : b ≡ same w name) where
-      pub kept-type : b ≡ true → i + 2 ≡ kept_by (item_at (schema_of m rec text) i) i name kept
-      kept-type t = rw (typed, le-ltb 0 kept h, ← (name-is m rec i e f text ew), ← eb, t)
+    module _ (h : kept ≤ 0) {w : List ℕ} (ew : w ≡ (item_at s i).name) {b : Bool} (eb : b ≡ same w name) where
+      pub kept-type : b ≡ true → i + 2 ≡ kept_by (item_at s i) i name kept
+      kept-type t = rw (typed, le-ltb 0 kept h, ← ew, ← eb, t)
 
-      pub kept-no-type : b ≡ false → 0 ≡ kept_by (item_at (schema_of m rec text) i) i name kept
-      kept-no-type t = rw (typed, le-ltb 0 kept h, ← (name-is m rec i e f text ew), ← eb, t)
+      pub kept-no-type : b ≡ false → 0 ≡ kept_by (item_at s i) i name kept
+      kept-no-type t = rw (typed, le-ltb 0 kept h, ← ew, ← eb, t)
 
-  module _ (nk : e.kind ≡ 1 → ⊥) {w : List ℕ} (ew : w ≡ (item_of text e).name) {b : Bool} (eb : b ≡ same w name) where
-    other : eqb (item_at (schema_of m rec text) i).kind a_type ≡ false
-    other = ne_eqb (item_at (schema_of m rec text) i).kind a_type (λ q. nk (kind-is m rec i e f text ∙ q))
+  module _ (nk : k ≡ 1 → ⊥) {w : List ℕ} (ew : w ≡ (item_at s i).name) {b : Bool} (eb : b ≡ same w name) where
+    other : eqb (item_at s i).kind a_type ≡ false
+    other = ne_eqb (item_at s i).kind a_type (λ q. nk (f ∙ q))
 
-    pub kept-named : b ≡ true → 1 ≡ kept_by (item_at (schema_of m rec text) i) i name kept
-    kept-named t = rw (other, ← (name-is m rec i e f text ew), ← eb, t)
+    pub kept-named : b ≡ true → 1 ≡ kept_by (item_at s i) i name kept
+    kept-named t = rw (other, ← ew, ← eb, t)
 
-    pub kept-other : b ≡ false → kept ≡ kept_by (item_at (schema_of m rec text) i) i name kept
-    kept-other t = rw (other, ← (name-is m rec i e f text ew), ← eb, t)
+    pub kept-other : b ≡ false → kept ≡ kept_by (item_at s i) i name kept
+    kept-other t = rw (other, ← ew, ← eb, t)

@@ -1,26 +1,25 @@
 -- What a name is declared as among enums, composites and types, and the number that the index holds for it. Internal.
-use Rattle.std.specs.Prelude.{List, ℕ, ◌+◌, eqb, ltb}
-use Rattle.std.proofs.Math.Option.{Option, none, some}
+use Rattle.std.specs.Prelude.{List, ℕ, ◌+◌, eqb, ltb, Option, Some, None}
 use Rattle.texts.specs.Choice.{pick}
 use Rattle.texts.specs.Text.{same}
 use Rattle.model.specs.Schema.{Item, Schema, last_named, a_type, a_composite, an_enum}
-use Rattle.index.specs.declared.Declaration.{Declaration}
-use Rattle.index.specs.declared.Declaration.TheVariants.{Named, Typed, Nothing}
+use Rattle.index.specs.declared.seen.Declaration.{Declaration}
+use Rattle.index.specs.declared.seen.Declaration.TheVariants.{Named, Typed}
 
 -- by the last enum, composite and type of the name
-abbrev pub declared_by : Option ℕ → Option ℕ → Option ℕ → Declaration
-declared_by (some i) c t = Named
-declared_by none (some i) t = Named
-declared_by none none (some i) = Typed i
-declared_by none none none = Nothing
+abbrev pub declared_by : Option ℕ → Option ℕ → Option ℕ → Option Declaration
+declared_by (Some i) c t = Some Named
+declared_by None (Some i) t = Some Named
+declared_by None None (Some i) = Some (Typed i)
+declared_by None None None = None
 
-unfoldable pub declaration_of : Schema → List ℕ → Declaration
+unfoldable pub declaration_of : Schema → List ℕ → Option Declaration
 declaration_of s name = declared_by (last_named an_enum name s) (last_named a_composite name s) (last_named a_type name s)
 
-abbrev pub number_of : Declaration → ℕ
-number_of Nothing = 0
-number_of Named = 1
-number_of (Typed i) = i + 2
+abbrev pub number_of : Option Declaration → ℕ
+number_of None = 0
+number_of (Some Named) = 1
+number_of (Some (Typed i)) = i + 2
 
 -- what is kept of a chain at the item `it` in the place i, where `kept` was before it: an enum or composite of the
 -- name, else the first type

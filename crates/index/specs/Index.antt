@@ -2,8 +2,7 @@
 -- owner, for each short hash of a name the declarations that have it, the last first, and for each field what its type
 -- name is declared as. Internal: what is promised to the crates above is the model's own searches (`next_under`,
 -- `last_named`).
-use Rattle.std.specs.Prelude.{◌≡◌, Bool, true, false, List, ℕ, zero, suc, ◌+◌, ◌-◌, ◌*◌, ◌/◌, ◌%◌, ◌≤◌, ◌<◌, T, eqb, ltb, length, get_or, take, set}
-use Rattle.std.proofs.Math.Option.{Option, none, some}
+use Rattle.std.specs.Prelude.{Option, Some, None, ◌≡◌, Bool, true, false, List, ℕ, zero, suc, ◌+◌, ◌-◌, ◌*◌, ◌/◌, ◌%◌, ◌≤◌, ◌<◌, T, eqb, ltb, length, get_or, take, set}
 use Rattle.std.specs.Int.Bits.{bit_and, bit_xor}
 use Rattle.texts.specs.Choice.{pick, ◌and◌}
 use Rattle.texts.specs.Text.{piece}
@@ -14,8 +13,8 @@ use Rattle.index.specs.Declarations.{declaration_of, number_of}
 
 -- a position as the index holds it
 abbrev pub code : Option ℕ → ℕ
-code none = 0
-code (some i) = i + 1
+code None = 0
+code (Some i) = i + 1
 
 -- item i put in front of the list whose head stands at `head`; what came first so far stands at `at`
 abbrev pub fronted : List ℕ → ℕ → ℕ → ℕ → List ℕ

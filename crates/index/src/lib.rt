@@ -1,26 +1,24 @@
-// An index over a model, for its searches: children by links, declarations by chains of a short hash.
+// An index over a schema, for its searches: children by links, declarations by chains of a short hash.
 //
-// `build` fills a lent array from any model in two passes; `child` then promises what the model's own `next_under`
+// `Index::of` fills a lent array from any schema in two passes; `child` then promises what the model's own `next_under`
 // promises, and `declared` what its `last_named` says of a field's type name, without walking all items. Where a chain
 // is long, as names that collide make it, the names in order (crate ordered) answer, so no name is compared with all.
-// Nothing is asked of the model: where it has more than 1,024 items, which no document gives, the model's searches answer.
+// Nothing is asked of the schema: where it has more than 1,024 items, which no document gives, the model's searches answer.
 #![tactic(auto)]
 
-ghost use Rattle.std.specs.Prelude.{◌≡◌, true, ℕ, ◌+◌, ◌≤◌, ◌<◌, length, get_or, set};
-ghost use Rattle.std.proofs.Math.Option.{Option};
-ghost use Rattle.std.specs.Int.Bits.{bit_and};
-ghost use Rattle.model.specs.Schema.{item_at, next_under, a_field};
-ghost use Rattle.model.specs.Store.{schema_of, found};
-ghost use Rattle.ordered.specs.Ordered.{Ordered};
-ghost use Rattle.index.specs.Index.{code, fronted, short_word, mix, long_word, narrowed, HashOf, mask_of, HeadOf, Chained, Blank, Naming, Settling, Indexed};
-ghost use Rattle.index.specs.Declarations.{declaration_of, number_of, kept_by};
-ghost use Rattle.index.specs.declared.Declaration.{Declaration};
+pub mod seen;
 
-use model::{
-    COMPOSITE, ENUM, FIELD, Model, Position, TYPE, count, item, last_named, name_of, next_under,
-    second_of,
-};
-use ordered::{SIZE as NAMES, is_declaring, number_of, put_ordered};
+ghost use Rattle.std.specs.Prelude.{◌≡◌, ◌+◌, ◌≤◌, ◌<◌, IfSome, length, get_or, set};
+ghost use Rattle.std.specs.Int.Bits.{bit_and};
+ghost use Rattle.texts.specs.Choice.{pick};
+ghost use Rattle.model.specs.Schema.{item_at};
+ghost use Rattle.ordered.specs.Ordered.{Added};
+ghost use Rattle.index.specs.Index.{fronted, short_word, mix, long_word, narrowed, HashOf, mask_of, HeadOf, Chained, Blank, Naming, Settling, Indexed};
+ghost use Rattle.index.specs.Declarations.{declaration_of, number_of, kept_by};
+
+use model::view::View;
+use model::{FIELD, TYPE};
+use ordered::{Names, is_declaring};
 use words::{half_at, same_name, word_at};
 
 // The index holds twelve numbers for each item: the next item; the declaration before it with the same hash or, of a
@@ -53,9 +51,6 @@ pub const MOST: u32 = 1024;
 
 // How many items of a chain are looked at.
 const STEPS: u32 = 8;
-
-// In place of a declaration's number: its chain is longer.
-const UNTOLD: u32 = 1026;
 
 fn wide(b: u8) -> u64
     ensures { (result ≡ b) × (result < 256) }
@@ -141,10 +136,10 @@ fn masked(h: usize, n: u32) -> usize
 }
 
 // Where the last declaration with the hash of a name stands.
-fn head_of(m: Model, rec: &[u32], text: &[u8], name: &[u8]) -> usize
-    ensures { HeadOf (schema_of m rec.now text.now) name.now result }
+fn head_of(v: &View<'_>, name: &[u8]) -> usize
+    ensures { HeadOf v.now name.now result }
 {
-    let n = count(m, rec, text);
+    let n = v.count();
     EACH * (n as usize) + masked(hash_of(name), n)
 }
 
@@ -167,56 +162,39 @@ fn put_number(ix: &mut [u16], at: usize, n: u32)
 
 // ---- building
 
-fn kind_of(m: Model, rec: &[u32], text: &[u8], i: u32) -> u32
-    ensures { result ≡ (item_at (schema_of m rec.now text.now) i).kind }
+fn name_item(v: &View<'_>, i: u32, ix: &mut [u16])
+    requires { Naming v.now i ix.old × (i < length v.now.items) × (length v.now.items ≤ 1024) }
+    ensures { Naming v.now (i + 1) ix.new }
 {
-    let e = item(m, rec, i);
-    e.kind
-}
-
-fn owner_of(m: Model, rec: &[u32], text: &[u8], i: u32) -> u32
-    ensures { result ≡ (item_at (schema_of m rec.now text.now) i).owner }
-{
-    let e = item(m, rec, i);
-    e.owner
-}
-
-fn name_item(m: Model, rec: &[u32], text: &[u8], i: u32, ix: &mut [u16])
-    requires { Naming (schema_of m rec.now text.now) i ix.old × (i < length (schema_of m rec.now text.now).items) × (length (schema_of m rec.now text.now).items ≤ 1024) }
-    ensures { Naming (schema_of m rec.now text.now) (i + 1) ix.new }
-{
-    if is_declaring(kind_of(m, rec, text, i)) {
-        let e = item(m, rec, i);
-        let head = head_of(m, rec, text, name_of(e, text));
+    if is_declaring(v.kind(i)) {
+        let head = head_of(v, v.name(i));
         let at = EACH * (i as usize) + CHAIN;
         put_front(ix, head, at, i);
     }
 }
 
-fn put_names(m: Model, rec: &[u32], text: &[u8], ix: &mut [u16])
-    requires { Blank (schema_of m rec.now text.now) ix.old × (length (schema_of m rec.now text.now).items ≤ 1024) }
-    ensures { Naming (schema_of m rec.now text.now) (length (schema_of m rec.now text.now).items) ix.new }
+fn put_names(v: &View<'_>, ix: &mut [u16])
+    requires { Blank v.now ix.old × (length v.now.items ≤ 1024) }
+    ensures { Naming v.now (length v.now.items) ix.new }
 {
-    let n = count(m, rec, text);
-    let mut i = 0;
-    while i < n {
-        name_item(m, rec, text, i, ix);
-        i += 1;
+    for i in 0..v.count() {
+        name_item(v, i, ix);
     }
 }
 
-fn link_item(m: Model, rec: &[u32], text: &[u8], i: u32, ix: &mut [u16])
-    requires { Settling (schema_of m rec.now text.now) (i + 1) i ix.old × (i < length (schema_of m rec.now text.now).items) × (length (schema_of m rec.now text.now).items ≤ 1024) }
-    ensures { Settling (schema_of m rec.now text.now) i i ix.new }
+fn link_item(v: &View<'_>, i: u32, ix: &mut [u16])
+    requires { Settling v.now (i + 1) i ix.old × (i < length v.now.items) × (length v.now.items ≤ 1024) }
+    ensures { Settling v.now i i ix.new }
 {
-    let e = item(m, rec, i);
-    if 9 < e.kind {
+    let kind = v.kind(i);
+    if 9 < kind {
         return;
     }
-    if count(m, rec, text) <= e.owner {
+    let owner = v.owner(i);
+    if v.count() <= owner {
         return;
     }
-    let head = EACH * (e.owner as usize) + FIRST + e.kind as usize;
+    let head = EACH * (owner as usize) + FIRST + kind as usize;
     let at = EACH * (i as usize);
     put_front(ix, head, at, i);
 }
@@ -235,280 +213,109 @@ fn word(ix: &[u16], k: usize) -> u32
 }
 
 // What is kept of a chain, from its head to the item at `i`: 0 or a declaration's number.
-fn kept_at(m: Model, rec: &[u32], text: &[u8], i: u32, name: &[u8], kept: u32) -> u32
+fn kept_at(v: &View<'_>, i: u32, name: &[u8], kept: u32) -> u32
     requires { (i < 1024) × (kept < 1026) }
-    ensures { (result ≡ kept_by (item_at (schema_of m rec.now text.now) i) i name.now kept) × (result < 1026) }
+    ensures { (result ≡ kept_by (item_at v.now i) i name.now kept) × (result < 1026) }
 {
-    let e = item(m, rec, i);
-    if e.kind == TYPE {
+    if v.kind(i) == TYPE {
         if 0 < kept {
             return kept;
         }
-        if same_name(name_of(e, text), name) {
+        if same_name(v.name(i), name) {
             return i + 2;
         }
         return 0;
     }
-    if same_name(name_of(e, text), name) {
+    if same_name(v.name(i), name) {
         return 1;
     }
     kept
 }
 
 // Along the chain of the name's hash, if it is short: an enum or composite ends it, the first type is kept.
-fn resolved(m: Model, rec: &[u32], text: &[u8], ix: &[u16], name: &[u8]) -> u32
-    requires { Chained (schema_of m rec.now text.now) (length (schema_of m rec.now text.now).items) ix.now × (length (schema_of m rec.now text.now).items ≤ 1024) }
-    ensures { (result < 1026 → result ≡ number_of (declaration_of (schema_of m rec.now text.now) name.now)) × (result ≤ 1026) }
+fn resolved(v: &View<'_>, ix: &[u16], name: &[u8]) -> Option<u32>
+    requires { Chained v.now (length v.now.items) ix.now × (length v.now.items ≤ 1024) }
+    ensures { IfSome result (λ n. (n ≡ number_of (declaration_of v.now name.now)) × (n < 1026)) }
 {
     let mut kept = 0;
-    let mut left = STEPS;
-    let mut p = word(ix, head_of(m, rec, text, name));
-    while 0 < p {
-        if left == 0 {
-            return UNTOLD;
+    let mut p = word(ix, head_of(v, name));
+    for _ in 0..STEPS {
+        if p == 0 {
+            return Some(kept);
         }
-        left -= 1;
         let i = p - 1;
-        kept = kept_at(m, rec, text, i, name, kept);
+        kept = kept_at(v, i, name, kept);
         let settled = kept == 1;
         if settled {
-            return kept;
+            return Some(kept);
         }
         p = word(ix, EACH * (i as usize) + CHAIN);
     }
-    kept
+    if p == 0 { Some(kept) } else { None }
 }
 
-// The type name of item `i`, if it is a field: now at `i`, or still behind it where its chain is long.
-fn resolve_item(m: Model, rec: &[u32], text: &[u8], i: u32, ix: &mut [u16]) -> u32
-    requires { Settling (schema_of m rec.now text.now) (i + 1) (i + 1) ix.old × (i < length (schema_of m rec.now text.now).items) × (length (schema_of m rec.now text.now).items ≤ 1024) }
-    ensures { Settling (schema_of m rec.now text.now) (i + 1) result ix.new × (i ≤ result) × (result ≤ i + 1) }
+// The type name of item `i`, if it is a field: whether it is told, which it is not where its chain is long.
+fn resolve_item(v: &View<'_>, i: u32, ix: &mut [u16]) -> bool
+    requires { Settling v.now (i + 1) (i + 1) ix.old × (i < length v.now.items) × (length v.now.items ≤ 1024) }
+    ensures { Settling v.now (i + 1) (pick result i (i + 1)) ix.new }
 {
-    if kind_of(m, rec, text, i) == FIELD {
-        let e = item(m, rec, i);
-        let d = resolved(m, rec, text, ix, second_of(e, text));
-        if d == UNTOLD {
-            return i + 1;
-        }
-        let at = EACH * (i as usize) + CHAIN;
-        put_number(ix, at, d);
-        return i;
-    }
-    i
-}
-
-fn order_item(m: Model, rec: &[u32], text: &[u8], names: &[u16], n: usize, i: u32, ix: &mut [u16])
-    requires { Settling (schema_of m rec.now text.now) (i + 1) (i + 1) ix.old × Ordered (schema_of m rec.now text.now) (length (schema_of m rec.now text.now).items) names.now n × (i < length (schema_of m rec.now text.now).items) × (length (schema_of m rec.now text.now).items ≤ 1024) }
-    ensures { Settling (schema_of m rec.now text.now) (i + 1) i ix.new }
-{
-    if kind_of(m, rec, text, i) == FIELD {
-        let e = item(m, rec, i);
-        let d = number_of(m, rec, text, names, n, second_of(e, text));
+    if v.kind(i) == FIELD {
+        let Some(d) = resolved(v, ix, v.second(i)) else {
+            return false;
+        };
         let at = EACH * (i as usize) + CHAIN;
         put_number(ix, at, d);
     }
+    true
 }
 
-fn settle_ordered(
-    m: Model,
-    rec: &[u32],
-    text: &[u8],
-    names: &[u16],
-    n: usize,
-    i: u32,
-    ix: &mut [u16],
-)
-    requires { Settling (schema_of m rec.now text.now) (i + 1) (i + 1) ix.old × Ordered (schema_of m rec.now text.now) (length (schema_of m rec.now text.now).items) names.now n × (i < length (schema_of m rec.now text.now).items) × (length (schema_of m rec.now text.now).items ≤ 1024) }
-    ensures { Settling (schema_of m rec.now text.now) i i ix.new }
+// The same by the names in order.
+fn order_item(v: &View<'_>, names: &Names<'_>, i: u32, ix: &mut [u16])
+    requires { Settling v.now (i + 1) (i + 1) ix.old × (names.now ≡ record { schema = v.now; added = length v.now.items }) × (i < length v.now.items) × (length v.now.items ≤ 1024) }
+    ensures { Settling v.now (i + 1) i ix.new }
 {
-    order_item(m, rec, text, names, n, i, ix);
-    link_item(m, rec, text, i, ix);
+    if v.kind(i) == FIELD {
+        let d = names.number_of(v.second(i));
+        let at = EACH * (i as usize) + CHAIN;
+        put_number(ix, at, d);
+    }
 }
 
 // The items before `from`, their type names by the names in order.
-fn put_rest(m: Model, rec: &[u32], text: &[u8], from: u32, ix: &mut [u16])
-    requires { Settling (schema_of m rec.now text.now) from from ix.old × (from ≤ length (schema_of m rec.now text.now).items) × (length (schema_of m rec.now text.now).items ≤ 1024) }
-    ensures { Settling (schema_of m rec.now text.now) 0 0 ix.new }
+fn put_rest(v: &View<'_>, from: u32, ix: &mut [u16])
+    requires { Settling v.now from from ix.old × (from ≤ length v.now.items) × (length v.now.items ≤ 1024) }
+    ensures { Settling v.now 0 0 ix.new }
 {
-    let mut names = [0u16; NAMES];
-    let n = put_ordered(m, rec, text, &mut names);
-    let mut c = from;
-    while 0 < c {
-        let i = c - 1;
-        settle_ordered(m, rec, text, &names, n, i, ix);
-        c = i;
+    let names = Names::of(v);
+    for i in (0..from).rev() {
+        order_item(v, &names, i, ix);
+        link_item(v, i, ix);
     }
 }
 
 // Links and type names, from the last item down: the type names by the chains as far as these are short, and the rest
 // by the names in order.
-fn put_settled(m: Model, rec: &[u32], text: &[u8], ix: &mut [u16])
-    requires { Naming (schema_of m rec.now text.now) (length (schema_of m rec.now text.now).items) ix.old × (length (schema_of m rec.now text.now).items ≤ 1024) }
-    ensures { Settling (schema_of m rec.now text.now) 0 0 ix.new }
+fn put_settled(v: &View<'_>, ix: &mut [u16])
+    requires { Naming v.now (length v.now.items) ix.old × (length v.now.items ≤ 1024) }
+    ensures { Settling v.now 0 0 ix.new }
 {
-    let mut n = count(m, rec, text);
-    while 0 < n {
-        let i = n - 1;
-        let told = resolve_item(m, rec, text, i, ix);
-        if told == n {
-            put_rest(m, rec, text, n, ix);
+    for i in (0..v.count()).rev() {
+        let told = resolve_item(v, i, ix);
+        if !told {
+            put_rest(v, i + 1, ix);
             return;
         }
-        link_item(m, rec, text, i, ix);
-        n = i;
+        link_item(v, i, ix);
     }
 }
 
-// The index of a model, into an array of zeros.
-pub fn build(m: Model, rec: &[u32], text: &[u8], ix: &mut [u16])
-    requires { Blank (schema_of m rec.now text.now) ix.old }
-    ensures { Indexed (schema_of m rec.now text.now) ix.new }
+// The index of a schema, into an array of zeros.
+fn build(v: &View<'_>, ix: &mut [u16])
+    requires { Blank v.now ix.old }
+    ensures { Indexed v.now ix.new }
 {
-    if count(m, rec, text) <= MOST {
-        put_names(m, rec, text, ix);
-        put_settled(m, rec, text, ix);
+    if v.count() <= MOST {
+        put_names(v, ix);
+        put_settled(v, ix);
     }
-}
-
-// ---- searching
-
-// A position as the index holds it.
-fn position(n: u16) -> Position
-    ensures { (o : Option ℕ) → n ≡ code o → result ≡ found o }
-{
-    if 0 < n {
-        return Position::At((n as u32) - 1);
-    }
-    Position::Nothing
-}
-
-// Whether the index holds the first item of a kind under an owner.
-fn is_indexed(m: Model, rec: &[u32], text: &[u8], kind: u32, owner: u32) -> bool
-    ensures { result ≡ true → (length (schema_of m rec.now text.now).items ≤ 1024) × (kind < 10) × (owner < length (schema_of m rec.now text.now).items) }
-{
-    let n = count(m, rec, text);
-    if n <= MOST {
-        if kind <= 9 {
-            if owner < n {
-                return true;
-            }
-        }
-    }
-    false
-}
-
-// The item before `from`, if it is of this kind and owner, leads to the next one.
-fn next_child(
-    m: Model,
-    rec: &[u32],
-    text: &[u8],
-    ix: &[u16],
-    kind: u32,
-    owner: u32,
-    from: u32,
-) -> Position
-    requires { Indexed (schema_of m rec.now text.now) ix.now × (length (schema_of m rec.now text.now).items ≤ 1024) × (kind < 10) × (owner < length (schema_of m rec.now text.now).items) × (0 < from) }
-    ensures { result ≡ found (next_under kind owner from (schema_of m rec.now text.now)) }
-{
-    let i = from - 1;
-    if i < count(m, rec, text) {
-        if kind_of(m, rec, text, i) == kind {
-            if owner_of(m, rec, text, i) == owner {
-                let at = EACH * (i as usize);
-                return position(ix[at]);
-            }
-        }
-    }
-    next_under(m, rec, kind, owner, from)
-}
-
-// The first item of a kind under an owner from a place on.
-pub fn child(
-    m: Model,
-    rec: &[u32],
-    text: &[u8],
-    ix: &[u16],
-    kind: u32,
-    owner: u32,
-    from: u32,
-) -> Position
-    requires { Indexed (schema_of m rec.now text.now) ix.now }
-    ensures { result ≡ found (next_under kind owner from (schema_of m rec.now text.now)) }
-{
-    if is_indexed(m, rec, text, kind, owner) {
-        if from == 0 {
-            let head = EACH * (owner as usize) + FIRST + kind as usize;
-            return position(ix[head]);
-        }
-        return next_child(m, rec, text, ix, kind, owner, from);
-    }
-    next_under(m, rec, kind, owner, from)
-}
-
-// What a name is declared as: an enum or composite, the type at a position, or nothing.
-#[derive(Clone, Copy)]
-pub enum Declaration {
-    Named,
-    Typed(u32),
-    Nothing,
-}
-
-// A declaration as the index holds it.
-fn numbered(n: u32) -> Declaration
-    ensures { (d : Declaration) → n ≡ number_of d → result ≡ d }
-{
-    if n == 0 {
-        return Declaration::Nothing;
-    }
-    if n == 1 {
-        return Declaration::Named;
-    }
-    Declaration::Typed(n - 2)
-}
-
-// What a name is declared as, by the model's searches.
-pub fn declaration_in(m: Model, rec: &[u32], text: &[u8], name: &[u8]) -> Declaration
-    ensures { result ≡ declaration_of (schema_of m rec.now text.now) name.now }
-{
-    match last_named(m, rec, text, ENUM, name) {
-        Position::At(_) => Declaration::Named,
-        Position::Nothing => match last_named(m, rec, text, COMPOSITE, name) {
-            Position::At(_) => Declaration::Named,
-            Position::Nothing => match last_named(m, rec, text, TYPE, name) {
-                Position::At(i) => Declaration::Typed(i),
-                Position::Nothing => Declaration::Nothing,
-            },
-        },
-    }
-}
-
-// What the type name of the field at `i` is declared as, by the number that the index holds.
-pub fn field_number(m: Model, rec: &[u32], text: &[u8], ix: &[u16], i: u32) -> u32
-    requires { Indexed (schema_of m rec.now text.now) ix.now × (length (schema_of m rec.now text.now).items ≤ 1024) × ((item_at (schema_of m rec.now text.now) i).kind ≡ a_field) }
-    ensures { result ≡ number_of (declaration_of (schema_of m rec.now text.now) (item_at (schema_of m rec.now text.now) i).second) }
-{
-    let at = EACH * (i as usize) + CHAIN;
-    number(ix[at])
-}
-
-// What the type name of the field at `i` is declared as: the index holds it.
-pub fn field_declared(m: Model, rec: &[u32], text: &[u8], ix: &[u16], i: u32) -> Declaration
-    requires { Indexed (schema_of m rec.now text.now) ix.now × (length (schema_of m rec.now text.now).items ≤ 1024) × ((item_at (schema_of m rec.now text.now) i).kind ≡ a_field) }
-    ensures { result ≡ declaration_of (schema_of m rec.now text.now) (item_at (schema_of m rec.now text.now) i).second }
-{
-    numbered(field_number(m, rec, text, ix, i))
-}
-
-// What the type name of the item at `i` is declared as.
-pub fn declared(m: Model, rec: &[u32], text: &[u8], ix: &[u16], i: u32) -> Declaration
-    requires { Indexed (schema_of m rec.now text.now) ix.now }
-    ensures { result ≡ declaration_of (schema_of m rec.now text.now) (item_at (schema_of m rec.now text.now) i).second }
-{
-    let e = item(m, rec, i);
-    if e.kind == FIELD {
-        if count(m, rec, text) <= MOST {
-            return field_declared(m, rec, text, ix, i);
-        }
-    }
-    declaration_in(m, rec, text, second_of(e, text))
 }

@@ -1,41 +1,34 @@
 -- Laws of searches among the items, over the test p of an item: forwards for the first, backwards for the last.
 use mathlib.Core.Path.{◌≡◌, refl, sym, ap, ◌∙◌}
 use mathlib.Core.Bool.{Bool, true, false}
-use mathlib.Core.Option.{none, some}
 use mathlib.Core.List.{List, [], ◌∷◌, ◌++◌}
 use Prim.Native.Nat.{ℕ, zero, suc, ◌+◌, ◌-◌, ◌≤◌, ◌<◌}
 use native.Mathlib.Nat.{add-zero}
 use native.Mathlib.Numerals.{add-one}
 use native.Mathlib.Omega.{arith}
 use lib.Dec.{eqb}
-use lib.ListN.{length, drop, get_or, drop_of_length-le}
-use lib.Seq.{drop-cons}
-use borrow.Author.Tests.{eq-eqb, ne_eqb}
+use lib.ListN.{length, take, drop, drop_of_length-le}
+use lib.Seq.{drop-cons, take-suc, length-take-le}
+use Rattle.std.specs.Prelude.{Some, None}
+use Rattle.std.proofs.lemmas.List.{take_all}
 use Rattle.texts.specs.Choice.{pick, ◌and◌}
 use Rattle.texts.specs.Text.{same}
 use Rattle.texts.proofs.Choosing.{by-test}
-use Rattle.model.specs.Schema.{Item, no_item, positions_from, first, last, next_of, next_under, last_named}
-use Rattle.model.specs.Search.{last_under}
-use Rattle.model.specs.Store.{entry_at, item_of, items_of, schema_of, found}
-use Rattle.model.specs.declared.Entry.{Entry}
-use Rattle.model.specs.declared.Model.{Model}
-use Rattle.model.specs.declared.Position.TheVariants.{At, Nothing}
-use Rattle.model.proofs.Records.{length-items, get_or-items}
+use Rattle.model.specs.Schema.{Item, Schema, item_at, no_item, positions_from, first, last}
+use Rattle.model.specs.Search.{ahead}
+use Rattle.model.specs.Store.{items_of}
+use Rattle.model.proofs.Records.{by_less, length-items}
 
--- ---- tests of an entry
+-- the tests of the searches
+abbrev pub owned_so : ℕ → ℕ → Item → Bool
+owned_so kind owner it = eqb it.kind kind and eqb it.owner owner
 
-pub kind-and : {b : Bool} (kind k : ℕ) → kind ≡ k → b ≡ (eqb kind k and b)
-kind-and kind k e = rw (eq-eqb kind k e)
-
-pub kind-not : (b : Bool) (kind k : ℕ) → (kind ≡ k → ⊥) → false ≡ (eqb kind k and b)
-kind-not b kind k n = rw (ne_eqb kind k n)
-
-pub kind-named : (kind k : ℕ) (w n x : List ℕ) {b : Bool} → kind ≡ k → w ≡ n → b ≡ same w x → b ≡ (eqb kind k and same n x)
-kind-named kind k w n x e f g = rw (eq-eqb kind k e, ← f) g
+abbrev pub named_so : ℕ → List ℕ → Item → Bool
+named_so kind name it = eqb it.kind kind and same it.name name
 
 -- ---- the first from a place on
 
-pub first-yes : (p : Item → Bool) (k : ℕ) (x : Item) (xs : List Item) → p x ≡ true → first (positions_from k p (x ∷ xs)) ≡ some k
+pub first-yes : (p : Item → Bool) (k : ℕ) (x : Item) (xs : List Item) → p x ≡ true → first (positions_from k p (x ∷ xs)) ≡ Some k
 unfolding positions_from first
 first-yes p k x xs t = rw t
 
@@ -43,83 +36,84 @@ pub first-no : (p : Item → Bool) (k : ℕ) (x : Item) (xs : List Item) → p x
 unfolding positions_from
 first-no p k x xs t = rw t
 
+-- from a place on: nothing past the last item, and one item more or less
+module _ (p : Item → Bool) (s : Schema) (i : ℕ) where
+  pub ahead-past : length s.items ≤ i → ahead p i s ≡ []
+  unfolding ahead positions_from
+  ahead-past h = rw (drop_of_length-le s.items h)
+
+  pub ahead-yes : i < length s.items → p (item_at s i) ≡ true → ahead p i s ≡ i ∷ ahead p (i + 1) s
+  unfolding ahead positions_from
+  ahead-yes h t = rw (add-one, drop-cons s.items i no_item) (rw t (rw add-one))
+
+  pub ahead-no : i < length s.items → p (item_at s i) ≡ false → ahead p i s ≡ ahead p (i + 1) s
+  unfolding ahead
+  ahead-no h t = rw (add-one, drop-cons s.items i no_item) (first-no p i (item_at s i) (drop (suc i) s.items) t ∙ rw add-one)
+
 -- a loop that looks for the first from `from` on stands at i
-pub record Forward (p : Item → Bool) (xs : List Item) (from i : ℕ) : Type 0 where
-  pub rest : first (positions_from i p (drop i xs)) ≡ first (positions_from from p (drop from xs))
+pub record Forward (p : Item → Bool) (s : Schema) (from i : ℕ) : Type 0 where
+  pub rest : ahead p i s ≡ ahead p from s
 
-forward-start : (p : Item → Bool) (xs : List Item) (from : ℕ) → Forward p xs from from
-forward-start p xs from = record { rest = refl }
+pub forward-start : {p : Item → Bool} {s : Schema} {from : ℕ} → Forward p s from from
+forward-start = record { rest = refl }
 
-module _ (p : Item → Bool) (xs : List Item) (from i : ℕ) (inv : Forward p xs from i) where
-  forward-end : length xs ≤ i → none ≡ first (positions_from from p (drop from xs))
-  unfolding positions_from first
-  forward-end h = rw (drop_of_length-le xs h) at inv.rest
+module _ {p : Item → Bool} {s : Schema} {from i : ℕ} (inv : Forward p s from i) where
+  pub forward-none : length s.items ≤ i → None ≡ first (ahead p from s)
+  unfolding first
+  forward-none h = ap first (sym (ahead-past p s i h) ∙ inv.rest)
 
-  module _ (h : i < length xs) where
-    forward-found : p (get_or xs i no_item) ≡ true → some i ≡ first (positions_from from p (drop from xs))
-    forward-found t = sym (first-yes p i (get_or xs i no_item) (drop (suc i) xs) t) ∙ (rw (drop-cons xs i no_item) at inv.rest)
+  module _ (h : i < length s.items) {b : Bool} (eb : b ≡ p (item_at s i)) where
+    pub forward-found : b ≡ true → Some i ≡ first (ahead p from s)
+    unfolding first
+    forward-found t = ap first (sym (ahead-yes p s i h (sym eb ∙ t)) ∙ inv.rest)
 
-    forward-on : p (get_or xs i no_item) ≡ false → Forward p xs from (i + 1)
-    forward-on t =
-        let e : positions_from i p (drop i xs) ≡ positions_from (i + 1) p (drop (i + 1) xs) = rw (add-one, drop-cons xs i no_item) (first-no p i (get_or xs i no_item) (drop (suc i) xs) t ∙ rw add-one) in
-        record { rest = ap first (sym e) ∙ inv.rest }
+    pub forward-on : b ≡ false → Forward p s from (i + 1)
+    forward-on t = record { rest = sym (ahead-no p s i h (sym eb ∙ t)) ∙ inv.rest }
 
--- what the code keeps: the same for every text, where the test is one of the entry
-pub record Seeking (q : Entry → Bool) (n : ℕ) (rec : List ℕ) (from i : ℕ) : Type 0 where
-  pub seek : (p : Item → Bool) (text : List ℕ) → ((e : Entry) → p (item_of text e) ≡ q e) → Forward p (items_of n rec text) from i
+-- ---- the head of what is ahead
 
-pub seeking-start : {q : Entry → Bool} {n : ℕ} {rec : List ℕ} {from : ℕ} → Seeking q n rec from from
-seeking-start {n = n} {rec = rec} {from = from} = record { seek = λ p text f. forward-start p (items_of n rec text) from }
+none-some : {j : ℕ} → first [] ≡ Some j → ⊥
+unfolding first
+none-some e = cc
 
-module _ {q : Entry → Bool} {n : ℕ} {rec : List ℕ} {from i : ℕ} (inv : Seeking q n rec from i) where
-  seeking-none : n ≤ i → (p : Item → Bool) (text : List ℕ) → ((e : Entry) → p (item_of text e) ≡ q e) → none ≡ first (positions_from from p (drop from (items_of n rec text)))
-  seeking-none h p text f = forward-end p (items_of n rec text) from i (inv.seek p text f) (rw length-items h)
+first_is : {j m : ℕ} (l : List ℕ) → first (m ∷ l) ≡ Some j → m ≡ j
+unfolding first
+first_is l e = cc
 
-  module _ (h : i < n) {e : Entry} (ee : e ≡ entry_at rec i) {b : Bool} (eb : b ≡ q e) where
-    tested : (p : Item → Bool) (text : List ℕ) → ((e : Entry) → p (item_of text e) ≡ q e) → p (get_or (items_of n rec text) i no_item) ≡ b
-    tested p text f = ap p (get_or-items n rec text i h) ∙ f (entry_at rec i) ∙ ap q (sym ee) ∙ sym eb
+none-more : (m : ℕ) (l : List ℕ) → first (m ∷ l) ≡ None → ⊥
+unfolding first
+none-more m l e = cc
 
-    pub seeking-on : b ≡ false → Seeking q n rec from (i + 1)
-    seeking-on t = record { seek = λ p text f. forward-on p (items_of n rec text) from i (inv.seek p text f) (rw length-items h) (tested p text f ∙ t) }
+pub ahead-none : {l : List ℕ} → first l ≡ None → l ≡ []
+ahead-none {l = []} e = refl
+ahead-none {l = m ∷ l} e = absurd (none-more m l e)
 
-    seeking-found : b ≡ true → (p : Item → Bool) (text : List ℕ) → ((e : Entry) → p (item_of text e) ≡ q e) → some i ≡ first (positions_from from p (drop from (items_of n rec text)))
-    seeking-found t p text f = forward-found p (items_of n rec text) from i (inv.seek p text f) (rw length-items h) (tested p text f ∙ t)
+module _ (p : Item → Bool) (s : Schema) where
+  -- k more items are looked at from i on
+  heads : (k i : ℕ) → length s.items ≤ i + k → (j : ℕ) → first (ahead p i s) ≡ Some j → ahead p i s ≡ j ∷ ahead p (j + 1) s
+  heads zero i h j e = absurd (none-some (rw (ahead-past p s i (omega arith)) at e))
+  heads (suc k) i h j e =
+      by_less i (length s.items)
+      (λ l. by-test (p (item_at s i))
+      (λ t. let q = ahead-yes p s i l t in let z = first_is _ (rw q at e) in q ∙ ap (λ m. m ∷ ahead p (m + 1) s) z)
+      (λ f. let q = ahead-no p s i l f in q ∙ heads k (i + 1) (omega arith) j (rw q at e)))
+      (λ l. absurd (none-some (rw (ahead-past p s i l) at e)))
 
--- the two tests of next_of and next_under
-abbrev pub of_kind : ℕ → Entry → Bool
-of_kind kind e = eqb e.kind kind
+  pub ahead-some : (i : ℕ) (j : ℕ) → first (ahead p i s) ≡ Some j → ahead p i s ≡ j ∷ ahead p (j + 1) s
+  ahead-some i j e = heads (length s.items) i (omega arith) j e
 
-abbrev pub under_owner : ℕ → ℕ → Entry → Bool
-under_owner kind owner e = eqb e.kind kind and eqb e.owner owner
-
-of-kind : (kind : ℕ) (text : List ℕ) (e : Entry) → eqb (item_of text e).kind kind ≡ of_kind kind e
-unfolding item_of
-of-kind kind text e = refl
-
-under-owner : (kind owner : ℕ) (text : List ℕ) (e : Entry) → (eqb (item_of text e).kind kind and eqb (item_of text e).owner owner) ≡ under_owner kind owner e
-unfolding item_of
-under-owner kind owner text e = refl
-
-module _ (m : Model) (rec : List ℕ) (kind from : ℕ) where
-  pub next-none : {i : ℕ} → Seeking (of_kind kind) m.count rec from i → m.count ≤ i → (text : List ℕ) → Nothing ≡ found (next_of kind from (schema_of m rec text))
-  unfolding next_of schema_of
-  next-none inv h text = ap found (seeking-none inv h _ text (of-kind kind text))
-
-  pub next-found : {i : ℕ} → Seeking (of_kind kind) m.count rec from i → i < m.count → {e : Entry} → e ≡ entry_at rec i → {b : Bool} → b ≡ eqb e.kind kind → b ≡ true → (text : List ℕ) → At i ≡ found (next_of kind from (schema_of m rec text))
-  unfolding next_of schema_of
-  next-found inv h ee eb t text = ap found (seeking-found inv h ee eb t _ text (of-kind kind text))
-
-  pub next-under-none : (owner : ℕ) {i : ℕ} → Seeking (under_owner kind owner) m.count rec from i → m.count ≤ i → (text : List ℕ) → Nothing ≡ found (next_under kind owner from (schema_of m rec text))
-  unfolding next_under schema_of
-  next-under-none owner inv h text = ap found (seeking-none inv h _ text (under-owner kind owner text))
-
-  pub next-under-found : (owner : ℕ) {i : ℕ} → Seeking (under_owner kind owner) m.count rec from i → i < m.count → {e : Entry} → e ≡ entry_at rec i → {b : Bool} → b ≡ (eqb e.kind kind and eqb e.owner owner) → b ≡ true → (text : List ℕ) → At i ≡ found (next_under kind owner from (schema_of m rec text))
-  unfolding next_under schema_of
-  next-under-found owner inv h ee eb t text = ap found (seeking-found inv h ee eb t _ text (under-owner kind owner text))
+  pub ahead-within : (k i : ℕ) → length s.items ≤ i + k → (j : ℕ) → first (ahead p i s) ≡ Some j → (i ≤ j) × (j < length s.items)
+  ahead-within zero i h j e = absurd (none-some (rw (ahead-past p s i (omega arith)) at e))
+  ahead-within (suc k) i h j e =
+      by_less i (length s.items)
+      (λ l. by-test (p (item_at s i))
+      (λ t. let z = first_is _ (rw (ahead-yes p s i l t) at e) in (omega arith, omega arith))
+      (λ f. let q = ahead-within k (i + 1) (omega arith) j (rw (ahead-no p s i l f) at e) in (omega arith, omega arith)))
+      (λ l. absurd (none-some (rw (ahead-past p s i l) at e)))
 
 -- ---- the last
 
-pub last_snoc : (is : List ℕ) (k : ℕ) → last (is ++ (k ∷ [])) ≡ some k
+pub last_snoc : (is : List ℕ) (k : ℕ) → last (is ++ (k ∷ [])) ≡ Some k
 unfolding last
 last_snoc [] k = refl
 last_snoc (i ∷ []) k = refl
@@ -141,91 +135,58 @@ pub append-none : (l : List ℕ) → l ++ [] ≡ l
 append-none [] = refl
 append-none (x ∷ l) = ap (λ t. x ∷ t) (append-none l)
 
-module _ (p : Item → Bool) (n : ℕ) (rec text : List ℕ) where
-  snoc-yes : p (item_of text (entry_at rec n)) ≡ true → last (positions_from 0 p (items_of (suc n) rec text)) ≡ some n
-  unfolding items_of
-  snoc-yes t =
-      let z : 0 + length (items_of n rec text) ≡ n = rw length-items (omega arith) in
-      rw (positions-snoc p 0 (items_of n rec text) (item_of text (entry_at rec n)), t, z) (last_snoc (positions_from 0 p (items_of n rec text)) n)
+-- among the first n items, and one more
+module _ (p : Item → Bool) (s : Schema) (n : ℕ) (h : n < length s.items) where
+  front : take (n + 1) s.items ≡ take n s.items ++ (item_at s n ∷ [])
+  front = rw add-one (take-suc s.items n no_item h)
 
-  snoc-no : p (item_of text (entry_at rec n)) ≡ false → last (positions_from 0 p (items_of (suc n) rec text)) ≡ last (positions_from 0 p (items_of n rec text))
-  unfolding items_of
-  snoc-no t = rw (positions-snoc p 0 (items_of n rec text) (item_of text (entry_at rec n)), t, append-none)
+  many : 0 + length (take n s.items) ≡ n
+  many = let e = length-take-le n s.items (omega arith) in omega arith
 
--- the last is one of them
-pub last-below : (p : Item → Bool) (n : ℕ) (rec text : List ℕ) {i : ℕ} → last (positions_from 0 p (items_of n rec text)) ≡ some i → i < n
-unfolding items_of positions_from last
-last-below p zero rec text e = absurd (let z : ◌≡◌ {A = ℕ} 0 1 = cc in omega arith)
-last-below p (suc n) rec text {i} e =
-    by-test (p (item_of text (entry_at rec n)))
-    (λ t. let z : n ≡ i = cc (snoc-yes p n rec text t) in omega arith)
-    (λ f. omega (arith, last-below p n rec text (sym (snoc-no p n rec text f) ∙ e)))
+  pub last-yes : p (item_at s n) ≡ true → last (positions_from 0 p (take (n + 1) s.items)) ≡ Some n
+  last-yes t = rw (front, positions-snoc p 0 (take n s.items) (item_at s n), t, many) (last_snoc (positions_from 0 p (take n s.items)) n)
 
--- a loop that looks for the last of the first c items has n of them left
-pub record Backward (p : Item → Bool) (rec text : List ℕ) (c n : ℕ) : Type 0 where
-  pub back : last (positions_from 0 p (items_of n rec text)) ≡ last (positions_from 0 p (items_of c rec text))
+  pub last-no : p (item_at s n) ≡ false → last (positions_from 0 p (take (n + 1) s.items)) ≡ last (positions_from 0 p (take n s.items))
+  last-no t = rw (front, positions-snoc p 0 (take n s.items) (item_at s n), t, append-none)
 
-pub backward-start : {p : Item → Bool} {rec text : List ℕ} {c : ℕ} → Backward p rec text c c
-backward-start = record { back = refl }
+-- a loop that looks for the last has the first n items left
+pub record Backward (p : Item → Bool) (s : Schema) (n : ℕ) : Type 0 where
+  pub back : last (positions_from 0 p (take n s.items)) ≡ last (positions_from 0 p s.items)
+  pub within : n ≤ length s.items
 
-module _ {p : Item → Bool} {rec text : List ℕ} {c n : ℕ} (inv : Backward p rec text c n) where
-  backward-none : n ≤ 0 → none ≡ last (positions_from 0 p (items_of c rec text))
-  unfolding items_of positions_from last
-  backward-none h =
-      let z : n ≡ 0 = omega arith in
-      rw z at inv.back
+pub backward-start : {p : Item → Bool} {s : Schema} → Backward p s (length s.items)
+backward-start {p} {s} = record { back = rw (take_all (length s.items) s.items (omega arith)); within = omega arith }
 
-  module _ (h : 0 < n) {e : Entry} (ee : e ≡ entry_at rec (n - 1)) {b : Bool} (eb : b ≡ p (item_of text e)) where
-    up : suc (n - 1) ≡ n
+module _ {p : Item → Bool} {s : Schema} {n : ℕ} (inv : Backward p s n) where
+  pub backward-none : n ≤ 0 → None ≡ last (positions_from 0 p s.items)
+  unfolding positions_from last
+  backward-none h = let z : n ≡ 0 = omega arith in rw z at inv.back
+
+  module _ (h : 0 < n) {b : Bool} (eb : b ≡ p (item_at s (n - 1))) where
+    up : n - 1 + 1 ≡ n
     up = omega arith
 
-    told : p (item_of text (entry_at rec (n - 1))) ≡ b
-    told = sym (eb ∙ ap (λ (x : Entry). p (item_of text x)) ee)
+    there : n - 1 < length s.items
+    there = let w = inv.within in omega arith
 
-    backward-found : b ≡ true → some (n - 1) ≡ last (positions_from 0 p (items_of c rec text))
-    backward-found t = sym (snoc-yes p (n - 1) rec text (told ∙ t)) ∙ ap (λ k. last (positions_from 0 p (items_of k rec text))) up ∙ inv.back
+    pub backward-found : b ≡ true → Some (n - 1) ≡ last (positions_from 0 p s.items)
+    backward-found t = sym (rw up at (last-yes p s (n - 1) there (sym eb ∙ t))) ∙ inv.back
 
-    pub backward-on : b ≡ false → Backward p rec text c (n - 1)
-    backward-on t = record { back = sym (snoc-no p (n - 1) rec text (told ∙ t)) ∙ ap (λ k. last (positions_from 0 p (items_of k rec text))) up ∙ inv.back }
+    pub backward-on : b ≡ false → Backward p s (n - 1)
+    backward-on t = let w = inv.within in record { back = sym (rw up at (last-no p s (n - 1) there (sym eb ∙ t))) ∙ inv.back; within = omega arith }
 
--- by name, in the text that is lent
-abbrev pub named_so : ℕ → List ℕ → Item → Bool
-named_so kind name it = eqb it.kind kind and same it.name name
+-- the last is one of them
+module _ (p : Item → Bool) (s : Schema) {i : ℕ} where
+  low : (n : ℕ) → n ≤ length s.items → last (positions_from 0 p (take n s.items)) ≡ Some i → i < length s.items
+  unfolding positions_from last
+  low zero h q = absurd (cc q)
+  low (suc n) h q =
+      by-test (p (item_at s n))
+      (λ t. let z : n ≡ i = cc (rw add-one at (last-yes p s n (omega arith) t)) in omega arith)
+      (λ f. low n (omega arith) (sym (rw add-one at (last-no p s n (omega arith) f)) ∙ q))
 
-module _ (m : Model) (rec text : List ℕ) (kind : ℕ) (name : List ℕ) {n : ℕ} (inv : Backward (named_so kind name) rec text m.count n) where
-  pub last_none : n ≤ 0 → Nothing ≡ found (last_named kind name (schema_of m rec text))
-  unfolding last_named schema_of
-  last_none h = ap found (backward-none inv h)
+  pub last-below : last (positions_from 0 p s.items) ≡ Some i → i < length s.items
+  last-below e = low (length s.items) (omega arith) (rw (take_all (length s.items) s.items (omega arith)) e)
 
-  pub last_found : 0 < n → {e : Entry} → e ≡ entry_at rec (n - 1) → {b : Bool} → b ≡ (eqb e.kind kind and same (item_of text e).name name) → b ≡ true → At (n - 1) ≡ found (last_named kind name (schema_of m rec text))
-  unfolding last_named schema_of item_of
-  last_found h ee eb t = ap found (backward-found inv h ee eb t)
-
-module _ (rec text : List ℕ) (c kind : ℕ) (name : List ℕ) {n : ℕ} (inv : Backward (named_so kind name) rec text c n) where
-  pub named-on : 0 < n → {e : Entry} → e ≡ entry_at rec (n - 1) → {b : Bool} → b ≡ (eqb e.kind kind and same (item_of text e).name name) → b ≡ false → Backward (named_so kind name) rec text c (n - 1)
-  unfolding item_of
-  named-on h ee eb t = backward-on inv h ee eb t
-
--- by owner, in any text
-abbrev pub owned_so : ℕ → ℕ → Item → Bool
-owned_so kind owner it = eqb it.kind kind and eqb it.owner owner
-
-pub record BackwardAny (kind owner : ℕ) (rec : List ℕ) (c n : ℕ) : Type 0 where
-  pub any : (text : List ℕ) → Backward (owned_so kind owner) rec text c n
-
-pub any-start : {kind owner c : ℕ} {rec : List ℕ} → BackwardAny kind owner rec c c
-any-start = record { any = λ text. backward-start }
-
-module _ {kind owner c n : ℕ} {rec : List ℕ} (inv : BackwardAny kind owner rec c n) where
-  pub any_none : n ≤ 0 → (text : List ℕ) → Nothing ≡ found (last_under kind owner (items_of c rec text))
-  unfolding last_under
-  any_none h text = ap found (backward-none (inv.any text) h)
-
-  module _ (h : 0 < n) {e : Entry} (ee : e ≡ entry_at rec (n - 1)) {b : Bool} (eb : b ≡ (eqb e.kind kind and eqb e.owner owner)) where
-    pub any-on : b ≡ false → BackwardAny kind owner rec c (n - 1)
-    unfolding item_of
-    any-on t = record { any = λ text. backward-on (inv.any text) h ee eb t }
-
-    pub any_found : b ≡ true → (text : List ℕ) → At (n - 1) ≡ found (last_under kind owner (items_of c rec text))
-    unfolding last_under item_of
-    any_found t text = ap found (backward-found (inv.any text) h ee eb t)
+pub last_in : (p : Item → Bool) (n : ℕ) (rec text : List ℕ) {i : ℕ} → last (positions_from 0 p (items_of n rec text)) ≡ Some i → i < n
+last_in p n rec text e = let h = last-below p (record { package_name = []; id = 0; version = 0; items = items_of n rec text }) e in omega (arith, length-items n rec text)

@@ -3,8 +3,12 @@ use mathlib.Core.Path.{◌≡◌, sym, ap, ◌∙◌}
 use mathlib.Core.List.{List}
 use Prim.Native.Nat.{ℕ, ◌≤◌, ◌<◌}
 use lib.ListN.{length, get_or-eq_default}
+use lib.Dec.{eqb}
+use borrow.Author.Tests.{eq-eqb, ne_eqb}
+use Rattle.texts.specs.Choice.{pick}
 use Rattle.texts.specs.Text.{piece}
-use Rattle.model.specs.Schema.{no_item, item_at}
+use Rattle.model.specs.Schema.{Item, Schema, no_item, item_at}
+use Rattle.model.specs.Shown.{Shows}
 use Rattle.model.specs.Store.{entry_at, item_of, items_of, schema_of}
 use Rattle.model.specs.declared.Entry.{Entry}
 use Rattle.model.specs.declared.Model.{Model}
@@ -25,19 +29,63 @@ module _ (m : Model) (rec : List ℕ) where
       let g : length (items_of m.count rec text) ≤ i = rw length-items h in
       sym (get_or-eq_default (items_of m.count rec text) no_item g)
 
-  pub package-shown : (text w : List ℕ) → w ≡ piece text m.head.name m.head.len → w ≡ (schema_of m rec text).package_name
+-- what a view shows of its schema v, and of the item at i by its entry e
+module _ (m : Model) (rec text : List ℕ) (v : Schema) (q : schema_of m rec text ≡ v) where
+  pub package-shown : {w : List ℕ} → w ≡ piece text m.head.name m.head.len → w ≡ v.package_name
   unfolding schema_of
-  package-shown text w e = e
+  package-shown h = h ∙ ap (λ (s : Schema). s.package_name) q
 
-module _ (text : List ℕ) (e : Entry) (w : List ℕ) where
-  pub name-shown : w ≡ piece text e.name e.nlen → w ≡ (item_of text e).name
-  unfolding item_of
-  name-shown q = q
+  pub id-shown : m.head.id ≡ v.id
+  unfolding schema_of
+  id-shown = ap (λ (s : Schema). s.id) q
 
-  pub second-shown : w ≡ piece text e.second e.slen → w ≡ (item_of text e).second
-  unfolding item_of
-  second-shown q = q
+  pub version-shown : m.head.version ≡ v.version
+  unfolding schema_of
+  version-shown = ap (λ (s : Schema). s.version) q
 
-  pub encoding-shown : w ≡ piece text e.encoding e.elen → w ≡ (item_of text e).encoding
-  unfolding item_of
-  encoding-shown q = q
+  pub count-seen : m.count ≡ length v.items
+  count-seen = count-shown m rec text ∙ ap (λ (s : Schema). length s.items) q
+
+  module _ (e : Entry) (i : ℕ) (f : (t : List ℕ) → item_of t e ≡ item_at (schema_of m rec t) i) where
+    shown : item_of text e ≡ item_at v i
+    shown = f text ∙ ap (λ (s : Schema). item_at s i) q
+
+    pub entry-shown : Shows e (item_at v i)
+    entry-shown = record { text = text; is = shown }
+
+    pub kind-shown : e.kind ≡ (item_at v i).kind
+    unfolding item_of
+    kind-shown = ap (λ (x : Item). x.kind) shown
+
+    pub owner-shown : e.owner ≡ (item_at v i).owner
+    unfolding item_of
+    owner-shown = ap (λ (x : Item). x.owner) shown
+
+    pub number-shown : e.number ≡ (item_at v i).number
+    unfolding item_of
+    number-shown = ap (λ (x : Item). x.number) shown
+
+    pub given-shown : eqb e.given 1 ≡ (item_at v i).given
+    unfolding item_of
+    given-shown = ap (λ (x : Item). x.given) shown
+
+    size-shown : pick (eqb e.given 1) e.number 0 ≡ pick (item_at v i).given (item_at v i).number 0
+    size-shown = rw (given-shown, number-shown)
+
+    pub size-given : e.given ≡ 1 → e.number ≡ pick (item_at v i).given (item_at v i).number 0
+    size-given h = rw (eq-eqb e.given 1 h) at size-shown
+
+    pub size-absent : (e.given ≡ 1 → ⊥) → 0 ≡ pick (item_at v i).given (item_at v i).number 0
+    size-absent n = rw (ne_eqb e.given 1 n) at size-shown
+
+    pub name-shown : {w : List ℕ} → w ≡ piece text e.name e.nlen → w ≡ (item_at v i).name
+    unfolding item_of
+    name-shown h = h ∙ ap (λ (x : Item). x.name) shown
+
+    pub second-shown : {w : List ℕ} → w ≡ piece text e.second e.slen → w ≡ (item_at v i).second
+    unfolding item_of
+    second-shown h = h ∙ ap (λ (x : Item). x.second) shown
+
+    pub encoding-shown : {w : List ℕ} → w ≡ piece text e.encoding e.elen → w ≡ (item_at v i).encoding
+    unfolding item_of
+    encoding-shown h = h ∙ ap (λ (x : Item). x.encoding) shown

@@ -2,3 +2,4 @@
 pub mod Schema
 pub mod Search
 pub mod Store
+pub mod Shown

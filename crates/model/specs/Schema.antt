@@ -1,6 +1,5 @@
 -- The model that a document gives: package, id and version, and the list of items in the order in which they were added.
-use Rattle.std.specs.Prelude.{Bool, false, List, [], ◌∷◌, ℕ, ◌+◌, eqb, get_or, drop}
-use Rattle.std.proofs.Math.Option.{Option, none, some}
+use Rattle.std.specs.Prelude.{Bool, false, List, [], ◌∷◌, ℕ, ◌+◌, eqb, get_or, drop, Option, Some, None}
 use Rattle.texts.specs.Choice.{pick, ◌and◌}
 use Rattle.texts.specs.Text.{same}
 
@@ -73,8 +72,8 @@ unfoldable pub under : ℕ → ℕ → Schema → List ℕ
 under kind owner s = positions_from 0 (λ it. eqb it.kind kind and eqb it.owner owner) s.items
 
 unfoldable pub first : List ℕ → Option ℕ
-first [] = none
-first (i ∷ is) = some i
+first [] = None
+first (i ∷ is) = Some i
 
 -- the first of a kind from a place on
 unfoldable pub next_of : ℕ → ℕ → Schema → Option ℕ
@@ -85,8 +84,8 @@ unfoldable pub next_under : ℕ → ℕ → ℕ → Schema → Option ℕ
 next_under kind owner from s = first (positions_from from (λ it. eqb it.kind kind and eqb it.owner owner) (drop from s.items))
 
 unfoldable pub last : List ℕ → Option ℕ
-last [] = none
-last (i ∷ []) = some i
+last [] = None
+last (i ∷ []) = Some i
 last (i ∷ j ∷ is) = last (j ∷ is)
 
 -- the last of a kind with a name: a later declaration wins

@@ -1,12 +1,9 @@
 -- How a schema lies in the model, the records and the text. Internal: but for the builder, no crate above needs more than `schema_of` and `item_of`.
 use Rattle.std.specs.Prelude.{List, [], ◌∷◌, ◌++◌, ℕ, zero, suc, ◌+◌, ◌*◌, eqb, get_or}
-use Rattle.std.proofs.Math.Option.{Option, none, some}
 use Rattle.texts.specs.Text.{piece}
 use Rattle.model.specs.Schema.{Item, Schema}
 use Rattle.model.specs.declared.Entry.{Entry}
 use Rattle.model.specs.declared.Model.{Model}
-use Rattle.model.specs.declared.Position.{Position}
-use Rattle.model.specs.declared.Position.TheVariants.{At, Nothing}
 
 -- item i has the words 15 * i to 15 * i + 14; the last five are free
 unfoldable pub entry_at : List ℕ → ℕ → Entry
@@ -54,8 +51,3 @@ schema_of m rec text =
       version = m.head.version;
       items = items_of m.count rec text;
     }
-
--- a position as the code answers it
-abbrev pub found : Option ℕ → Position
-found none = Nothing
-found (some i) = At i

@@ -9,20 +9,15 @@ use lib.ListN.{length, get_or, set, length-set}
 use lib.Seq.{get_or-set_same, get_or-set_other}
 use borrow.Author.Tests.{eq-eqb, ne_eqb}
 use Rattle.model.specs.Schema.{Schema, item_at, last_named, a_type, a_composite, an_enum}
-use Rattle.model.specs.Store.{item_of, schema_of}
-use Rattle.model.specs.declared.Entry.{Entry}
-use Rattle.model.specs.declared.Model.{Model}
 use Rattle.model.proofs.Records.{by_less}
-use Rattle.ordered.specs.declared.Order.TheVariants.{Less, Same, Greater}
-use Rattle.ordered.specs.declared.Place.{Place}
-use Rattle.ordered.specs.declared.Place.TheVariants.{At, Before}
-use Rattle.ordered.specs.Ordered.{order, declares, numbered, number_in, worth, name_at, Rising, Placed, Inserted, Ordered, Meeting}
-use Rattle.ordered.proofs.Reading.{kind-is, name-is}
+use Rattle.std.specs.declared.cmp.Ordering.TheVariants.{Less, Equal, Greater}
+use Rattle.std.specs.Prelude.{Result, Ok, Err}
+use Rattle.ordered.specs.Ordered.{order, declares, numbered, number_in, worth, name_at, Rising, Placed, Inserted, Ordered, Meeting, Added}
 use Rattle.ordered.proofs.Comparing.{order-refl, greater-less}
 use Rattle.ordered.proofs.Numbering.{by_equal, number-none, number-all, number-aside, number-other, number-fresh, number-kept}
 
 less-apart : (x y : List ℕ) → order x y ≡ Less → x ≡ y → ⊥
-less-apart x y t r = let u : order x y ≡ Same = rw r (order-refl y) in let w : ◌≡◌ {A = ℕ} 0 1 = cc in omega arith
+less-apart x y t r = let u : order x y ≡ Equal = rw r (order-refl y) in let w : ◌≡◌ {A = ℕ} 0 1 = cc in omega arith
 
 greater-apart : (x y : List ℕ) → order x y ≡ Greater → x ≡ y → ⊥
 greater-apart x y t r = less-apart y x (greater-less x y t) (sym r)
@@ -179,15 +174,15 @@ module _ (s : Schema) (i : ℕ) (names : List ℕ) (n : ℕ) (o : Ordered s i na
 
 -- ---- by what the code knows
 
-module _ (m : Model) (rec text : List ℕ) (i : ℕ) (e : Entry) (f : (t : List ℕ) → item_of t e ≡ item_at (schema_of m rec t) i) (names : List ℕ) {n : ℕ} (o : Ordered (schema_of m rec text) i names n) (h : i < length (schema_of m rec text).items) {b : Bool} (eb : b ≡ declares e.kind) where
-  told : declares (item_at (schema_of m rec text) i).kind ≡ b
-  told = sym (eb ∙ ap declares (kind-is m rec i e f text))
+module _ (s : Schema) (i : ℕ) {k : ℕ} (f : k ≡ (item_at s i).kind) (names : List ℕ) {n : ℕ} (o : Ordered s i names n) (h : i < length s.items) {b : Bool} (eb : b ≡ declares k) where
+  told : declares (item_at s i).kind ≡ b
+  told = sym (eb ∙ ap declares f)
 
-  pub add-aside : b ≡ false → Ordered (schema_of m rec text) (i + 1) names n
-  add-aside g = aside (schema_of m rec text) i names n o h (told ∙ g)
+  pub add-aside : b ≡ false → Ordered s (i + 1) names n
+  add-aside g = aside s i names n o h (told ∙ g)
 
-  module _ (t : b ≡ true) (most : length (schema_of m rec text).items ≤ 1024) {w : List ℕ} (ew : w ≡ (item_of text e).name) {r : Place} (pl : Placed (schema_of m rec text) names n w r) {p : ℕ} where
-    pub add-met : r ≡ At p → Meeting (schema_of m rec text) i names n p
+  module _ (t : b ≡ true) (most : length s.items ≤ 1024) {w : List ℕ} (ew : w ≡ (item_at s i).name) {r : Result ℕ ℕ} (pl : Placed s names n w r) {p : ℕ} where
+    pub add-met : r ≡ Ok p → Meeting s i names n p
     add-met q =
         record {
           ordered = o;
@@ -195,50 +190,54 @@ module _ (m : Model) (rec text : List ℕ) (i : ℕ) (e : Entry) (f : (t : List 
           most = most;
           declaring = told ∙ t;
           within = (pl.at p q).0;
-          same = (pl.at p q).1 ∙ name-is m rec i e f text ew;
+          same = (pl.at p q).1 ∙ ew;
         }
 
-    pub add-new : r ≡ Before p → {new : List ℕ} → Inserted names n p i new → Ordered (schema_of m rec text) (i + 1) new (n + 1)
+    pub add-new : r ≡ Err p → {new : List ℕ} → Inserted names n p i new → Ordered s (i + 1) new (n + 1)
     add-new q v =
         let b = pl.before p q in
-        inserted (schema_of m rec text) i names n o h (told ∙ t) most p b.0
-        (λ a l. rw (← (name-is m rec i e f text ew)) (b.1 a l))
-        (λ a l k. rw (← (name-is m rec i e f text ew)) (b.2 a l k)) v
+        inserted s i names n o h (told ∙ t) most p b.0
+        (λ a l. rw (← ew) (b.1 a l))
+        (λ a l k. rw (← ew) (b.2 a l k)) v
 
-pub placed-within : {s : Schema} {names : List ℕ} {n : ℕ} {name : List ℕ} {r : Place} → Placed s names n name r → {p : ℕ} → r ≡ Before p → p ≤ n
+pub placed-within : {s : Schema} {names : List ℕ} {n : ℕ} {name : List ℕ} {r : Result ℕ ℕ} → Placed s names n name r → {p : ℕ} → r ≡ Err p → p ≤ n
 placed-within pl {p} q = (pl.before p q).0
 
-module _ (m : Model) (rec text : List ℕ) (i : ℕ) (names : List ℕ) (n p : ℕ) (x : Meeting (schema_of m rec text) i names n p) {j : ℕ} (ej : j ≡ get_or names p 0) (e : Entry) (f : (t : List ℕ) → item_of t e ≡ item_at (schema_of m rec t) j) where
-  kind-there : (item_at (schema_of m rec text) (get_or names p 0)).kind ≡ e.kind
-  kind-there = ap (λ y. (item_at (schema_of m rec text) y).kind) (sym ej) ∙ sym (kind-is m rec j e f text)
+module _ (s : Schema) (i : ℕ) (names : List ℕ) (n p : ℕ) (x : Meeting s i names n p) {j : ℕ} (ej : j ≡ get_or names p 0) {k : ℕ} (f : k ≡ (item_at s j).kind) where
+  kind-there : (item_at s (get_or names p 0)).kind ≡ k
+  kind-there = ap (λ y. (item_at s y).kind) (sym ej) ∙ sym f
 
-  pub meet-type : e.kind ≡ 1 → {new : List ℕ} → new ≡ set names p i → Ordered (schema_of m rec text) (i + 1) new n
-  meet-type k en = replaced (schema_of m rec text) i names n x.ordered x.inside x.declaring p x.within x.same (eq-eqb (item_at (schema_of m rec text) (get_or names p 0)).kind a_type (kind-there ∙ k)) en
+  pub meet-type : k ≡ 1 → {new : List ℕ} → new ≡ set names p i → Ordered s (i + 1) new n
+  meet-type z en = replaced s i names n x.ordered x.inside x.declaring p x.within x.same (eq-eqb (item_at s (get_or names p 0)).kind a_type (kind-there ∙ z)) en
 
-  pub meet-other : (e.kind ≡ 1 → ⊥) → Ordered (schema_of m rec text) (i + 1) names n
-  meet-other k = stays (schema_of m rec text) i names n x.ordered x.inside x.declaring p x.within x.same (ne_eqb (item_at (schema_of m rec text) (get_or names p 0)).kind a_type (λ q. k (sym kind-there ∙ q)))
+  pub meet-other : (k ≡ 1 → ⊥) → Ordered s (i + 1) names n
+  meet-other z = stays s i names n x.ordered x.inside x.declaring p x.within x.same (ne_eqb (item_at s (get_or names p 0)).kind a_type (λ q. z (sym kind-there ∙ q)))
 
 -- ---- what a name is declared as
 
-pub number-nothing : (s : Schema) (names name : List ℕ) {n : ℕ} → Ordered s (length s.items) names n → {r : Place} → Placed s names n name r → {p : ℕ} → r ≡ Before p → 0 ≡ numbered (last_named an_enum name s) (last_named a_composite name s) (last_named a_type name s)
+-- the names of all items, by what a caller sees of them
+pub all-added : {s : Schema} {k : ℕ} {v : Added} → record { schema = s; added = k } ≡ v → v.added ≡ length v.schema.items → {names : List ℕ} {n : ℕ} → Ordered s k names n → Ordered s (length s.items) names n
+all-added {s} {k} q e o = let z : k ≡ length s.items = ap (λ (a : Added). a.added) q ∙ e ∙ ap (λ (a : Added). length a.schema.items) (sym q) in rw z at o
+
+pub number-nothing : (s : Schema) (names name : List ℕ) {n : ℕ} → Ordered s (length s.items) names n → {r : Result ℕ ℕ} → Placed s names n name r → {p : ℕ} → r ≡ Err p → 0 ≡ numbered (last_named an_enum name s) (last_named a_composite name s) (last_named a_type name s)
 number-nothing s names name {n} o pl {p} q =
     let b = pl.before p q in
     sym (o.none name (λ a l. by_less a p (λ k. less-apart (name_at s names a) name (b.1 a k)) (λ k. greater-apart (name_at s names a) name (b.2 a k l)))) ∙ number-all s name
 
-module _ (m : Model) (rec text names name : List ℕ) {n : ℕ} (o : Ordered (schema_of m rec text) (length (schema_of m rec text).items) names n) {r : Place} (pl : Placed (schema_of m rec text) names n name r) {p : ℕ} (q : r ≡ At p) where
+module _ (s : Schema) (names name : List ℕ) {n : ℕ} (o : Ordered s (length s.items) names n) {r : Result ℕ ℕ} (pl : Placed s names n name r) {p : ℕ} (q : r ≡ Ok p) where
   pub placed-in : p < n
   placed-in = (pl.at p q).0
 
   module _ {j : ℕ} (ej : j ≡ get_or names p 0) where
-    pub placed_below : length (schema_of m rec text).items ≤ 1024 → j < 1024
+    pub placed_below : length s.items ≤ 1024 → j < 1024
     placed_below most = let b = o.below p placed-in in omega arith
 
-    worth-is : worth (schema_of m rec text) j ≡ numbered (last_named an_enum name (schema_of m rec text)) (last_named a_composite name (schema_of m rec text)) (last_named a_type name (schema_of m rec text))
-    worth-is = ap (worth (schema_of m rec text)) ej ∙ o.is p placed-in ∙ ap (number_in (schema_of m rec text) (length (schema_of m rec text).items)) (pl.at p q).1 ∙ number-all (schema_of m rec text) name
+    worth-is : worth s j ≡ numbered (last_named an_enum name s) (last_named a_composite name s) (last_named a_type name s)
+    worth-is = ap (worth s) ej ∙ o.is p placed-in ∙ ap (number_in s (length s.items)) (pl.at p q).1 ∙ number-all s name
 
-    module _ (e : Entry) (f : (t : List ℕ) → item_of t e ≡ item_at (schema_of m rec t) j) where
-      pub number-type : e.kind ≡ 1 → j + 2 ≡ numbered (last_named an_enum name (schema_of m rec text)) (last_named a_composite name (schema_of m rec text)) (last_named a_type name (schema_of m rec text))
-      number-type k = rw (eq-eqb (item_at (schema_of m rec text) j).kind a_type (sym (kind-is m rec j e f text) ∙ k)) at worth-is
+    module _ {k : ℕ} (f : k ≡ (item_at s j).kind) where
+      pub number-type : k ≡ 1 → j + 2 ≡ numbered (last_named an_enum name s) (last_named a_composite name s) (last_named a_type name s)
+      number-type z = rw (eq-eqb (item_at s j).kind a_type (sym f ∙ z)) at worth-is
 
-      pub number-named : (e.kind ≡ 1 → ⊥) → 1 ≡ numbered (last_named an_enum name (schema_of m rec text)) (last_named a_composite name (schema_of m rec text)) (last_named a_type name (schema_of m rec text))
-      number-named k = rw (ne_eqb (item_at (schema_of m rec text) j).kind a_type (λ z. k (kind-is m rec j e f text ∙ z))) at worth-is
+      pub number-named : (k ≡ 1 → ⊥) → 1 ≡ numbered (last_named an_enum name s) (last_named a_composite name s) (last_named a_type name s)
+      number-named z = rw (ne_eqb (item_at s j).kind a_type (λ q. z (f ∙ q))) at worth-is

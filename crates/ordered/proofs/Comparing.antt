@@ -1,18 +1,19 @@
 -- Which of two texts comes first: an order, and what the loops that compare keep.
 use mathlib.Core.Path.{◌≡◌, refl, sym, ap, ◌∙◌}
 use mathlib.Core.List.{List, [], ◌∷◌, ◌++◌}
-use Prim.Native.Nat.{ℕ, suc, ◌+◌, ◌≤◌, ◌<◌}
-use native.Mathlib.Numerals.{add-one}
+use Prim.Native.Nat.{ℕ, ◌+◌, ◌-◌, ◌<◌}
 use native.Mathlib.Omega.{arith}
-use lib.ListN.{length, drop, get_or, drop_of_length-le, take-append-drop}
-use lib.Seq.{drop-cons, drop-drop}
+use lib.ListN.{length, take, drop, length-drop, take-append-drop}
+use Rattle.std.proofs.lemmas.List.{take_all}
+use lib.Seq.{drop-drop}
 use borrow.Author.Tests.{eq-eqb, ne_eqb, lt-ltb, le-ltb}
 use Rattle.texts.specs.Text.{piece}
 use Rattle.words.specs.Word.{IsWord}
 use Rattle.words.proofs.Digits.{word-tells}
 use Rattle.model.proofs.Records.{by_less}
-use Rattle.ordered.specs.declared.Order.{Order}
-use Rattle.ordered.specs.declared.Order.TheVariants.{Less, Same, Greater}
+use Rattle.std.specs.declared.cmp.Ordering.TheVariants.{Less, Equal, Greater}
+use Rattle.std.specs.Cmp.Lexicographic.{slice_cmp}
+use Rattle.std.specs.Ordering.{nat_cmp}
 use Rattle.ordered.specs.Ordered.{order}
 
 -- ---- an order
@@ -41,12 +42,12 @@ by_front x y xs ys p f g =
     (λ e. g e (sym (order-on x y xs ys e) ∙ p))
     (λ l. absurd (let q = sym (order-greater x y xs ys l) ∙ p in let z : ◌≡◌ {A = ℕ} 0 1 = cc in omega arith))
 
-pub order-refl : (a : List ℕ) → order a a ≡ Same
+pub order-refl : (a : List ℕ) → order a a ≡ Equal
 unfolding order
 order-refl [] = refl
 order-refl (x ∷ xs) = order-on x x xs xs refl ∙ order-refl xs
 
-pub order_same : (a b : List ℕ) → order a b ≡ Same → a ≡ b
+pub order_same : (a b : List ℕ) → order a b ≡ Equal → a ≡ b
 unfolding order
 order_same [] [] p = refl
 order_same [] (y ∷ ys) p = absurd (let z : ◌≡◌ {A = ℕ} 0 1 = cc in omega arith)
@@ -92,46 +93,38 @@ order-common : (w s t : List ℕ) → order (w ++ s) (w ++ t) ≡ order s t
 order-common [] s t = refl
 order-common (x ∷ w) s t = order-on x x (w ++ s) (w ++ t) refl ∙ order-common w s t
 
--- ---- a loop that compares a with b from `from` on stands at i
+-- std's order of two texts is this one
+pub order-is : (a b : List ℕ) → slice_cmp nat_cmp a b ≡ order a b
+unfolding order
+order-is [] [] = refl
+order-is [] (y ∷ ys) = refl
+order-is (x ∷ xs) [] = refl
+order-is (x ∷ xs) (y ∷ ys) =
+    by_order x y
+    (λ l. let q : nat_cmp x y ≡ Less = rw (lt-ltb x y l) in rw q (sym (order-less x y xs ys l)))
+    (λ e. let q : nat_cmp x y ≡ Equal = rw (le-ltb x y (omega arith), eq-eqb x y e) in rw q (order-is xs ys ∙ sym (order-on x y xs ys e)))
+    (λ l. let q : nat_cmp x y ≡ Greater = rw (le-ltb x y (omega arith), ne_eqb x y (λ e. omega arith)) in rw q (sym (order-greater x y xs ys l)))
 
-pub record Comparing (a b : List ℕ) (from i : ℕ) : Type 0 where
-  pub rest : order (drop i a) (drop i b) ≡ order (drop from a) (drop from b)
+-- ---- a loop that compares a with b stands at i
 
-pub comparing-start : {a b : List ℕ} {from : ℕ} → Comparing a b from from
+pub record Comparing (a b : List ℕ) (i : ℕ) : Type 0 where
+  pub rest : order (drop i a) (drop i b) ≡ order a b
+
+pub comparing-start : {a b : List ℕ} → Comparing a b 0
 comparing-start = record { rest = refl }
 
-alike : (a b : List ℕ) (i j : ℕ) → j ≡ i + 1 → i < length a → i < length b → get_or a i 0 ≡ get_or b i 0 → order (drop j a) (drop j b) ≡ order (drop i a) (drop i b)
-alike a b i j e k l q = rw (e, add-one, drop-cons a i 0, drop-cons b i 0) (sym (order-on (get_or a i 0) (get_or b i 0) (drop (suc i) a) (drop (suc i) b) q))
-
-module _ {a b : List ℕ} {from i : ℕ} (inv : Comparing a b from i) where
-  pub comparing-short : i < length a → length b ≤ i → Greater ≡ order (drop from a) (drop from b)
-  unfolding order
-  comparing-short h l = rw (drop-cons a i 0, drop_of_length-le b l) at inv.rest
-
-  pub comparing-less : i < length a → i < length b → get_or a i 0 < get_or b i 0 → Less ≡ order (drop from a) (drop from b)
-  comparing-less h k l = sym (order-less (get_or a i 0) (get_or b i 0) (drop (suc i) a) (drop (suc i) b) l) ∙ (rw (drop-cons a i 0, drop-cons b i 0) at inv.rest)
-
-  pub comparing-greater : i < length a → i < length b → get_or b i 0 < get_or a i 0 → Greater ≡ order (drop from a) (drop from b)
-  comparing-greater h k l = sym (order-greater (get_or a i 0) (get_or b i 0) (drop (suc i) a) (drop (suc i) b) l) ∙ (rw (drop-cons a i 0, drop-cons b i 0) at inv.rest)
-
-  pub comparing-on : i < length a → i < length b → get_or b i 0 ≤ get_or a i 0 → get_or a i 0 ≤ get_or b i 0 → Comparing a b from (i + 1)
-  comparing-on h k l m = record { rest = alike a b i (i + 1) refl h k (omega arith) ∙ inv.rest }
-
-  pub comparing-front : length a ≤ i → i < length b → Less ≡ order (drop from a) (drop from b)
-  unfolding order
-  comparing-front h l = rw (drop_of_length-le a h, drop-cons b i 0) at inv.rest
-
-  pub comparing-end : length a ≤ i → length b ≤ i → Same ≡ order (drop from a) (drop from b)
-  unfolding order
-  comparing-end h l = rw (drop_of_length-le a h, drop_of_length-le b l) at inv.rest
-
+module _ {a b : List ℕ} {i : ℕ} (inv : Comparing a b i) where
   -- the same word stands in both
-  pub comparing-words : {x y : ℕ} → IsWord (piece a i 8) x → IsWord (piece b i 8) y → x ≡ y → Comparing a b from (i + 8)
+  pub comparing-words : {x y : ℕ} → IsWord (piece a i 8) x → IsWord (piece b i 8) y → x ≡ y → Comparing a b (i + 8)
   comparing-words u v e =
       let p = word-tells (piece a i 8) (piece b i 8) (u.eight ∙ sym v.eight) u.bytes v.bytes (sym u.is ∙ e ∙ v.is) in
       let q : drop i a ≡ piece b i 8 ++ drop (i + 8) a = sym (take-append-drop 8 (drop i a)) ∙ rw (p, drop-drop) refl in
       let r : drop i b ≡ piece b i 8 ++ drop (i + 8) b = sym (take-append-drop 8 (drop i b)) ∙ rw drop-drop refl in
       record { rest = sym (order-common (piece b i 8) (drop (i + 8) a) (drop (i + 8) b)) ∙ sym (ap (λ x. order x (piece b i 8 ++ drop (i + 8) b)) q) ∙ sym (ap (order (drop i a)) r) ∙ inv.rest }
 
-pub comparing-rest : {a b : List ℕ} {i : ℕ} → Comparing a b 0 i → {r : Order} → r ≡ order (drop i a) (drop i b) → r ≡ order a b
-comparing-rest inv e = e ∙ inv.rest
+  -- what is left of each is compared by std
+  pub comparing-rest : slice_cmp nat_cmp (take (length a - i) (drop i a)) (take (length b - i) (drop i b)) ≡ order a b
+  comparing-rest = rw (whole a, whole b) (order-is (drop i a) (drop i b) ∙ inv.rest)
+    where
+      whole : (x : List ℕ) → take (length x - i) (drop i x) ≡ drop i x
+      whole x = take_all (length x - i) (drop i x) (simp length-drop (omega arith))

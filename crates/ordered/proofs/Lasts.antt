@@ -1,7 +1,7 @@
 -- The last of the first n items that pass a test, and one more item behind them.
 use mathlib.Core.Path.{◌≡◌}
 use mathlib.Core.Bool.{Bool, true, false}
-use mathlib.Core.Option.{some}
+use Rattle.std.specs.Prelude.{Some}
 use mathlib.Core.List.{[], ◌∷◌, ◌++◌}
 use Prim.Native.Nat.{ℕ, ◌+◌, ◌<◌}
 use native.Mathlib.Numerals.{add-one}
@@ -21,11 +21,11 @@ module _ (p : Item → Bool) (s : Schema) (n : ℕ) (h : n < length s.items) whe
   many : 0 + length (take n s.items) ≡ n
   many = let e = length-take-le n s.items (omega arith) in omega arith
 
-  pub last-yes : p (item_at s n) ≡ true → last_by p (n + 1) s ≡ some n
+  pub last-yes : p (item_at s n) ≡ true → last_by p (n + 1) s ≡ Some n
   last-yes t = rw (front, positions-snoc p 0 (take n s.items) (item_at s n), t, many) (last_snoc (positions_from 0 p (take n s.items)) n)
 
   pub last-no : p (item_at s n) ≡ false → last_by p (n + 1) s ≡ last_by p n s
   last-no t = rw (front, positions-snoc p 0 (take n s.items) (item_at s n), t, append-none)
 
-  pub last_step : last_by p (n + 1) s ≡ pick (p (item_at s n)) (some n) (last_by p n s)
+  pub last_step : last_by p (n + 1) s ≡ pick (p (item_at s n)) (Some n) (last_by p n s)
   last_step = by-test (p (item_at s n)) (λ t. rw t (last-yes t)) (λ f. rw f (last-no f))

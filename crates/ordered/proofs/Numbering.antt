@@ -1,7 +1,7 @@
 -- What a name is declared as among the first items, and among one more.
 use mathlib.Core.Path.{◌≡◌, refl, ◌∙◌}
 use mathlib.Core.Bool.{true, false}
-use mathlib.Core.Option.{Option, none, some}
+use Rattle.std.specs.Prelude.{Option, Some, None}
 use mathlib.Core.List.{List}
 use Prim.Native.Nat.{ℕ, ◌+◌, ◌<◌}
 use native.Mathlib.Omega.{arith}
@@ -46,20 +46,20 @@ module _ (kind : ℕ) where
 
 -- ---- by a last enum, composite and type
 
-numbered-type : (j : ℕ) (e c t : Option ℕ) → (numbered e c t ≡ 1 → ⊥) → numbered e c (some j) ≡ j + 2
-numbered-type j (some i) c t n = absurd (n refl)
-numbered-type j none (some i) t n = absurd (n refl)
-numbered-type j none none t n = refl
+numbered-type : (j : ℕ) (e c t : Option ℕ) → (numbered e c t ≡ 1 → ⊥) → numbered e c (Some j) ≡ j + 2
+numbered-type j (Some i) c t n = absurd (n refl)
+numbered-type j None (Some i) t n = absurd (n refl)
+numbered-type j None None t n = refl
 
-numbered-kept : (j : ℕ) (e c t : Option ℕ) → numbered e c t ≡ 1 → numbered e c (some j) ≡ 1
-numbered-kept j (some i) c t q = refl
-numbered-kept j none (some i) t q = refl
-numbered-kept j none none (some i) q = absurd (omega arith)
-numbered-kept j none none none q = absurd (omega arith)
+numbered-kept : (j : ℕ) (e c t : Option ℕ) → numbered e c t ≡ 1 → numbered e c (Some j) ≡ 1
+numbered-kept j (Some i) c t q = refl
+numbered-kept j None (Some i) t q = refl
+numbered-kept j None None (Some i) q = absurd (omega arith)
+numbered-kept j None None None q = absurd (omega arith)
 
-numbered-composite : (j : ℕ) (e t : Option ℕ) → numbered e (some j) t ≡ 1
-numbered-composite j (some i) t = refl
-numbered-composite j none t = refl
+numbered-composite : (j : ℕ) (e t : Option ℕ) → numbered e (Some j) t ≡ 1
+numbered-composite j (Some i) t = refl
+numbered-composite j None t = refl
 
 -- ---- among the first items
 
@@ -72,7 +72,7 @@ unfolding number_in last_named
 number-all s name = rw take-length
 
 module _ (s : Schema) (k : ℕ) (h : k < length s.items) (name : List ℕ) where
-  number_step : number_in s (k + 1) name ≡ numbered (pick (named_so an_enum name (item_at s k)) (some k) (last_by (named_so an_enum name) k s)) (pick (named_so a_composite name (item_at s k)) (some k) (last_by (named_so a_composite name) k s)) (pick (named_so a_type name (item_at s k)) (some k) (last_by (named_so a_type name) k s))
+  number_step : number_in s (k + 1) name ≡ numbered (pick (named_so an_enum name (item_at s k)) (Some k) (last_by (named_so an_enum name) k s)) (pick (named_so a_composite name (item_at s k)) (Some k) (last_by (named_so a_composite name) k s)) (pick (named_so a_type name (item_at s k)) (Some k) (last_by (named_so a_type name) k s))
   unfolding number_in
   number_step = rw (last_step (named_so an_enum name) s k h, last_step (named_so a_composite name) s k h, last_step (named_so a_type name) s k h)
 

@@ -1,20 +1,17 @@
 -- The names that a schema declares, in order. Internal: what is promised to the crates above is what the model's own
 -- search (`last_named`) says of a name, as one number (`numbered`).
-use Rattle.std.specs.Prelude.{◌≡◌, Bool, true, false, List, [], ◌∷◌, ℕ, ◌+◌, ◌≤◌, ◌<◌, eqb, ltb, length, get_or, take}
-use Rattle.std.proofs.Math.Option.{Option, none, some}
+use Rattle.std.specs.Prelude.{Option, Some, None, Result, Ok, Err, ◌≡◌, Bool, true, false, List, [], ◌∷◌, ℕ, ◌+◌, ◌≤◌, ◌<◌, eqb, ltb, length, get_or, take}
 use Rattle.texts.specs.Choice.{pick, ◌and◌, ◌or◌}
 use Rattle.texts.specs.Text.{same}
 use Rattle.model.specs.Schema.{Item, Schema, item_at, positions_from, last, a_type, a_composite, an_enum}
-use Rattle.ordered.specs.declared.Order.{Order}
-use Rattle.ordered.specs.declared.Order.TheVariants.{Less, Same, Greater}
-use Rattle.ordered.specs.declared.Place.{Place}
-use Rattle.ordered.specs.declared.Place.TheVariants.{At, Before}
+use Rattle.std.specs.declared.cmp.Ordering.{Ordering}
+use Rattle.std.specs.declared.cmp.Ordering.TheVariants.{Less, Equal, Greater}
 
 -- ---- two names
 
 -- which of two texts comes first
-unfoldable pub order : List ℕ → List ℕ → Order
-order [] [] = Same
+unfoldable pub order : List ℕ → List ℕ → Ordering
+order [] [] = Equal
 order [] (y ∷ ys) = Less
 order (x ∷ xs) [] = Greater
 order (x ∷ xs) (y ∷ ys) = elim (eqb x y) [ true ↦ order xs ys | false ↦ pick (ltb x y) Less Greater ]
@@ -27,10 +24,10 @@ declares kind = eqb kind a_type or eqb kind a_composite or eqb kind an_enum
 
 -- what a name is declared as, by its last enum, composite and type
 abbrev pub numbered : Option ℕ → Option ℕ → Option ℕ → ℕ
-numbered (some i) c t = 1
-numbered none (some i) t = 1
-numbered none none (some i) = i + 2
-numbered none none none = 0
+numbered (Some i) c t = 1
+numbered None (Some i) t = 1
+numbered None None (Some i) = i + 2
+numbered None None None = 0
 
 -- the last of the first n items that pass a test
 abbrev pub last_by : (Item → Bool) → ℕ → Schema → Option ℕ
@@ -54,9 +51,9 @@ pub record Rising (s : Schema) (names : List ℕ) (n : ℕ) : Type 0 where
   pub up : (a b : ℕ) → a < b → b < n → order (name_at s names a) (name_at s names b) ≡ Less
 
 -- where a name is, or before which it would stand
-pub record Placed (s : Schema) (names : List ℕ) (n : ℕ) (name : List ℕ) (r : Place) : Type 0 where
-  pub at : (p : ℕ) → r ≡ At p → (p < n) × (name_at s names p ≡ name)
-  pub before : (p : ℕ) → r ≡ Before p → (p ≤ n) × ((a : ℕ) → a < p → order (name_at s names a) name ≡ Less) × ((a : ℕ) → p ≤ a → a < n → order (name_at s names a) name ≡ Greater)
+pub record Placed (s : Schema) (names : List ℕ) (n : ℕ) (name : List ℕ) (r : Result ℕ ℕ) : Type 0 where
+  pub at : (p : ℕ) → r ≡ Ok p → (p < n) × (name_at s names p ≡ name)
+  pub before : (p : ℕ) → r ≡ Err p → (p ≤ n) × ((a : ℕ) → a < p → order (name_at s names a) name ≡ Less) × ((a : ℕ) → p ≤ a → a < n → order (name_at s names a) name ≡ Greater)
 
 -- i stands at p, and what stood from p on, one further
 pub record Inserted (old : List ℕ) (n p i : ℕ) (new : List ℕ) : Type 0 where
@@ -82,3 +79,8 @@ pub record Meeting (s : Schema) (i : ℕ) (names : List ℕ) (n p : ℕ) : Type 
   pub declaring : declares (item_at s i).kind ≡ true
   pub within : p < n
   pub same : name_at s names p ≡ (item_at s i).name
+
+-- what callers see of names in order: those that the first `added` items of a schema declare
+pub record Added : Type 0 where
+  pub schema : Schema
+  pub added : ℕ

@@ -1,16 +1,11 @@
 -- Words on lists that the definitions of the crates above share.
 use Rattle.std.specs.Prelude.{Bool, true, false, List, [], ◌∷◌, ◌++◌, ℕ, ◌+◌}
-use Rattle.std.proofs.Math.Option.{Option, none, some}
 use Rattle.texts.specs.Choice.{◌or◌, ◌and◌}
 use Rattle.texts.specs.Text.{same}
 
 abbrev pub is_empty : List ℕ → Bool
 is_empty [] = true
 is_empty (b ∷ s) = false
-
-abbrev pub is_some : Option ℕ → Bool
-is_some none = false
-is_some (some i) = true
 
 -- the text of each element, one after another
 unfoldable pub each : {A : Type 0} → (A → List ℕ) → List A → List ℕ

@@ -2,7 +2,7 @@
 use mathlib.Core.Path.{◌≡◌, sym, ap, ◌∙◌}
 use mathlib.Core.Bool.{Bool, false}
 use mathlib.Core.List.{List, ◌++◌}
-use mathlib.Core.Option.{Option, none, some}
+use Rattle.std.specs.Prelude.{Option, None, Some}
 use Prim.Native.Nat.{ℕ}
 use native.Mathlib.Omega.{arith}
 use lib.Dec.{ltb}
@@ -36,8 +36,8 @@ finished-length text room n e =
     (λ f. let z : length text ≡ n = cc (pick_no (ltb room (length text)) (Err NoRoom) (Ok (length text)) f) in z)
 
 answer-length : (o : Option Refusal) (text : List ℕ) (room n : ℕ) → answer_after o text room ≡ Ok n → length text ≡ n
-answer-length none text room n e = finished-length text room n e
-answer-length (some q) text room n e = absurd (let z : ◌≡◌ {A = ℕ} 0 1 = cc in omega arith)
+answer-length None text room n e = finished-length text room n e
+answer-length (Some q) text room n e = absurd (let z : ◌≡◌ {A = ℕ} 0 1 = cc in omega arith)
 
 generated-length : (s : Schema) (room n : ℕ) → generated s room ≡ Ok n → length (source s) ≡ n
 unfolding generated

@@ -9,7 +9,5 @@ pub mod Lines
 pub mod Rendered
 pub mod PlainSheets
 pub mod Unique
-pub mod Walking
 pub mod Sheets
 pub mod Deciding
-pub mod Laws

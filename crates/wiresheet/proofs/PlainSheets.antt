@@ -2,7 +2,7 @@
 use mathlib.Core.Path.{◌≡◌, refl, ap, sym, ◌∙◌, subst}
 use mathlib.Core.Bool.{Bool, true, false, not}
 use mathlib.Core.List.{List, [], ◌∷◌, ◌++◌, map}
-use mathlib.Core.Option.{Option, none, some}
+use Rattle.std.specs.Prelude.{Option, Some, None, is_some}
 use Prim.Native.Nat.{ℕ, ◌+◌}
 use native.Mathlib.Nat.{add-zero}
 use lib.Dec.{T, eqb}
@@ -11,7 +11,7 @@ use borrow.Author.Tests.{not-false}
 use lib.Seq.{get_or-drop, drop-drop}
 use Rattle.texts.specs.Choice.{pick, ◌or◌, ◌and◌}
 use Rattle.texts.specs.Text.{ascii, same}
-use Rattle.texts.specs.Lists.{is_some, all, Every, among}
+use Rattle.texts.specs.Lists.{all, Every, among}
 use Rattle.texts.proofs.Choosing.{by-test, and_left, and_right, is_true}
 use Rattle.texts.proofs.Comparing.{same-equal}
 use Rattle.classes.specs.Class.{is_upper, is_lower}
@@ -120,8 +120,8 @@ kind_ok t h =
     (λ c. by-test (is_raw t) (λ u. rw (c, u) tt) (λ u. rw (c, u) h))
 
 type-ok : (s : Schema) (n : List ℕ) (o : Option ℕ) → Resolves (type_or s n o) → OkKind (kind_by n (type_or s n o))
-type-ok s n (some i) h = kind_ok (form_of (item_at s i)) h
-type-ok s n none h = go (among n built_ins) h
+type-ok s n (Some i) h = kind_ok (form_of (item_at s i)) h
+type-ok s n None h = go (among n built_ins) h
   where
     go : (b : Bool) → Resolves (pick b (typed (built_in n)) unknown) → OkKind (kind_by n (pick b (typed (built_in n)) unknown))
     go true h = kind_ok (built_in n) h

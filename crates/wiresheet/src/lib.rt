@@ -6,7 +6,6 @@
 // (specs/Plain.antt), accepted and printed, it answers true exactly when their wire sheets are equal.
 #![tactic(auto)]
 
-mod sense;
 pub mod sheet;
 
 ghost use Rattle.std.specs.Prelude.{length};

@@ -7,7 +7,6 @@
 use mathlib.Core.Path.{◌≡◌, refl, sym, ap, ◌∙◌}
 use mathlib.Core.Bool.{Bool, true, false}
 use mathlib.Core.List.{List, [], ◌∷◌, ◌++◌}
-use mathlib.Core.Option as math
 use Rattle.std.specs.Prelude.{Option, Some, None}
 use Prim.Native.Nat.{ℕ, zero, suc, ◌+◌, ◌<◌}
 use native.Mathlib.Omega.{arith}
@@ -42,7 +41,7 @@ never e = let z : ◌≡◌ {A = ℕ} 0 1 = cc in omega arith
 -- the enum e has a value: the search that closes a validValue answers with a position
 pub record HasValue (e : ℕ) (s : Schema) : Type 0 where
   pub at : ℕ
-  pub is : last (under a_value e s) ≡ math.some at
+  pub is : last (under a_value e s) ≡ Some at
 
 abbrev pub value_of : ℕ → Item → Bool
 value_of e it = eqb it.kind a_value and eqb it.owner e
@@ -55,7 +54,7 @@ pub record Has (e : ℕ) (xs : List Item) : Type 0 where
 
 record HasLast (ks : List ℕ) : Type 0 where
   at : ℕ
-  is : last ks ≡ math.some at
+  is : last ks ≡ Some at
 
 last_cons : (i : ℕ) (is : List ℕ) → HasLast (i ∷ is)
 unfolding last
@@ -116,9 +115,9 @@ has-set e i v xs h =
           (λ u. ap (value_of e) (get_or-set_other xs i h.at (with_second v (get_or xs i no_item)) no_item (eqb-false h.at i u)) ∙ h.is);
     }
 
-has-given : (e : ℕ) (o : math.Option ℕ) (v : List ℕ) (s : Schema) → Has e s.items → Has e (given_to o v s).items
-has-given e math.none v s h = h
-has-given e (math.some i) v s h = has-set e i v s.items h
+has-given : (e : ℕ) (o : Option ℕ) (v : List ℕ) (s : Schema) → Has e s.items → Has e (given_to o v s).items
+has-given e None v s h = h
+has-given e (Some i) v s h = has-set e i v s.items h
 
 -- ---- what holds of every builder that is reached
 

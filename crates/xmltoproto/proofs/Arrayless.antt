@@ -1,7 +1,7 @@
 -- Laws of schemas in which no item has the form of an array: nothing is refused.
 use mathlib.Core.Path.{◌≡◌, refl, sym, ◌∙◌}
 use mathlib.Core.Bool.{Bool, true, false}
-use mathlib.Core.Option.{Option, none, some}
+use Rattle.std.specs.Prelude.{Option, Some, None}
 use mathlib.Core.List.{List, [], ◌∷◌}
 use Prim.Native.Nat.{ℕ, ◌+◌, ◌≤◌, ◌<◌}
 use native.Mathlib.Omega.{arith}
@@ -25,7 +25,7 @@ unfolding any
 any_none p [] h = refl
 any_none p (i ∷ l) h = rw (h i) (any_none p l h)
 
-first-none : (k : ℕ) (p : ℕ → Bool) (l : List ℕ) → ((i : ℕ) → p i ≡ false) → first_from k p l ≡ none
+first-none : (k : ℕ) (p : ℕ → Bool) (l : List ℕ) → ((i : ℕ) → p i ≡ false) → first_from k p l ≡ None
 unfolding first_from
 first-none k p [] h = refl
 first-none k p (i ∷ l) h = rw (h i) (first-none (k + 1) p l h)
@@ -68,8 +68,8 @@ module _ (s : Schema) (a : Arrayless s) where
   meaning-none name = by-test (is_declared s name) (λ t. rw t) (λ f. rw f (go (last_named a_type name s)))
     where
       go : (o : Option ℕ) → is_array_type (type_or s name o) ≡ false
-      go (some i) = a.none i
-      go none = by-test (among name built_ins) (λ t. rw t) (λ f. rw f)
+      go (Some i) = a.none i
+      go None = by-test (among name built_ins) (λ t. rw t) (λ f. rw f)
 
   holds-none : (owner : ℕ) → holds_array s owner ≡ false
   unfolding holds_array

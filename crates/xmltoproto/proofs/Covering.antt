@@ -14,16 +14,16 @@ use Rattle.texts.specs.Text.{piece}
 use Rattle.printing.specs.Decimal.{decimal}
 use Rattle.printing.proofs.Decimals.{decimal-one}
 use Rattle.index.specs.Declarations.{declaration_of}
-use Rattle.index.specs.declared.Declaration.{Declaration}
-use Rattle.index.specs.declared.Declaration.TheVariants.{Named, Typed, Nothing}
+use Rattle.index.specs.declared.seen.Declaration.{Declaration}
+use Rattle.index.specs.declared.seen.Declaration.TheVariants.{Named, Typed}
+use Rattle.std.specs.Prelude.{Option, Some, None}
 use Rattle.model.specs.Schema.{Item, Schema, item_at}
-use Rattle.model.specs.Store.{item_of, schema_of}
+use Rattle.model.specs.Store.{item_of}
+use Rattle.model.specs.Shown.{Shows}
 use Rattle.model.specs.declared.Entry.{Entry}
-use Rattle.model.specs.declared.Model.{Model}
 use Rattle.xmltoproto.specs.Types.{form_of, built_in}
 use Rattle.xmltoproto.specs.Source.{source}
 use Rattle.xmltoproto.specs.Bound.{named_most, note_most, value_most, member_most, field_by, field_most, share, Sized, Covers, CoversLine}
-use Rattle.xmltoproto.proofs.Viewing.{number-seen}
 use Rattle.xmltoproto.proofs.Lengths.{decimal-most}
 use Rattle.xmltoproto.proofs.Owning.{sum_to}
 use Rattle.xmltoproto.proofs.Bounding.{source-most}
@@ -50,25 +50,29 @@ note-more (suc a) (suc b) h = omega arith
 piece-short : (s : List ℕ) (a n : ℕ) → length (piece s a n) ≤ n
 piece-short s a n = omega (arith, length-take n (drop a s))
 
-module _ (m : Model) (rec text : List ℕ) (i : ℕ) (e : Entry) (h : (t : List ℕ) → item_of t e ≡ item_at (schema_of m rec t) i) where
-  name-short : length (item_at (schema_of m rec text) i).name ≤ e.nlen
+module _ (s : Schema) (i : ℕ) (e : Entry) (h : Shows e (item_at s i)) where
+  name-short : length (item_at s i).name ≤ e.nlen
   unfolding item_of
-  name-short = rw (← ap (λ (x : Item). x.name) (h text)) (piece-short text e.name e.nlen)
+  name-short = rw (← ap (λ (x : Item). x.name) h.is) (piece-short h.text e.name e.nlen)
 
-  second_short : length (item_at (schema_of m rec text) i).second ≤ e.slen
+  second_short : length (item_at s i).second ≤ e.slen
   unfolding item_of
-  second_short = rw (← ap (λ (x : Item). x.second) (h text)) (piece-short text e.second e.slen)
+  second_short = rw (← ap (λ (x : Item). x.second) h.is) (piece-short h.text e.second e.slen)
 
-  kind-seen : e.kind ≡ (item_at (schema_of m rec text) i).kind
+  kind-seen : e.kind ≡ (item_at s i).kind
   unfolding item_of
-  kind-seen = ap (λ (x : Item). x.kind) (h text)
+  kind-seen = ap (λ (x : Item). x.kind) h.is
 
-  owner-seen : e.owner ≡ (item_at (schema_of m rec text) i).owner
+  owner-seen : e.owner ≡ (item_at s i).owner
   unfolding item_of
-  owner-seen = ap (λ (x : Item). x.owner) (h text)
+  owner-seen = ap (λ (x : Item). x.owner) h.is
 
-  number_short : e.number < 4294967296 → length (decimal (item_at (schema_of m rec text) i).number) ≤ 10
-  number_short u = rw (← number-seen m rec text i e h) (decimal-most e.number u)
+  number-seen : e.number ≡ (item_at s i).number
+  unfolding item_of
+  number-seen = ap (λ (x : Item). x.number) h.is
+
+  number_short : e.number < 4294967296 → length (decimal (item_at s i).number) ≤ 10
+  number_short u = rw (← number-seen) (decimal-most e.number u)
 
 -- ---- a line, as the code counts it
 
@@ -98,84 +102,84 @@ module _ (t : Entry) (n : ℕ) {q : ℕ} (eq : q ≡ named_most n 10 t.slen) (ln
 -- ---- by kind
 
 -- a field by what its type name is declared as
-module _ (s : Schema) (it : Item) (n p : ℕ) (z : Sized it n p) {d : Declaration} (ed : d ≡ declaration_of s it.second) where
+module _ (s : Schema) (it : Item) (n p : ℕ) (z : Sized it n p) {d : Option Declaration} (ed : d ≡ declaration_of s it.second) where
   by-declaration : {r : ℕ} → field_by s it d ≤ r → r < 2 ^ 40 → Covers r (field_most s it)
   unfolding field_most
   by-declaration l k = record { least = rw (← ed) l; small = k }
 
   module _ (ln : n < 4294967296) (lp : p < 4294967296) {r : ℕ} (q : r ≡ named_most n 10 p) where
-    pub field-named : d ≡ Named → Covers r (field_most s it)
+    pub field-named : d ≡ Some Named → Covers r (field_most s it)
     field-named f = by-declaration (rw f (omega (arith, z.name, z.second, z.number))) (omega arith)
 
-    pub field-nothing : d ≡ Nothing → Covers (r + 29) (field_most s it)
+    pub field-nothing : d ≡ None → Covers (r + 29) (field_most s it)
     unfolding built_in
     field-nothing f = by-declaration (rw f (omega (arith, z.name, z.second, z.number, ap length (decimal-one 0 (omega arith)), note-none 0 refl))) (omega arith)
 
-pub field-typed-most : (m : Model) (rec text : List ℕ) (it : Item) (n p : ℕ) → Sized it n p → {d : Declaration} → d ≡ declaration_of (schema_of m rec text) it.second
-    → {k : ℕ} → d ≡ Typed k → (t : Entry) → ((x : List ℕ) → item_of x t ≡ item_at (schema_of m rec x) k) → {r : ℕ} → CoversLine r n t → Covers r (field_most (schema_of m rec text) it)
-field-typed-most m rec text it n p z ed f t g c =
-    by-declaration (schema_of m rec text) it n p z ed (rw (f, ← g text) (c.least text _ _ z.name z.number)) c.small
+pub field-typed-most : (s : Schema) (it : Item) (n p : ℕ) → Sized it n p → {d : Option Declaration} → d ≡ declaration_of s it.second
+    → {k : ℕ} → d ≡ Some (Typed k) → (t : Entry) → Shows t (item_at s k) → {r : ℕ} → CoversLine r n t → Covers r (field_most s it)
+field-typed-most s it n p z ed f t g c =
+    by-declaration s it n p z ed (rw (f, ← g.is) (c.least g.text _ _ z.name z.number)) c.small
 
-module _ (m : Model) (rec text : List ℕ) (i : ℕ) (e : Entry) (h : (t : List ℕ) → item_of t e ≡ item_at (schema_of m rec t) i) where
-  pub sized : e.number < 4294967296 → Sized (item_at (schema_of m rec text) i) e.nlen e.slen
-  sized u = record { name = name-short m rec text i e h; second = second_short m rec text i e h; number = number_short m rec text i e h u }
+module _ (s : Schema) (i : ℕ) (e : Entry) (h : Shows e (item_at s i)) where
+  pub sized : e.number < 4294967296 → Sized (item_at s i) e.nlen e.slen
+  sized u = record { name = name-short s i e h; second = second_short s i e h; number = number_short s i e h u }
 
-  pub value-covered : (o : Entry) → ((x : List ℕ) → item_of x o ≡ item_at (schema_of m rec x) e.owner) → e.nlen < 4294967296 → e.slen < 4294967296 → o.nlen < 4294967296
-      → Covers (8 + 2 * o.nlen + 2 * e.nlen + e.slen) (value_most (item_at (schema_of m rec text) (item_at (schema_of m rec text) i).owner) (item_at (schema_of m rec text) i))
+  pub value-covered : (o : Entry) → Shows o (item_at s e.owner) → e.nlen < 4294967296 → e.slen < 4294967296 → o.nlen < 4294967296
+      → Covers (8 + 2 * o.nlen + 2 * e.nlen + e.slen) (value_most (item_at s (item_at s i).owner) (item_at s i))
   value-covered o g ln ls lo =
-      let z = owner-seen m rec text i e h in
+      let z = owner-seen s i e h in
       record {
-        least = rw (← z) (omega (arith, name-short m rec text e.owner o g, name-short m rec text i e h, second_short m rec text i e h));
+        least = rw (← z) (omega (arith, name-short s e.owner o g, name-short s i e h, second_short s i e h));
         small = omega arith;
       }
 
 -- ---- the share of the item
 
-module _ (m : Model) (rec text : List ℕ) (i : ℕ) (e : Entry) (h : (t : List ℕ) → item_of t e ≡ item_at (schema_of m rec t) i) where
-  pub kind-told : (k : ℕ) → e.kind ≡ k → (item_at (schema_of m rec text) i).kind ≡ k
-  kind-told k q = sym (kind-seen m rec text i e h) ∙ q
+module _ (s : Schema) (i : ℕ) (e : Entry) (h : Shows e (item_at s i)) where
+  pub kind-told : (k : ℕ) → e.kind ≡ k → (item_at s i).kind ≡ k
+  kind-told k q = sym (kind-seen s i e h) ∙ q
 
-  pub share-field : e.kind ≡ 9 → {r : ℕ} → Covers r (field_most (schema_of m rec text) (item_at (schema_of m rec text) i)) → Covers r (share (schema_of m rec text) i)
+  pub share-field : e.kind ≡ 9 → {r : ℕ} → Covers r (field_most s (item_at s i)) → Covers r (share s i)
   unfolding share
   share-field k c = record { least = rw (kind-told 9 k) (omega (arith, c.least)); small = c.small }
 
-  pub share-value : e.kind ≡ 6 → {r : ℕ} → Covers r (value_most (item_at (schema_of m rec text) (item_at (schema_of m rec text) i).owner) (item_at (schema_of m rec text) i)) → Covers r (share (schema_of m rec text) i)
+  pub share-value : e.kind ≡ 6 → {r : ℕ} → Covers r (value_most (item_at s (item_at s i).owner) (item_at s i)) → Covers r (share s i)
   unfolding share
   share-value k c = record { least = rw (kind-told 6 k) (omega (arith, c.least)); small = c.small }
 
   module _ (ln : e.nlen < 4294967296) where
-    pub share-enum : e.kind ≡ 5 → Covers (11 + e.nlen) (share (schema_of m rec text) i)
+    pub share-enum : e.kind ≡ 5 → Covers (11 + e.nlen) (share s i)
     unfolding share
-    share-enum k = record { least = rw (kind-told 5 k) (omega (arith, name-short m rec text i e h)); small = omega arith }
+    share-enum k = record { least = rw (kind-told 5 k) (omega (arith, name-short s i e h)); small = omega arith }
 
-    pub share-composite : e.kind ≡ 4 → Covers (14 + e.nlen) (share (schema_of m rec text) i)
+    pub share-composite : e.kind ≡ 4 → Covers (14 + e.nlen) (share s i)
     unfolding share
-    share-composite k = record { least = rw (kind-told 4 k) (omega (arith, name-short m rec text i e h)); small = omega arith }
+    share-composite k = record { least = rw (kind-told 4 k) (omega (arith, name-short s i e h)); small = omega arith }
 
-    pub share-ref : e.kind ≡ 3 → e.slen < 4294967296 → {r : ℕ} → r ≡ named_most e.nlen 10 e.slen → Covers r (share (schema_of m rec text) i)
+    pub share-ref : e.kind ≡ 3 → e.slen < 4294967296 → {r : ℕ} → r ≡ named_most e.nlen 10 e.slen → Covers r (share s i)
     unfolding share
-    share-ref k l q = record { least = rw (kind-told 3 k) (omega (arith, name-short m rec text i e h, second_short m rec text i e h)); small = omega arith }
+    share-ref k l q = record { least = rw (kind-told 3 k) (omega (arith, name-short s i e h, second_short s i e h)); small = omega arith }
 
-    pub share-member : e.kind ≡ 2 → {r : ℕ} → CoversLine r e.nlen e → Covers r (share (schema_of m rec text) i)
+    pub share-member : e.kind ≡ 2 → {r : ℕ} → CoversLine r e.nlen e → Covers r (share s i)
     unfolding share
     share-member k {r} c =
-        let l : member_most (item_at (schema_of m rec text) i) ≤ r = rw (← h text) (c.least text _ 10 (rw (h text) (name-short m rec text i e h)) (omega arith)) in
+        let l : member_most (item_at s i) ≤ r = rw (← h.is) (c.least h.text _ 10 (rw (h.is) (name-short s i e h)) (omega arith)) in
         record { least = rw (kind-told 2 k) (omega arith); small = c.small }
 
     module _ (lk : e.number < 4294967296) where
-      pub share-message : e.kind ≡ 7 → Covers (55 + e.nlen) (share (schema_of m rec text) i)
+      pub share-message : e.kind ≡ 7 → Covers (55 + e.nlen) (share s i)
       unfolding share
-      share-message k = record { least = rw (kind-told 7 k) (omega (arith, name-short m rec text i e h, number_short m rec text i e h lk)); small = omega arith }
+      share-message k = record { least = rw (kind-told 7 k) (omega (arith, name-short s i e h, number_short s i e h lk)); small = omega arith }
 
-      pub share-group : e.kind ≡ 8 → Covers (44 + 4 * e.nlen) (share (schema_of m rec text) i)
+      pub share-group : e.kind ≡ 8 → Covers (44 + 4 * e.nlen) (share s i)
       unfolding share
-      share-group k = record { least = rw (kind-told 8 k) (omega (arith, name-short m rec text i e h, number_short m rec text i e h lk)); small = omega arith }
+      share-group k = record { least = rw (kind-told 8 k) (omega (arith, name-short s i e h, number_short s i e h lk)); small = omega arith }
 
-  pub share-none : (e.kind ≡ 2 → ⊥) → (e.kind ≡ 3 → ⊥) → (e.kind ≡ 4 → ⊥) → (e.kind ≡ 5 → ⊥) → (e.kind ≡ 6 → ⊥) → (e.kind ≡ 7 → ⊥) → (e.kind ≡ 8 → ⊥) → (e.kind ≡ 9 → ⊥) → Covers 0 (share (schema_of m rec text) i)
+  pub share-none : (e.kind ≡ 2 → ⊥) → (e.kind ≡ 3 → ⊥) → (e.kind ≡ 4 → ⊥) → (e.kind ≡ 5 → ⊥) → (e.kind ≡ 6 → ⊥) → (e.kind ≡ 7 → ⊥) → (e.kind ≡ 8 → ⊥) → (e.kind ≡ 9 → ⊥) → Covers 0 (share s i)
   unfolding share
   share-none n2 n3 n4 n5 n6 n7 n8 n9 =
       record {
-        least = rw (← kind-seen m rec text i e h) (rw (ne_eqb e.kind 2 n2, ne_eqb e.kind 3 n3, ne_eqb e.kind 4 n4, ne_eqb e.kind 5 n5, ne_eqb e.kind 6 n6, ne_eqb e.kind 7 n7, ne_eqb e.kind 8 n8, ne_eqb e.kind 9 n9) (omega arith));
+        least = rw (← kind-seen s i e h) (rw (ne_eqb e.kind 2 n2, ne_eqb e.kind 3 n3, ne_eqb e.kind 4 n4, ne_eqb e.kind 5 n5, ne_eqb e.kind 6 n6, ne_eqb e.kind 7 n7, ne_eqb e.kind 8 n8, ne_eqb e.kind 9 n9) (omega arith));
         small = omega arith;
       }
 
@@ -183,21 +187,21 @@ module _ (m : Model) (rec text : List ℕ) (i : ℕ) (e : Entry) (h : (t : List 
 
 pub record Summing (s : Schema) (n most i : ℕ) : Type 0 where
   pub rest : length (source s) + sum_to (share s) i ≤ most + sum_to (share s) n
-  pub small : most < 2 ^ 34 + i * 2 ^ 40
+  pub small : most < 2 ^ 63 + 2 ^ 34 + i * 2 ^ 40
   pub within : i ≤ n
   pub few : n ≤ 1024
 
-module _ (m : Model) (rec text : List ℕ) where
-  pub summing_start : m.head.len < 4294967296 → m.head.id < 4294967296 → m.head.version < 4294967296 → {n : ℕ} → n ≡ length (schema_of m rec text).items → length (schema_of m rec text).items ≤ 1024
-      → Summing (schema_of m rec text) n (137 + m.head.len) 0
-  unfolding schema_of sum_to
-  summing_start l a b e f =
-      record {
-        rest = rw e (omega (arith, source-most (schema_of m rec text) f, piece-short text m.head.name m.head.len, decimal-most m.head.id a, decimal-most m.head.version b));
-        small = omega arith;
-        within = omega arith;
-        few = omega arith;
-      }
+-- the header, with numbers of a and b digits
+pub summing_start : (s : Schema) {w : List ℕ} → w ≡ s.package_name → {a : ℕ} → length (decimal s.id) ≤ a → {b : ℕ} → length (decimal s.version) ≤ b → a ≤ 10 → b ≤ 10 → length w < 2 ^ 63
+    → {n : ℕ} → n ≡ length s.items → length s.items ≤ 1024 → Summing s n (117 + length w + a + b) 0
+unfolding sum_to
+summing_start s ew la lb ka kb lw e f =
+    record {
+      rest = rw (e, ew) (omega (arith, source-most s f));
+      small = omega arith;
+      within = omega arith;
+      few = omega arith;
+    }
 
 module _ {s : Schema} {n most i : ℕ} (inv : Summing s n most i) where
   pub summing_on : i < n → {r : ℕ} → Covers r (share s i) → Summing s n (most + r) (i + 1)

@@ -1,7 +1,7 @@
 -- Laws of the generator's answer: d is what was said of the arrays.
 use mathlib.Core.Path.{◌≡◌, refl, sym, ap, ◌∙◌}
 use mathlib.Core.Bool.{Bool, true, false}
-use mathlib.Core.Option.{Option, none, some}
+use Rattle.std.specs.Prelude.{Option, None, Some}
 use mathlib.Core.List.{List, []}
 use Prim.Native.Nat.{ℕ, ◌≤◌, ◌<◌, ◌^◌}
 use native.Mathlib.Omega.{arith}
@@ -25,13 +25,13 @@ use Rattle.xmltoproto.specs.Arrays.{array_refusal}
 use Rattle.xmltoproto.specs.Refusing.{refusing}
 use Rattle.xmltoproto.specs.Generate.{generated, Generated}
 
-some-refused : (o : Option Refusal) (q : Refusal) → Err q ≡ refusing o → o ≡ some q
-some-refused none q e = absurd (let z : ◌≡◌ {A = ℕ} 0 1 = cc in omega arith)
-some-refused (some r) q e = cc
+some-refused : (o : Option Refusal) (q : Refusal) → Err q ≡ refusing o → o ≡ Some q
+some-refused None q e = absurd (let z : ◌≡◌ {A = ℕ} 0 1 = cc in omega arith)
+some-refused (Some r) q e = cc
 
-none-fine : (o : Option Refusal) {u : Unit {0}} → Ok u ≡ refusing o → o ≡ none
-none-fine none e = refl
-none-fine (some r) e = absurd (let z : ◌≡◌ {A = ℕ} 0 1 = cc in omega arith)
+none-fine : (o : Option Refusal) {u : Unit {0}} → Ok u ≡ refusing o → o ≡ None
+none-fine None e = refl
+none-fine (Some r) e = absurd (let z : ◌≡◌ {A = ℕ} 0 1 = cc in omega arith)
 
 module _ (s : Schema) (out : List ℕ) where
   -- what a `?` hands on

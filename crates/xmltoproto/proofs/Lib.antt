@@ -1,9 +1,7 @@
 -- Trials of the definitions, and the laws of the functions.
 pub mod Trials
-pub mod Viewing
 pub mod Typing
 pub mod Laying
-pub mod Walking
 pub mod Looping
 pub mod Lengths
 pub mod Longest

@@ -16,8 +16,9 @@ use Rattle.printing.specs.Decimal.{digits, decimal}
 use Rattle.charsets.specs.Charset.{cleaned, compatible}
 use Rattle.conversions.specs.Conversions.{camel_to_snake}
 use Rattle.index.specs.Declarations.{declaration_of}
-use Rattle.index.specs.declared.Declaration.{Declaration}
-use Rattle.index.specs.declared.Declaration.TheVariants.{Named, Typed, Nothing}
+use Rattle.index.specs.declared.seen.Declaration.{Declaration}
+use Rattle.index.specs.declared.seen.Declaration.TheVariants.{Named, Typed}
+use Rattle.std.specs.Prelude.{Option, Some, None}
 use Rattle.model.specs.Schema.{Item, Schema, item_at}
 use Rattle.xmltoproto.specs.Types.{Form, Proto, form_of, built_ins, built_in, is_char, chars, is_raw, as_named, of_length, note_on, narrow, as_primitive, proto_of, proto_by}
 use Rattle.xmltoproto.specs.Source.{value_text, note_line, bracketed, line, member_text, ref_text, field_text}
@@ -116,13 +117,13 @@ pub field-most : (s : Schema) (ind : List ℕ) → length ind ≤ 4 → (f : Ite
 unfolding field_text field_most built_in
 field-most s ind h f = rw (← declared-means s f.second) (go (declaration_of s f.second))
   where
-    go : (d : Declaration) → length (line ind (proto_by f.second (declared_so s f.second d)) (camel_to_snake f.name) f.number) ≤ field_by s f d
-    go Named = named-line ind h f.name f.number f.second
-    go (Typed t) = typed-line ind h f.name f.number (form_of (item_at s t))
-    go Nothing =
+    go : (d : Option Declaration) → length (line ind (proto_by f.second (declared_so s f.second d)) (camel_to_snake f.name) f.number) ≤ field_by s f d
+    go (Some Named) = named-line ind h f.name f.number f.second
+    go (Some (Typed t)) = typed-line ind h f.name f.number (form_of (item_at s t))
+    go None =
         by-test (among f.second built_ins)
         (λ y. rw y (typed-line ind h f.name f.number (built_in f.second)))
         (λ n. rw n (longer (named-line ind h f.name f.number f.second)))
       where
-        longer : {x : ℕ} → x ≤ named_most (length f.name) (length (decimal f.number)) (length f.second) → x ≤ field_by s f Nothing
+        longer : {x : ℕ} → x ≤ named_most (length f.name) (length (decimal f.number)) (length f.second) → x ≤ field_by s f None
         longer l = omega arith

@@ -1,20 +1,16 @@
 -- Laws of the array refusals.
 use mathlib.Core.Path.{◌≡◌, refl, sym, ap, ◌∙◌}
 use mathlib.Core.Bool.{Bool, true, false}
-use mathlib.Core.Option.{Option, none, some}
+use Rattle.std.specs.Prelude.{Option, Some, None}
 use mathlib.Core.List.{List, []}
 use Prim.Native.Nat.{ℕ, ◌≤◌}
-use native.Mathlib.Omega.{arith}
 use borrow.Author.Tests.{le-ltb}
 use Rattle.refusals.specs.declared.Refusal.TheVariants.{ArrayInComposite, ArrayInMessage}
 use Rattle.texts.specs.Lists.{any}
 use Rattle.model.specs.Schema.{Item, Schema, item_at, all_of, under, a_member, a_composite, a_message, a_group, a_field}
-use Rattle.model.specs.Store.{found}
-use Rattle.model.specs.declared.Position.{Position}
-use Rattle.model.specs.declared.Position.TheVariants.{At, Nothing}
 use Rattle.xmltoproto.specs.Types.{form_of, built_in, is_char, is_byte, is_array, meaning}
 use Rattle.xmltoproto.specs.Composites.{is_printed}
-use Rattle.xmltoproto.specs.Arrays.{first_from, refused_composite, is_array_type, holds_array, refused_message, first_of, array_refusal}
+use Rattle.xmltoproto.specs.Arrays.{first_from, refused_composite, is_array_type, holds_array, refused_message, array_refusal}
 use Rattle.xmltoproto.specs.Shapes.{form, meaning_in}
 use Rattle.xmltoproto.specs.Refusing.{refusing}
 use Rattle.xmltoproto.specs.declared.types.Sense.{Sense}
@@ -36,6 +32,11 @@ array_told it {u} {n} eu en eb =
 pub array-small : (it : Item) {n : ℕ} → n ≡ (form_of it).size → n ≤ 1 → false ≡ is_array (form_of it)
 unfolding is_array
 array-small it {n} e h = rw (← e, le-ltb 1 n h)
+
+-- where no length is given there is none
+pub array-absent : (it : Item) {g : Bool} → g ≡ it.given → g ≡ false → false ≡ is_array (form_of it)
+unfolding form_of is_array
+array-absent it e f = rw (← e, f)
 
 -- ---- composites
 
@@ -82,34 +83,16 @@ module _ (s : Schema) (i : ℕ) {a : Bool} (ea : a ≡ holds_array s i) where
 
 -- ---- the first
 
-module _ (s : Schema) {q : Position} (eq : q ≡ found (first_from 0 (refused_composite s) (all_of a_composite s))) where
-  pub refused-composite : {c : ℕ} → q ≡ At c → Err (ArrayInComposite c) ≡ refusing (array_refusal s)
+module _ (s : Schema) {q : Option ℕ} (eq : q ≡ first_from 0 (refused_composite s) (all_of a_composite s)) where
+  pub refused-composite : {c : ℕ} → q ≡ Some c → Err (ArrayInComposite c) ≡ refusing (array_refusal s)
   unfolding array_refusal
-  refused-composite {c} f = go (first_from 0 (refused_composite s) (all_of a_composite s)) (first_from 0 (refused_message s) (all_of a_message s)) (sym eq ∙ f)
-    where
-      go : (o u : Option ℕ) → found o ≡ At c → Err (ArrayInComposite c) ≡ refusing (first_of o u)
-      go none none g = absurd (let z : ◌≡◌ {A = ℕ} 0 1 = cc in omega arith)
-      go none (some j) g = absurd (let z : ◌≡◌ {A = ℕ} 0 1 = cc in omega arith)
-      go (some j) none g = let e : c ≡ j = cc in rw e
-      go (some j) (some k) g = let e : c ≡ j = cc in rw e
+  refused-composite f = rw (sym eq ∙ f)
 
-  module _ (nq : q ≡ Nothing) {r : Position} (er : r ≡ found (first_from 0 (refused_message s) (all_of a_message s))) where
-    pub refused-message : {c : ℕ} → r ≡ At c → Err (ArrayInMessage c) ≡ refusing (array_refusal s)
+  module _ (nq : q ≡ None) {r : Option ℕ} (er : r ≡ first_from 0 (refused_message s) (all_of a_message s)) where
+    pub refused-message : {c : ℕ} → r ≡ Some c → Err (ArrayInMessage c) ≡ refusing (array_refusal s)
     unfolding array_refusal
-    refused-message {c} f = go (first_from 0 (refused_composite s) (all_of a_composite s)) (first_from 0 (refused_message s) (all_of a_message s)) (sym eq ∙ nq) (sym er ∙ f)
-      where
-        go : (o u : Option ℕ) → found o ≡ Nothing → found u ≡ At c → Err (ArrayInMessage c) ≡ refusing (first_of o u)
-        go none none g h = absurd (let z : ◌≡◌ {A = ℕ} 0 1 = cc in omega arith)
-        go none (some j) g h = let e : c ≡ j = cc in rw e
-        go (some j) none g h = absurd (let z : ◌≡◌ {A = ℕ} 0 1 = cc in omega arith)
-        go (some j) (some k) g h = absurd (let z : ◌≡◌ {A = ℕ} 0 1 = cc in omega arith)
+    refused-message f = rw (sym eq ∙ nq, sym er ∙ f)
 
-    pub refused_none : r ≡ Nothing → Ok tt ≡ refusing (array_refusal s)
+    pub refused_none : r ≡ None → Ok tt ≡ refusing (array_refusal s)
     unfolding array_refusal
-    refused_none f = go (first_from 0 (refused_composite s) (all_of a_composite s)) (first_from 0 (refused_message s) (all_of a_message s)) (sym eq ∙ nq) (sym er ∙ f)
-      where
-        go : (o u : Option ℕ) → found o ≡ Nothing → found u ≡ Nothing → Ok tt ≡ refusing (first_of o u)
-        go none none g h = refl
-        go none (some j) g h = absurd (let z : ◌≡◌ {A = ℕ} 0 1 = cc in omega arith)
-        go (some j) none g h = absurd (let z : ◌≡◌ {A = ℕ} 0 1 = cc in omega arith)
-        go (some j) (some k) g h = absurd (let z : ◌≡◌ {A = ℕ} 0 1 = cc in omega arith)
+    refused_none f = rw (sym eq ∙ nq, sym er ∙ f)

@@ -17,9 +17,10 @@ use Rattle.printing.proofs.Sequencing.{blank, ◌▸◌}
 use Rattle.printing.proofs.Again.{standing-within}
 use Rattle.conversions.specs.Conversions.{camel_to_snake, camel_to_screaming_snake, prefix_of, singular_pascal}
 use Rattle.index.specs.Declarations.{declaration_of, number_of}
-use Rattle.index.specs.declared.Declaration.{Declaration}
-use Rattle.index.specs.declared.Declaration.TheVariants as declaration
-use Rattle.index.proofs.Finding.{declaration-nothing, declaration-named, declaration-typed}
+use Rattle.index.specs.declared.seen.Declaration.{Declaration}
+use Rattle.index.specs.declared.seen.Declaration.TheVariants.{Named, Typed}
+use Rattle.index.proofs.Finding.{declaration-none, declaration-named, declaration-typed}
+use Rattle.std.specs.Prelude.{Option, Some, None}
 use Rattle.model.specs.Schema.{Item, Schema, no_item, item_at, positions_from, all_of, under, a_member, a_ref, a_composite, a_value, a_group, a_field}
 use Rattle.xmltoproto.specs.Types.{built_ins, form_of, built_in, as_named, proto_of, proto_by, Meaning, typed, unknown, meaning}
 use Rattle.xmltoproto.specs.Composites.{is_printed, printed_composites}
@@ -68,12 +69,13 @@ module _ {o : List ℕ} {at : ℕ} {o₁ : List ℕ} {r₁ : ℕ} where
 
 -- ---- lines
 
+pub size-formed : (it : Item) {n : ℕ} → n ≡ pick it.given it.number 0 → n ≡ (form_of it).size
+unfolding form_of
+size-formed it e = e
+
 pub form-seen : (it : Item) {p : List ℕ} {n : ℕ} {e : List ℕ} → p ≡ it.second → n ≡ (form_of it).size → e ≡ it.encoding → form p n e ≡ form_of it
 unfolding form_of
 form-seen it ep en ee = rw (ep, en, ee)
-
-number-of-name : (s : Schema) {u v : List ℕ} {n : ℕ} → u ≡ v → n ≡ number_of (declaration_of s v) → n ≡ number_of (declaration_of s u)
-number-of-name s e h = rw e h
 
 module _ {o : List ℕ} {at : ℕ} {o' : List ℕ} {r : ℕ} where
   pub typed-printed : (it : Item) (ind name : List ℕ) (k : ℕ) {p : List ℕ} {n : ℕ} {e : List ℕ} (sh : Shape) → p ≡ it.second → n ≡ (form_of it).size → e ≡ it.encoding
@@ -94,25 +96,25 @@ module _ {o : List ℕ} {at : ℕ} {o' : List ℕ} {r : ℕ} where
   undeclared-printed u ind name k sh h d = rw (← undeclared-shape u, ← h) d
 
   -- by what the type name is declared as
-  module _ (s : Schema) (ind : List ℕ) (it : Item) {u w : List ℕ} {k : ℕ} (eu : u ≡ it.second) (ew : w ≡ it.name) (ek : k ≡ it.number) {d : Declaration} (ed : d ≡ declaration_of s u) where
-    by-declaration : {c : Declaration} → d ≡ c → Printed o at o' r (line ind (proto_by u (declared_so s u c)) (camel_to_snake w) k) → Printed o at o' r (field_text s ind it)
+  module _ (s : Schema) (ind : List ℕ) (it : Item) {u w : List ℕ} {k : ℕ} (eu : u ≡ it.second) (ew : w ≡ it.name) (ek : k ≡ it.number) {d : Option Declaration} (ed : d ≡ declaration_of s it.second) where
+    by-declaration : {c : Option Declaration} → d ≡ c → Printed o at o' r (line ind (proto_by u (declared_so s u c)) (camel_to_snake w) k) → Printed o at o' r (field_text s ind it)
     unfolding field_text
     by-declaration {c} f p =
         let e : line ind (proto_by u (declared_so s u c)) (camel_to_snake w) k ≡ line ind (proto_by it.second (meaning s it.second)) (camel_to_snake it.name) it.number =
-        ap (λ (x : Meaning). line ind (proto_by u x) (camel_to_snake w) k) (means s u (sym f ∙ ed))
+        ap (λ (x : Meaning). line ind (proto_by u x) (camel_to_snake w) k) (means s u (sym f ∙ rw eu ed))
         ∙ ap (λ (x : List ℕ). line ind (proto_by x (meaning s x)) (camel_to_snake w) k) eu
         ∙ ap (λ (x : List ℕ). line ind (proto_by it.second (meaning s it.second)) (camel_to_snake x) k) ew
         ∙ ap (λ (x : ℕ). line ind (proto_by it.second (meaning s it.second)) (camel_to_snake it.name) x) ek in
         subst (λ (x : List ℕ). Printed o at o' r x) e p
 
-    pub field-declared : d ≡ declaration.Named → Printed o at o' r (line ind (proto_in shape.Plain u []) (camel_to_snake w) k) → Printed o at o' r (field_text s ind it)
+    pub field-declared : d ≡ Some Named → Printed o at o' r (line ind (proto_in shape.Plain u []) (camel_to_snake w) k) → Printed o at o' r (field_text s ind it)
     unfolding as_named
     field-declared f p = by-declaration f p
 
-    pub field-typed : {t : ℕ} → d ≡ declaration.Typed t → Printed o at o' r (line ind (proto_of (form_of (item_at s t))) (camel_to_snake w) k) → Printed o at o' r (field_text s ind it)
+    pub field-typed : {t : ℕ} → d ≡ Some (Typed t) → Printed o at o' r (line ind (proto_of (form_of (item_at s t))) (camel_to_snake w) k) → Printed o at o' r (field_text s ind it)
     field-typed f p = by-declaration f p
 
-    pub field-undeclared : d ≡ declaration.Nothing → Printed o at o' r (line ind (pick (among u built_ins) (proto_of (built_in u)) (as_named u)) (camel_to_snake w) k) → Printed o at o' r (field_text s ind it)
+    pub field-undeclared : d ≡ None → Printed o at o' r (line ind (pick (among u built_ins) (proto_of (built_in u)) (as_named u)) (camel_to_snake w) k) → Printed o at o' r (field_text s ind it)
     field-undeclared f p = by-declaration f (go (among u built_ins) p)
       where
         go : (b : Bool) → Printed o at o' r (line ind (pick b (proto_of (built_in u)) (as_named u)) (camel_to_snake w) k) → Printed o at o' r (line ind (proto_by u (pick b (typed (built_in u)) unknown)) (camel_to_snake w) k)
@@ -126,10 +128,10 @@ module _ {o : List ℕ} {at : ℕ} {o' : List ℕ} {r : ℕ} where
 
     module _ {u : List ℕ} (eu : u ≡ it.second) where
       pub field-number-named : n ≡ 1 → Printed o at o' r (line ind (proto_in shape.Plain u []) (camel_to_snake w) k) → Printed o at o' r (field_text s ind it)
-      field-number-named f p = field-declared s ind it eu ew ek refl (sym (declaration-named f (declaration_of s u) (number-of-name s eu en))) p
+      field-number-named f p = field-declared s ind it eu ew ek refl (sym (declaration-named f (declaration_of s it.second) en)) p
 
       pub field-number-undeclared : n ≤ 1 → (n ≡ 1 → ⊥) → Printed o at o' r (line ind (pick (among u built_ins) (proto_of (built_in u)) (as_named u)) (camel_to_snake w) k) → Printed o at o' r (field_text s ind it)
-      field-number-undeclared l f p = field-undeclared s ind it eu ew ek refl (sym (declaration-nothing (omega arith) (declaration_of s u) (number-of-name s eu en))) p
+      field-number-undeclared l f p = field-undeclared s ind it eu ew ek refl (sym (declaration-none (omega arith) (declaration_of s it.second) en)) p
 
   -- ---- composites
 

@@ -2,7 +2,7 @@
 use mathlib.Core.Path.{◌≡◌, refl}
 use mathlib.Core.Bool.{true, false}
 use mathlib.Core.List.{List, [], ◌∷◌}
-use mathlib.Core.Option.{none, some}
+use Rattle.std.specs.Prelude.{None, Some}
 use Prim.Native.Nat.{ℕ}
 use lib.ListN.{length}
 use Rattle.texts.specs.Text.{ascii, same, starts_with}
@@ -46,12 +46,12 @@ field owner name type id = item a_field owner name type id
 -- ---- arrays
 
 pub arrays
-    : (array_refusal (schema (pair a_type 0 ∷ [])) ≡ none)
-    × (array_refusal (schema (composite (ascii "messageHeader") ∷ pair a_member 0 ∷ [])) ≡ none)
-    × (array_refusal (schema (composite (ascii "box") ∷ pair a_member 0 ∷ [])) ≡ some (ArrayInComposite 0))
-    × (array_refusal (schema (composite (ascii "messageHeader") ∷ pair a_member 0 ∷ composite (ascii "box") ∷ pair a_member 2 ∷ [])) ≡ some (ArrayInComposite 1))
-    × (array_refusal (schema (pair a_type 0 ∷ item a_message 0 (ascii "A") [] 1 ∷ item a_message 0 (ascii "B") [] 2 ∷ item a_group 2 (ascii "gs") [] 3 ∷ field 3 (ascii "x") (ascii "pair") 4 ∷ [])) ≡ some (ArrayInMessage 1))
-    × (array_refusal (schema (pair a_type 0 ∷ item an_enum 0 (ascii "pair") [] 0 ∷ item a_message 0 (ascii "A") [] 1 ∷ field 2 (ascii "x") (ascii "pair") 4 ∷ [])) ≡ none)
+    : (array_refusal (schema (pair a_type 0 ∷ [])) ≡ None)
+    × (array_refusal (schema (composite (ascii "messageHeader") ∷ pair a_member 0 ∷ [])) ≡ None)
+    × (array_refusal (schema (composite (ascii "box") ∷ pair a_member 0 ∷ [])) ≡ Some (ArrayInComposite 0))
+    × (array_refusal (schema (composite (ascii "messageHeader") ∷ pair a_member 0 ∷ composite (ascii "box") ∷ pair a_member 2 ∷ [])) ≡ Some (ArrayInComposite 1))
+    × (array_refusal (schema (pair a_type 0 ∷ item a_message 0 (ascii "A") [] 1 ∷ item a_message 0 (ascii "B") [] 2 ∷ item a_group 2 (ascii "gs") [] 3 ∷ field 3 (ascii "x") (ascii "pair") 4 ∷ [])) ≡ Some (ArrayInMessage 1))
+    × (array_refusal (schema (pair a_type 0 ∷ item an_enum 0 (ascii "pair") [] 0 ∷ item a_message 0 (ascii "A") [] 1 ∷ field 2 (ascii "x") (ascii "pair") 4 ∷ [])) ≡ None)
 unfolding array_refusal first_from refused_composite holds_array refused_message is_printed any is_array is_char is_byte form_of built_in meaning is_declared last_named last positions_from all_of under same among
 arrays = (refl, refl, refl, refl, refl, refl)
 
@@ -97,7 +97,7 @@ full =
 pub printed
     : (source hit ≡ ascii "syntax = \"proto3\";\n\nimport \"sbe/annotations.proto\";\n\noption (sbe.schema_id) = 7;\noption (sbe.version) = 0;\n\nmessage Hit {\n  option (sbe.template_id) = 3;\n  message Leg {\n    uint32 leg_id = 6 [(sbe.encoding) = \"uint16\"];\n  }\n  repeated Leg legs = 5;\n}\n\n")
     × (length (source (schema [])) ≡ 108)
-    × (array_refusal full ≡ none)
+    × (array_refusal full ≡ None)
     × (source full ≡ ascii "syntax = \"proto3\";\n\npackage a.b1;\n\nimport \"sbe/annotations.proto\";\n\noption (sbe.schema_id) = 1;\noption (sbe.version) = 2;\n\nenum Side {\n  SIDE_BUY_NOW = -1;\n}\n\nmessage Box {\n  string tag = 1 [(sbe.length) = 5];\n  // SBE characterEncoding \"Latin\\\"1\\n\" is not UTF-8 compatible, so this field is bytes.\n  bytes old = 2 [(sbe.length) = 1];\n  bytes blob = 3 [(sbe.length) = 3];\n  Side which_side = 4;\n}\n\nmessage Hit {\n  option (sbe.template_id) = 3;\n  Box box = 4;\n  uint64 f = 5;\n}\n\n")
 unfolding source header package_line enum_text value_text note_line bracketed line is_printed printed_composites member_text ref_text part_texts composite_text field_text group_text message_text each numbered is_char is_byte is_raw chars form_of built_in as_named of_length note_on narrow as_primitive proto_of meaning is_declared last_named last positions_from all_of under same among decimal digits camel_to_snake snake_at breaks_snake camel_to_screaming_snake screaming_at breaks_screaming prefix_of ends_in_ies ends_in_s singular capitalized singular_pascal starts_with lowered raised is_upper is_lower up_to is_blank trimmed_front trimmed_back trimmed is_punctuation cleaned compatible hex escaped quoted array_refusal first_from refused_composite holds_array refused_message any is_array
 printed = (refl, refl, refl, refl)

@@ -2,19 +2,19 @@
 use mathlib.Core.Path.{◌≡◌, refl, sym, ap, ◌∙◌}
 use mathlib.Core.Bool.{Bool, true, false, not}
 use mathlib.Core.List.{List, [], ◌∷◌, ◌++◌}
-use mathlib.Core.Option.{Option, none, some}
+use Rattle.std.specs.Prelude.{Option, Some, None, is_some}
 use Prim.Native.Nat.{ℕ, ◌≤◌, ◌<◌}
 use borrow.Author.Tests.{lt-ltb, le-ltb}
 use Rattle.texts.specs.Choice.{pick, ◌or◌}
 use Rattle.texts.specs.Text.{ascii, same}
-use Rattle.texts.specs.Lists.{is_some, among}
+use Rattle.texts.specs.Lists.{among}
 use Rattle.texts.proofs.Comparing.{same-equal}
 use Rattle.texts.proofs.Among.{among-append}
 use Rattle.charsets.specs.Charset.{compatible}
 use Rattle.model.specs.Schema.{Schema, item_at, last_named, a_type, a_composite, an_enum}
 use Rattle.index.specs.Declarations.{declared_by, declaration_of}
-use Rattle.index.specs.declared.Declaration.{Declaration}
-use Rattle.index.specs.declared.Declaration.TheVariants as declaration
+use Rattle.index.specs.declared.seen.Declaration.{Declaration}
+use Rattle.index.specs.declared.seen.Declaration.TheVariants.{Named, Typed}
 use Rattle.xmltoproto.specs.Types.{built_ins, built_in, chars, is_char, is_byte, is_raw, is_array, as_named, of_length, narrow, as_primitive, proto_of, Meaning, declared, typed, form_of, is_declared, type_or, meaning}
 use Rattle.xmltoproto.specs.Names.{signed_names, unsigned_names, other_primitives}
 use Rattle.xmltoproto.specs.Shapes.{form, proto_in, meaning_in}
@@ -141,33 +141,33 @@ undeclared-shape w = go (among w built_ins) refl
     go false f = rw (other (ascii "char") f refl, other (ascii "int8") f refl, other (ascii "int16") f refl, other (ascii "uint8") f refl, other (ascii "uint16") f refl)
 
 -- by what it is declared as
-abbrev pub declared_so : Schema → List ℕ → Declaration → Meaning
-declared_so s name declaration.Named = declared
-declared_so s name (declaration.Typed i) = typed (form_of (item_at s i))
-declared_so s name declaration.Nothing = type_or s name none
+abbrev pub declared_so : Schema → List ℕ → Option Declaration → Meaning
+declared_so s name (Some Named) = declared
+declared_so s name (Some (Typed i)) = typed (form_of (item_at s i))
+declared_so s name None = type_or s name None
 
 pub declared-means : (s : Schema) (name : List ℕ) → declared_so s name (declaration_of s name) ≡ meaning s name
 unfolding meaning is_declared declaration_of
 declared-means s name = go (last_named an_enum name s) (last_named a_composite name s) (last_named a_type name s)
   where
     go : (e c t : Option ℕ) → declared_so s name (declared_by e c t) ≡ pick (is_some e or is_some c) declared (type_or s name t)
-    go (some i) c t = refl
-    go none (some i) t = refl
-    go none none (some i) = refl
-    go none none none = refl
+    go (Some i) c t = refl
+    go None (Some i) t = refl
+    go None None (Some i) = refl
+    go None None None = refl
 
-module _ (s : Schema) (name : List ℕ) {d : Declaration} (ed : d ≡ declaration_of s name) where
+module _ (s : Schema) (name : List ℕ) {d : Option Declaration} (ed : d ≡ declaration_of s name) where
   pub means : declared_so s name d ≡ meaning s name
   means = ap (declared_so s name) ed ∙ declared-means s name
 
-  pub sense-declared : d ≡ declaration.Named → meaning_in s name sense.Declared ≡ meaning s name
+  pub sense-declared : d ≡ Some Named → meaning_in s name sense.Declared ≡ meaning s name
   sense-declared f = rw f at means
 
-  pub sense-typed : {i : ℕ} → d ≡ declaration.Typed i → meaning_in s name (sense.Typed i) ≡ meaning s name
+  pub sense-typed : {i : ℕ} → d ≡ Some (Typed i) → meaning_in s name (sense.Typed i) ≡ meaning s name
   sense-typed f = rw f at means
 
-  module _ (f : d ≡ declaration.Nothing) {w : List ℕ} (ew : w ≡ name) {b : Bool} (eb : b ≡ among w built_ins) where
-    absent : type_or s name none ≡ meaning s name
+  module _ (f : d ≡ None) {w : List ℕ} (ew : w ≡ name) {b : Bool} (eb : b ≡ among w built_ins) where
+    absent : type_or s name None ≡ meaning s name
     absent = rw f at means
 
     told : among name built_ins ≡ b

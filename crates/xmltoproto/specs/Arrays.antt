@@ -1,6 +1,5 @@
 -- Refusals 40 and 41: arrays that no proto field represents.
-use Rattle.std.specs.Prelude.{◌≡◌, Bool, false, List, [], ◌∷◌, ℕ, ◌+◌}
-use Rattle.std.proofs.Math.Option.{Option, none, some}
+use Rattle.std.specs.Prelude.{◌≡◌, Bool, false, List, [], ◌∷◌, ℕ, ◌+◌, Option, None, Some}
 use Rattle.texts.specs.Choice.{pick, ◌or◌, ◌and◌}
 use Rattle.texts.specs.Lists.{any}
 use Rattle.refusals.specs.declared.Refusal.{Refusal}
@@ -11,8 +10,8 @@ use Rattle.xmltoproto.specs.Composites.{is_printed}
 
 -- the place of the first element that passes a test; the list's own first element is at k
 unfoldable pub first_from : ℕ → (ℕ → Bool) → List ℕ → Option ℕ
-first_from k p [] = none
-first_from k p (i ∷ is) = let rest = first_from (k + 1) p is in pick (p i) (some k) rest
+first_from k p [] = None
+first_from k p (i ∷ is) = let rest = first_from (k + 1) p is in pick (p i) (Some k) rest
 
 -- a printed composite that holds such a member
 unfoldable pub refused_composite : Schema → ℕ → Bool
@@ -32,13 +31,13 @@ refused_message s m = holds_array s m or any (holds_array s) (under a_group m s)
 
 -- 40 by composite, counted among all composites, then 41 by message
 abbrev pub first_of : Option ℕ → Option ℕ → Option Refusal
-first_of (some c) m = some (ArrayInComposite c)
-first_of none (some m) = some (ArrayInMessage m)
-first_of none none = none
+first_of (Some c) m = Some (ArrayInComposite c)
+first_of None (Some m) = Some (ArrayInMessage m)
+first_of None None = None
 
 unfoldable pub array_refusal : Schema → Option Refusal
 array_refusal s = first_of (first_from 0 (refused_composite s) (all_of a_composite s)) (first_from 0 (refused_message s) (all_of a_message s))
 
 -- refused by neither
 abbrev pub Accepted : Schema → Type 0
-Accepted s = array_refusal s ≡ none
+Accepted s = array_refusal s ≡ None

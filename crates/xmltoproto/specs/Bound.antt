@@ -1,10 +1,10 @@
 -- The most bytes that the item at a position adds to the source, by the lengths of its texts. Internal.
-use Rattle.std.specs.Prelude.{List, ℕ, zero, suc, ◌+◌, ◌*◌, ◌≤◌, ◌<◌, ◌^◌, eqb, length}
+use Rattle.std.specs.Prelude.{Option, Some, None, List, ℕ, zero, suc, ◌+◌, ◌*◌, ◌≤◌, ◌<◌, ◌^◌, eqb, length}
 use Rattle.texts.specs.Choice.{pick}
 use Rattle.printing.specs.Decimal.{decimal}
 use Rattle.index.specs.Declarations.{declaration_of}
-use Rattle.index.specs.declared.Declaration.{Declaration}
-use Rattle.index.specs.declared.Declaration.TheVariants.{Named, Typed, Nothing}
+use Rattle.index.specs.declared.seen.Declaration.{Declaration}
+use Rattle.index.specs.declared.seen.Declaration.TheVariants.{Named, Typed}
 use Rattle.model.specs.Schema.{Item, Schema, item_at, a_member, a_ref, a_composite, an_enum, a_value, a_message, a_group, a_field}
 use Rattle.model.specs.Store.{item_of}
 use Rattle.model.specs.declared.Entry.{Entry}
@@ -50,10 +50,10 @@ abbrev pub group_most : Item → ℕ
 group_most g = 34 + 4 * length g.name + length (decimal g.number)
 
 -- by what the type name is declared as; one that is not declared may be a built-in's
-abbrev pub field_by : Schema → Item → Declaration → ℕ
-field_by s f Named = named_most (length f.name) (length (decimal f.number)) (length f.second)
-field_by s f (Typed t) = typed_most (length f.name) (length (decimal f.number)) (form_of (item_at s t))
-field_by s f Nothing = typed_most (length f.name) (length (decimal f.number)) (built_in f.second)
+abbrev pub field_by : Schema → Item → Option Declaration → ℕ
+field_by s f (Some Named) = named_most (length f.name) (length (decimal f.number)) (length f.second)
+field_by s f (Some (Typed t)) = typed_most (length f.name) (length (decimal f.number)) (form_of (item_at s t))
+field_by s f None = typed_most (length f.name) (length (decimal f.number)) (built_in f.second)
 
 unfoldable pub field_most : Schema → Item → ℕ
 field_most s f = field_by s f (declaration_of s f.second)

@@ -1,6 +1,5 @@
 -- What the generator answers for a schema: 40, 41, then 3, in this order; and what its output holds afterwards.
-use Rattle.std.specs.Prelude.{◌≡◌, List, ℕ, length, Err}
-use Rattle.std.proofs.Math.Option.{Option, none, some}
+use Rattle.std.specs.Prelude.{◌≡◌, List, ℕ, length, Option, None, Some, Err}
 use Rattle.refusals.specs.Figures.{Answer}
 use Rattle.refusals.specs.declared.Refusal.{Refusal}
 use Rattle.printing.specs.Output.{finished, output_after}
@@ -10,8 +9,8 @@ use Rattle.xmltoproto.specs.Arrays.{array_refusal}
 
 -- the answer after the array refusals, where the source is `text` and the output has `room` bytes
 abbrev pub answer_after : Option Refusal → List ℕ → ℕ → Answer
-answer_after (some r) text room = Err r
-answer_after none text room = finished text room
+answer_after (Some r) text room = Err r
+answer_after None text room = finished text room
 
 unfoldable pub generated : Schema → ℕ → Answer
 generated s room = answer_after (array_refusal s) (source s) room

@@ -1,13 +1,12 @@
 -- The array refusal as the code answers it. Internal.
-use Rattle.std.specs.Prelude.{◌≡◌, false, ℕ, Result, Ok, Err}
-use Rattle.std.proofs.Math.Option.{Option, none, some}
+use Rattle.std.specs.Prelude.{◌≡◌, false, ℕ, Option, None, Some, Result, Ok, Err}
 use Rattle.refusals.specs.declared.Refusal.{Refusal}
 use Rattle.model.specs.Schema.{Schema, item_at}
 use Rattle.xmltoproto.specs.Types.{form_of, is_array}
 
 abbrev pub refusing : Option Refusal → Result (Unit {0}) Refusal
-refusing none = Ok tt
-refusing (some r) = Err r
+refusing None = Ok tt
+refusing (Some r) = Err r
 
 -- no item has the form of such an array
 pub record Arrayless (s : Schema) : Type 0 where

@@ -1,9 +1,8 @@
 -- How a type prints, and what a field's type name stands for.
-use Rattle.std.specs.Prelude.{Bool, not, List, [], ◌∷◌, ◌++◌, ℕ, ltb}
-use Rattle.std.proofs.Math.Option.{Option, none, some}
+use Rattle.std.specs.Prelude.{Option, Some, None, is_some, Bool, not, List, [], ◌∷◌, ◌++◌, ℕ, ltb}
 use Rattle.texts.specs.Choice.{pick, ◌or◌, ◌and◌}
 use Rattle.texts.specs.Text.{ascii, same}
-use Rattle.texts.specs.Lists.{is_some, among}
+use Rattle.texts.specs.Lists.{among}
 use Rattle.printing.specs.Decimal.{decimal}
 use Rattle.escaping.specs.Escape.{quoted}
 use Rattle.charsets.specs.Charset.{compatible}
@@ -90,8 +89,8 @@ is_declared s name = is_some (last_named an_enum name s) or is_some (last_named 
 
 -- the last type of this name; a built-in where there is none
 abbrev pub type_or : Schema → List ℕ → Option ℕ → Meaning
-type_or s name (some i) = typed (form_of (item_at s i))
-type_or s name none = pick (among name built_ins) (typed (built_in name)) unknown
+type_or s name (Some i) = typed (form_of (item_at s i))
+type_or s name None = pick (among name built_ins) (typed (built_in name)) unknown
 
 -- among enums, composites, types
 unfoldable pub meaning : Schema → List ℕ → Meaning

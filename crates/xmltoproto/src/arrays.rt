@@ -1,225 +1,167 @@
 // Refusals 40 and 41: arrays that no proto field represents, found before anything is written.
-ghost use Rattle.std.specs.Prelude.{◌≡◌, false};
+ghost use Rattle.std.specs.Prelude.{◌≡◌, Bool, false, ℕ};
 ghost use Rattle.texts.specs.Lists.{any};
-ghost use Rattle.model.specs.Schema.{item_at, under, all_of, a_member, a_composite, a_message, a_group};
-ghost use Rattle.index.specs.Index.{Indexed};
-ghost use Rattle.model.specs.Store.{schema_of, found};
+ghost use Rattle.model.specs.Schema.{Schema, item_at, under, all_of};
 ghost use Rattle.xmltoproto.specs.Types.{form_of, is_array, meaning};
 ghost use Rattle.xmltoproto.specs.Arrays.{first_from, refused_composite, is_array_type, holds_array, refused_message, array_refusal};
 ghost use Rattle.xmltoproto.specs.Refusing.{refusing, Arrayless};
 
 use crate::composites::is_printed;
-use crate::types::{Sense, is_array, sense_in};
-use crate::view::{second_at, size_at};
-use index::child;
-use model::{COMPOSITE, FIELD, GROUP, MEMBER, MESSAGE, Model, Position, count, item, next_of};
+use crate::types::{Sense, is_array, sense_of};
+use index::seen::Index;
+use model::{COMPOSITE, FIELD, GROUP, MEMBER, MESSAGE};
 use refusals::Refusal;
+
+// A test of an item, by the schema that it is in.
+trait ArrayTest {
+    ghost test: { Schema → ℕ → Bool };
+
+    fn passes(&self, s: &Index<'_>, i: u32) -> bool
+        ensures { result ≡ test s.now i };
+}
+
+// Whether some item of a kind under an owner passes.
+fn any_child<T: ArrayTest>(s: &Index<'_>, kind: u32, owner: u32, by: &T) -> bool
+    ensures { result ≡ any (T.test s.now) (under kind owner s.now) }
+{
+    for i in s.children(kind, owner) {
+        if by.passes(s, i) {
+            return true;
+        }
+    }
+    false
+}
+
+// The place, among all items of a kind, of the first that passes.
+fn first_place<T: ArrayTest>(s: &Index<'_>, kind: u32, by: &T) -> Option<u32>
+    ensures { result ≡ first_from 0 (T.test s.now) (all_of kind s.now) }
+{
+    let mut k = 0;
+    for i in s.all_of(kind) {
+        if by.passes(s, i) {
+            return Some(k);
+        }
+        k += 1;
+    }
+    None
+}
 
 // ---- composites
 
-fn is_member_array(m: Model, rec: &[u32], text: &[u8], i: u32) -> bool
-    ensures { result ≡ is_array (form_of (item_at (schema_of m rec.now text.now) i)) }
+fn is_member_array(s: &Index<'_>, i: u32) -> bool
+    ensures { result ≡ is_array (form_of (item_at s.now i)) }
 {
-    let size = size_at(m, rec, text, i);
+    let size = s.size(i);
     if 1 < size {
-        return is_array(second_at(m, rec, text, i), size);
+        return is_array(s.second(i), size);
     }
     false
 }
 
-fn has_member_array(m: Model, rec: &[u32], text: &[u8], ix: &[u16], c: u32) -> bool
-    requires { Indexed (schema_of m rec.now text.now) ix.now }
-    ensures { result ≡ any (λ i. is_array (form_of (item_at (schema_of m rec.now text.now) i))) (under a_member c (schema_of m rec.now text.now)) }
-{
-    let n = count(m, rec, text);
-    let mut from = 0;
-    while from < n {
-        match child(m, rec, text, ix, MEMBER, c, from) {
-            Position::At(i) => {
-                if is_member_array(m, rec, text, i) {
-                    return true;
-                }
-                from = i + 1;
-            }
-            Position::Nothing => {
-                return false;
-            }
+// A type or member that is such an array.
+struct ArrayMember;
+
+impl ArrayTest for ArrayMember {
+    ghost test = { λ s i. is_array (form_of (item_at s i)) };
+
+    fn passes(&self, s: &Index<'_>, i: u32) -> bool {
+        is_member_array(s, i)
+    }
+}
+
+// A printed composite that holds such a member.
+struct RefusedComposite;
+
+impl ArrayTest for RefusedComposite {
+    ghost test = { refused_composite };
+
+    fn passes(&self, s: &Index<'_>, i: u32) -> bool {
+        if is_printed(s.view(), i) {
+            return any_child(s, MEMBER, i, &ArrayMember);
         }
+        false
     }
-    false
-}
-
-// Such a member in a composite that is printed.
-fn is_refused_composite(m: Model, rec: &[u32], text: &[u8], ix: &[u16], c: u32) -> bool
-    requires { Indexed (schema_of m rec.now text.now) ix.now }
-    ensures { result ≡ refused_composite (schema_of m rec.now text.now) c }
-{
-    if is_printed(m, rec, text, c) {
-        return has_member_array(m, rec, text, ix, c);
-    }
-    false
-}
-
-// The place, among all composites, of the first that is refused.
-fn first_composite(m: Model, rec: &[u32], text: &[u8], ix: &[u16]) -> Position
-    requires { Indexed (schema_of m rec.now text.now) ix.now }
-    ensures { result ≡ found (first_from 0 (refused_composite (schema_of m rec.now text.now)) (all_of a_composite (schema_of m rec.now text.now))) }
-{
-    let n = count(m, rec, text);
-    let mut k = 0;
-    let mut from = 0;
-    while from < n {
-        match next_of(m, rec, COMPOSITE, from) {
-            Position::At(i) => {
-                if is_refused_composite(m, rec, text, ix, i) {
-                    return Position::At(k);
-                }
-                k += 1;
-                from = i + 1;
-            }
-            Position::Nothing => {
-                return Position::Nothing;
-            }
-        }
-    }
-    Position::Nothing
 }
 
 // ---- messages
 
-fn is_field_array(m: Model, rec: &[u32], text: &[u8], ix: &[u16], i: u32) -> bool
-    requires { Indexed (schema_of m rec.now text.now) ix.now }
-    ensures { result ≡ is_array_type (meaning (schema_of m rec.now text.now) (item_at (schema_of m rec.now text.now) i).second) }
-{
-    match sense_in(m, rec, text, ix, i) {
-        Sense::Declared => false,
-        Sense::Typed(t) => is_member_array(m, rec, text, t),
-        Sense::BuiltIn => false,
-        Sense::Unknown => false,
-    }
-}
+// A field of such a type.
+struct ArrayField;
 
-// A message or group that has a field of such a type.
-fn holds_array(m: Model, rec: &[u32], text: &[u8], ix: &[u16], owner: u32) -> bool
-    requires { Indexed (schema_of m rec.now text.now) ix.now }
-    ensures { result ≡ holds_array (schema_of m rec.now text.now) owner }
-{
-    let n = count(m, rec, text);
-    let mut from = 0;
-    while from < n {
-        match child(m, rec, text, ix, FIELD, owner, from) {
-            Position::At(i) => {
-                if is_field_array(m, rec, text, ix, i) {
-                    return true;
-                }
-                from = i + 1;
-            }
-            Position::Nothing => {
-                return false;
-            }
+impl ArrayTest for ArrayField {
+    ghost test = { λ s i. is_array_type (meaning s (item_at s i).second) };
+
+    fn passes(&self, s: &Index<'_>, i: u32) -> bool {
+        match sense_of(s.declared(i), s.second(i)) {
+            Sense::Declared => false,
+            Sense::Typed(t) => is_member_array(s, t),
+            Sense::BuiltIn => false,
+            Sense::Unknown => false,
         }
     }
-    false
 }
 
-fn has_group_array(m: Model, rec: &[u32], text: &[u8], ix: &[u16], owner: u32) -> bool
-    requires { Indexed (schema_of m rec.now text.now) ix.now }
-    ensures { result ≡ any (holds_array (schema_of m rec.now text.now)) (under a_group owner (schema_of m rec.now text.now)) }
-{
-    let n = count(m, rec, text);
-    let mut from = 0;
-    while from < n {
-        match child(m, rec, text, ix, GROUP, owner, from) {
-            Position::At(i) => {
-                if holds_array(m, rec, text, ix, i) {
-                    return true;
-                }
-                from = i + 1;
-            }
-            Position::Nothing => {
-                return false;
-            }
+// A message or group that has such a field.
+struct ArrayHolder;
+
+impl ArrayTest for ArrayHolder {
+    ghost test = { holds_array };
+
+    fn passes(&self, s: &Index<'_>, i: u32) -> bool {
+        any_child(s, FIELD, i, &ArrayField)
+    }
+}
+
+// A message that has such a field, or a group that has.
+struct RefusedMessage;
+
+impl ArrayTest for RefusedMessage {
+    ghost test = { refused_message };
+
+    fn passes(&self, s: &Index<'_>, i: u32) -> bool {
+        if ArrayHolder.passes(s, i) {
+            return true;
         }
+        any_child(s, GROUP, i, &ArrayHolder)
     }
-    false
-}
-
-fn is_refused_message(m: Model, rec: &[u32], text: &[u8], ix: &[u16], i: u32) -> bool
-    requires { Indexed (schema_of m rec.now text.now) ix.now }
-    ensures { result ≡ refused_message (schema_of m rec.now text.now) i }
-{
-    if holds_array(m, rec, text, ix, i) {
-        return true;
-    }
-    has_group_array(m, rec, text, ix, i)
-}
-
-fn first_message(m: Model, rec: &[u32], text: &[u8], ix: &[u16]) -> Position
-    requires { Indexed (schema_of m rec.now text.now) ix.now }
-    ensures { result ≡ found (first_from 0 (refused_message (schema_of m rec.now text.now)) (all_of a_message (schema_of m rec.now text.now))) }
-{
-    let n = count(m, rec, text);
-    let mut k = 0;
-    let mut from = 0;
-    while from < n {
-        match next_of(m, rec, MESSAGE, from) {
-            Position::At(i) => {
-                if is_refused_message(m, rec, text, ix, i) {
-                    return Position::At(k);
-                }
-                k += 1;
-                from = i + 1;
-            }
-            Position::Nothing => {
-                return Position::Nothing;
-            }
-        }
-    }
-    Position::Nothing
 }
 
 // ---- both
 
 // Whether any item has the form of such an array. Few schemas have one, and without one nothing is refused. Few items
 // have a length at all, and the others are told by one word.
-fn has_arrays(m: Model, rec: &[u32], text: &[u8]) -> bool
-    ensures { result ≡ false → Arrayless (schema_of m rec.now text.now) }
+fn has_arrays(s: &Index<'_>) -> bool
+    ensures { result ≡ false → Arrayless s.now }
 {
-    let n = count(m, rec, text);
-    let mut i = 0;
-    while i < n {
-        let e = item(m, rec, i);
-        if e.given == 1 {
-            if is_member_array(m, rec, text, i) {
+    for i in 0..s.count() {
+        if s.given(i) {
+            if is_member_array(s, i) {
                 return true;
             }
         }
-        i += 1;
     }
     false
 }
 
 // 40 by composite, then 41 by message.
-fn first_refusal(m: Model, rec: &[u32], text: &[u8], ix: &[u16]) -> Result<(), Refusal>
-    requires { Indexed (schema_of m rec.now text.now) ix.now }
-    ensures { result ≡ refusing (array_refusal (schema_of m rec.now text.now)) }
+fn first_refusal(s: &Index<'_>) -> Result<(), Refusal>
+    ensures { result ≡ refusing (array_refusal s.now) }
 {
-    match first_composite(m, rec, text, ix) {
-        Position::At(c) => Err(Refusal::ArrayInComposite { place: c as usize }),
-        Position::Nothing => match first_message(m, rec, text, ix) {
-            Position::At(i) => Err(Refusal::ArrayInMessage { place: i as usize }),
-            Position::Nothing => Ok(()),
+    match first_place(s, COMPOSITE, &RefusedComposite) {
+        Some(c) => Err(Refusal::ArrayInComposite { place: c as usize }),
+        None => match first_place(s, MESSAGE, &RefusedMessage) {
+            Some(i) => Err(Refusal::ArrayInMessage { place: i as usize }),
+            None => Ok(()),
         },
     }
 }
 
 // The same, where there is anything to look for.
-pub fn array_refusal(m: Model, rec: &[u32], text: &[u8], ix: &[u16]) -> Result<(), Refusal>
-    requires { Indexed (schema_of m rec.now text.now) ix.now }
-    ensures { result ≡ refusing (array_refusal (schema_of m rec.now text.now)) }
+pub fn array_refusal(s: &Index<'_>) -> Result<(), Refusal>
+    ensures { result ≡ refusing (array_refusal s.now) }
 {
-    if has_arrays(m, rec, text) {
-        return first_refusal(m, rec, text, ix);
+    if has_arrays(s) {
+        return first_refusal(s);
     }
     Ok(())
 }

@@ -3,16 +3,14 @@
 // Each item is counted at its longest, printed or not, by the kinds of specs/Bound.antt. That the sum is a bound
 // rests on each item having one owner (proofs/Owning.antt).
 ghost use Rattle.std.specs.Prelude.{◌≡◌, List, ℕ, ◌≤◌, length};
+ghost use Rattle.printing.specs.Decimal.{decimal};
 ghost use Rattle.model.specs.Schema.{item_at, a_field};
-ghost use Rattle.model.specs.Store.{item_of, schema_of};
-ghost use Rattle.index.specs.Index.{Indexed};
+ghost use Rattle.model.specs.Shown.{Shows};
 ghost use Rattle.xmltoproto.specs.Source.{source};
 ghost use Rattle.xmltoproto.specs.Bound.{named_most, value_most, field_most, share, Sized, Covers, CoversLine};
 
-use index::{Declaration, field_declared};
-use model::{
-    COMPOSITE, ENUM, Entry, FIELD, GROUP, MEMBER, MESSAGE, Model, REF, VALUE, count, item,
-};
+use index::seen::{Declaration, Index};
+use model::{COMPOSITE, ENUM, Entry, FIELD, GROUP, MEMBER, MESSAGE, REF, VALUE};
 
 // A line under a name of `n` bytes whose type is named by `word` bytes; a number has at most ten digits.
 fn named_most(n: u32, word: u32) -> usize
@@ -33,32 +31,32 @@ fn typed_most(n: u32, t: Entry) -> usize
 }
 
 // The field at `i`, with a name of `n` bytes and a type name of `word`, which may be a built-in's where it is not declared.
-fn field_most(m: Model, rec: &[u32], text: &[u8], ix: &[u16], i: u32, n: u32, word: u32) -> usize
-    requires { Indexed (schema_of m rec.now text.now) ix.now × (length (schema_of m rec.now text.now).items ≤ 1024) × ((item_at (schema_of m rec.now text.now) i).kind ≡ a_field) × Sized (item_at (schema_of m rec.now text.now) i) n word }
-    ensures { Covers result (field_most (schema_of m rec.now text.now) (item_at (schema_of m rec.now text.now) i)) }
+fn field_most(s: &Index<'_>, i: u32, n: u32, word: u32) -> usize
+    requires { (length s.now.items ≤ 1024) × ((item_at s.now i).kind ≡ a_field) × Sized (item_at s.now i) n word }
+    ensures { Covers result (field_most s.now (item_at s.now i)) }
 {
-    match field_declared(m, rec, text, ix, i) {
-        Declaration::Named => named_most(n, word),
-        Declaration::Typed(t) => typed_most(n, item(m, rec, t)),
-        Declaration::Nothing => named_most(n, word) + 29,
+    match s.field_declared(i) {
+        Some(Declaration::Named) => named_most(n, word),
+        Some(Declaration::Typed(t)) => typed_most(n, s.entry(t)),
+        None => named_most(n, word) + 29,
     }
 }
 
 // The value `v` at `i`, with its enum's prefix.
-fn value_most(m: Model, rec: &[u32], text: &[u8], v: Entry, i: u32) -> usize
-    requires { (t : List ℕ) → item_of t v ≡ item_at (schema_of m rec.now t) i }
-    ensures { Covers result (value_most (item_at (schema_of m rec.now text.now) (item_at (schema_of m rec.now text.now) i).owner) (item_at (schema_of m rec.now text.now) i)) }
+fn value_most(s: &Index<'_>, v: Entry, i: u32) -> usize
+    requires { Shows v (item_at s.now i) }
+    ensures { Covers result (value_most (item_at s.now (item_at s.now i).owner) (item_at s.now i)) }
 {
-    let owner = item(m, rec, v.owner);
+    let owner = s.entry(v.owner);
     8 + 2 * (owner.nlen as usize) + 2 * (v.nlen as usize) + v.slen as usize
 }
 
 // What the item at `i` adds.
-fn item_most(m: Model, rec: &[u32], text: &[u8], ix: &[u16], i: u32) -> usize
-    requires { Indexed (schema_of m rec.now text.now) ix.now × (length (schema_of m rec.now text.now).items ≤ 1024) }
-    ensures { Covers result (share (schema_of m rec.now text.now) i) }
+fn item_most(s: &Index<'_>, i: u32) -> usize
+    requires { (length s.now.items ≤ 1024) }
+    ensures { Covers result (share s.now i) }
 {
-    let e = item(m, rec, i);
+    let e = s.entry(i);
     let name = e.nlen as usize;
     let kind = e.kind;
     match kind {
@@ -66,26 +64,30 @@ fn item_most(m: Model, rec: &[u32], text: &[u8], ix: &[u16], i: u32) -> usize
         REF => named_most(e.nlen, e.slen),
         COMPOSITE => 14 + name,
         ENUM => 11 + name,
-        VALUE => value_most(m, rec, text, e, i),
+        VALUE => value_most(s, e, i),
         MESSAGE => 55 + name,
         GROUP => 44 + 4 * name,
-        FIELD => field_most(m, rec, text, ix, i, e.nlen, e.slen),
+        FIELD => field_most(s, i, e.nlen, e.slen),
         _ => 0,
     }
 }
 
-// At least the length of the source.
-pub fn source_most(m: Model, rec: &[u32], text: &[u8], ix: &[u16]) -> usize
-    requires { Indexed (schema_of m rec.now text.now) ix.now × (length (schema_of m rec.now text.now).items ≤ 1024) }
-    ensures { length (source (schema_of m rec.now text.now)) ≤ result }
+// A number has at most ten digits.
+fn digits_most(n: u32) -> usize
+    ensures { (length (decimal n) ≤ result) × (result ≤ 10) }
 {
-    let head = m.head;
-    let n = count(m, rec, text);
-    let mut most = 137 + head.len as usize;
-    let mut i = 0;
-    while i < n {
-        most += item_most(m, rec, text, ix, i);
-        i += 1;
+    10
+}
+
+// At least the length of the source.
+pub fn source_most(s: &Index<'_>) -> usize
+    requires { (length s.now.items ≤ 1024) }
+    ensures { length (source s.now) ≤ result }
+{
+    let package = s.package();
+    let mut most = 117 + package.len() + digits_most(s.id()) + digits_most(s.version());
+    for i in 0..s.count() {
+        most += item_most(s, i);
     }
     most
 }

@@ -5,8 +5,6 @@ ghost use Rattle.texts.specs.Lists.{each, numbered};
 ghost use Rattle.classes.specs.Table.{IsTable};
 ghost use Rattle.printing.specs.Printed.{Printed};
 ghost use Rattle.model.specs.Schema.{item_at, under, a_member, a_ref};
-ghost use Rattle.index.specs.Index.{Indexed};
-ghost use Rattle.model.specs.Store.{schema_of};
 ghost use Rattle.xmltoproto.specs.Composites.{is_printed, printed_composites};
 ghost use Rattle.xmltoproto.specs.Source.{member_text, ref_text, part_texts, composite_text};
 ghost use Rattle.xmltoproto.specs.Parts.{Members};
@@ -14,54 +12,25 @@ ghost use Rattle.xmltoproto.specs.Parts.{Members};
 use crate::line::put_line;
 use crate::typed::put_typed;
 use crate::types::Shape;
-use crate::view::{name_at, second_at};
-use index::child;
-use model::{COMPOSITE, MEMBER, Model, Position, REF, count, next_of};
+use index::seen::Index;
+use model::view::View;
+use model::{COMPOSITE, MEMBER, REF};
 use printing::put_bytes;
 use texts::equal;
 
-fn put_member(
-    out: &mut [u8],
-    at: usize,
-    t: &[u8; 256],
-    m: Model,
-    rec: &[u32],
-    text: &[u8],
-    i: u32,
-    number: u32,
-) -> usize
+fn put_member(out: &mut [u8], at: usize, t: &[u8; 256], s: &Index<'_>, i: u32, number: u32) -> usize
     requires { IsTable t.now }
-    ensures { Printed out.old at out.new result (member_text number (item_at (schema_of m rec.now text.now) i)) }
+    ensures { Printed out.old at out.new result (member_text number (item_at s.now i)) }
 {
-    put_typed(
-        out,
-        at,
-        t,
-        m,
-        rec,
-        text,
-        false,
-        i,
-        name_at(m, rec, text, i),
-        number,
-    )
+    put_typed(out, at, t, s, false, i, s.name(i), number)
 }
 
-fn put_ref(
-    out: &mut [u8],
-    at: usize,
-    t: &[u8; 256],
-    m: Model,
-    rec: &[u32],
-    text: &[u8],
-    i: u32,
-    number: u32,
-) -> usize
+fn put_ref(out: &mut [u8], at: usize, t: &[u8; 256], s: &Index<'_>, i: u32, number: u32) -> usize
     requires { IsTable t.now }
-    ensures { Printed out.old at out.new result (ref_text number (item_at (schema_of m rec.now text.now) i)) }
+    ensures { Printed out.old at out.new result (ref_text number (item_at s.now i)) }
 {
-    let type_name = second_at(m, rec, text, i);
-    let name = name_at(m, rec, text, i);
+    let type_name = s.second(i);
+    let name = s.name(i);
     put_line(
         out,
         at,
@@ -76,136 +45,68 @@ fn put_ref(
 }
 
 // How many members a composite has.
-fn members_in(m: Model, rec: &[u32], text: &[u8], ix: &[u16], c: u32) -> u32
-    requires { Indexed (schema_of m rec.now text.now) ix.now }
-    ensures { Members (schema_of m rec.now text.now) c result }
+fn members_in(s: &Index<'_>, c: u32) -> u32
+    ensures { Members s.now c result }
 {
-    let n = count(m, rec, text);
     let mut k = 0;
-    let mut from = 0;
-    while from < n {
-        match child(m, rec, text, ix, MEMBER, c, from) {
-            Position::At(i) => {
-                k += 1;
-                from = i + 1;
-            }
-            Position::Nothing => {
-                return k;
-            }
-        }
+    for i in s.children(MEMBER, c) {
+        k += 1;
     }
     k
 }
 
-fn put_members(
-    out: &mut [u8],
-    at: usize,
-    t: &[u8; 256],
-    m: Model,
-    rec: &[u32],
-    text: &[u8],
-    ix: &[u16],
-    c: u32,
-) -> usize
-    requires { IsTable t.now × Indexed (schema_of m rec.now text.now) ix.now }
-    ensures { Printed out.old at out.new result (numbered (λ n i. member_text n (item_at (schema_of m rec.now text.now) i)) 1 (under a_member c (schema_of m rec.now text.now))) }
+fn put_members(out: &mut [u8], at: usize, t: &[u8; 256], s: &Index<'_>, c: u32) -> usize
+    requires { IsTable t.now }
+    ensures { Printed out.old at out.new result (numbered (λ n i. member_text n (item_at s.now i)) 1 (under a_member c s.now)) }
 {
-    let n = count(m, rec, text);
     let mut p = at;
     let mut k = 0;
-    let mut from = 0;
-    while from < n {
-        match child(m, rec, text, ix, MEMBER, c, from) {
-            Position::At(i) => {
-                k += 1;
-                p = put_member(out, p, t, m, rec, text, i, k);
-                from = i + 1;
-            }
-            Position::Nothing => {
-                return p;
-            }
-        }
+    for i in s.children(MEMBER, c) {
+        k += 1;
+        p = put_member(out, p, t, s, i, k);
     }
     p
 }
 
 // The refs, numbered on from the composite's `members`.
-fn put_refs(
-    out: &mut [u8],
-    at: usize,
-    t: &[u8; 256],
-    m: Model,
-    rec: &[u32],
-    text: &[u8],
-    ix: &[u16],
-    c: u32,
-    members: u32,
-) -> usize
-    requires { IsTable t.now × Members (schema_of m rec.now text.now) c members × Indexed (schema_of m rec.now text.now) ix.now }
-    ensures { Printed out.old at out.new result (numbered (λ n i. ref_text n (item_at (schema_of m rec.now text.now) i)) (members + 1) (under a_ref c (schema_of m rec.now text.now))) }
+fn put_refs(out: &mut [u8], at: usize, t: &[u8; 256], s: &Index<'_>, c: u32, members: u32) -> usize
+    requires { IsTable t.now × Members s.now c members }
+    ensures { Printed out.old at out.new result (numbered (λ n i. ref_text n (item_at s.now i)) (members + 1) (under a_ref c s.now)) }
 {
-    let n = count(m, rec, text);
     let mut p = at;
     let mut k = members;
-    let mut from = 0;
-    while from < n {
-        match child(m, rec, text, ix, REF, c, from) {
-            Position::At(i) => {
-                k += 1;
-                p = put_ref(out, p, t, m, rec, text, i, k);
-                from = i + 1;
-            }
-            Position::Nothing => {
-                return p;
-            }
-        }
+    for i in s.children(REF, c) {
+        k += 1;
+        p = put_ref(out, p, t, s, i, k);
     }
     p
 }
 
-fn put_parts(
-    out: &mut [u8],
-    at: usize,
-    t: &[u8; 256],
-    m: Model,
-    rec: &[u32],
-    text: &[u8],
-    ix: &[u16],
-    c: u32,
-) -> usize
-    requires { IsTable t.now × Indexed (schema_of m rec.now text.now) ix.now }
-    ensures { Printed out.old at out.new result (part_texts (schema_of m rec.now text.now) c) }
+fn put_parts(out: &mut [u8], at: usize, t: &[u8; 256], s: &Index<'_>, c: u32) -> usize
+    requires { IsTable t.now }
+    ensures { Printed out.old at out.new result (part_texts s.now c) }
 {
-    let members = members_in(m, rec, text, ix, c);
-    let p = put_members(out, at, t, m, rec, text, ix, c);
-    put_refs(out, p, t, m, rec, text, ix, c, members)
+    let members = members_in(s, c);
+    let p = put_members(out, at, t, s, c);
+    put_refs(out, p, t, s, c, members)
 }
 
-fn put_composite(
-    out: &mut [u8],
-    at: usize,
-    t: &[u8; 256],
-    m: Model,
-    rec: &[u32],
-    text: &[u8],
-    ix: &[u16],
-    c: u32,
-) -> usize
-    requires { IsTable t.now × Indexed (schema_of m rec.now text.now) ix.now }
-    ensures { Printed out.old at out.new result (composite_text (schema_of m rec.now text.now) c) }
+fn put_composite(out: &mut [u8], at: usize, t: &[u8; 256], s: &Index<'_>, c: u32) -> usize
+    requires { IsTable t.now }
+    ensures { Printed out.old at out.new result (composite_text s.now c) }
 {
     let p = put_bytes(out, at, b"message ");
-    let p = put_bytes(out, p, name_at(m, rec, text, c));
+    let p = put_bytes(out, p, s.name(c));
     let p = put_bytes(out, p, b" {\n");
-    let p = put_parts(out, p, t, m, rec, text, ix, c);
+    let p = put_parts(out, p, t, s, c);
     put_bytes(out, p, b"}\n\n")
 }
 
 // All composites are printed but messageHeader and groupSizeEncoding.
-pub fn is_printed(m: Model, rec: &[u32], text: &[u8], c: u32) -> bool
-    ensures { result ≡ is_printed (item_at (schema_of m rec.now text.now) c) }
+pub fn is_printed(v: &View<'_>, c: u32) -> bool
+    ensures { result ≡ is_printed (item_at v.now c) }
 {
-    let name = name_at(m, rec, text, c);
+    let name = v.name(c);
     if equal(name, b"messageHeader") {
         return false;
     }
@@ -216,46 +117,25 @@ fn put_composite_if_printed(
     out: &mut [u8],
     at: usize,
     t: &[u8; 256],
-    m: Model,
-    rec: &[u32],
-    text: &[u8],
-    ix: &[u16],
+    s: &Index<'_>,
     c: u32,
 ) -> usize
-    requires { IsTable t.now × Indexed (schema_of m rec.now text.now) ix.now }
-    ensures { Printed out.old at out.new result (pick (is_printed (item_at (schema_of m rec.now text.now) c)) (composite_text (schema_of m rec.now text.now) c) []) }
+    requires { IsTable t.now }
+    ensures { Printed out.old at out.new result (pick (is_printed (item_at s.now c)) (composite_text s.now c) []) }
 {
-    if is_printed(m, rec, text, c) {
-        return put_composite(out, at, t, m, rec, text, ix, c);
+    if is_printed(s.view(), c) {
+        return put_composite(out, at, t, s, c);
     }
     at
 }
 
-pub fn put_composites(
-    out: &mut [u8],
-    at: usize,
-    t: &[u8; 256],
-    m: Model,
-    rec: &[u32],
-    text: &[u8],
-    ix: &[u16],
-) -> usize
-    requires { IsTable t.now × Indexed (schema_of m rec.now text.now) ix.now }
-    ensures { Printed out.old at out.new result (each (composite_text (schema_of m rec.now text.now)) (printed_composites (schema_of m rec.now text.now))) }
+pub fn put_composites(out: &mut [u8], at: usize, t: &[u8; 256], s: &Index<'_>) -> usize
+    requires { IsTable t.now }
+    ensures { Printed out.old at out.new result (each (composite_text s.now) (printed_composites s.now)) }
 {
-    let n = count(m, rec, text);
     let mut p = at;
-    let mut from = 0;
-    while from < n {
-        match next_of(m, rec, COMPOSITE, from) {
-            Position::At(i) => {
-                p = put_composite_if_printed(out, p, t, m, rec, text, ix, i);
-                from = i + 1;
-            }
-            Position::Nothing => {
-                return p;
-            }
-        }
+    for i in s.all_of(COMPOSITE) {
+        p = put_composite_if_printed(out, p, t, s, i);
     }
     p
 }

@@ -6,14 +6,11 @@ ghost use Rattle.printing.specs.Printed.{Printed, past};
 ghost use Rattle.printing.specs.Standing.{Standing};
 ghost use Rattle.conversions.specs.Conversions.{prefix_of};
 ghost use Rattle.model.specs.Schema.{item_at, under, all_of, an_enum, a_value};
-ghost use Rattle.index.specs.Index.{Indexed};
-ghost use Rattle.model.specs.Store.{schema_of};
 ghost use Rattle.xmltoproto.specs.Source.{value_text, enum_text};
 
-use crate::view::{name_at, second_at};
 use conversions::convert::put_screaming_in;
-use index::child;
-use model::{ENUM, Model, Position, VALUE, count, next_of};
+use index::seen::Index;
+use model::{ENUM, VALUE};
 use printing::{put_again, put_byte, put_bytes, skip};
 
 fn put_prefix(out: &mut [u8], at: usize, t: &[u8; 256], name: &[u8]) -> usize
@@ -53,107 +50,58 @@ fn put_value(
     out: &mut [u8],
     at: usize,
     t: &[u8; 256],
-    m: Model,
-    rec: &[u32],
-    text: &[u8],
+    s: &Index<'_>,
     name: &[u8],
     width: usize,
     stood: usize,
     i: u32,
 ) -> usize
     requires { (width ≡ past 0 (prefix_of name.now)) × Standing (prefix_of name.now) out.old stood at × IsTable t.now }
-    ensures { Printed out.old at out.new result (value_text name.now (item_at (schema_of m rec.now text.now) i)) }
+    ensures { Printed out.old at out.new result (value_text name.now (item_at s.now i)) }
 {
     let p = put_bytes(out, at, b"  ");
     let p = put_known_prefix(out, p, t, name, width, stood);
-    let p = put_screaming_in(out, p, t, name_at(m, rec, text, i));
+    let p = put_screaming_in(out, p, t, s.name(i));
     let p = put_bytes(out, p, b" = ");
-    let p = put_bytes(out, p, second_at(m, rec, text, i));
+    let p = put_bytes(out, p, s.second(i));
     put_bytes(out, p, b";\n")
 }
 
-fn put_values(
-    out: &mut [u8],
-    at: usize,
-    t: &[u8; 256],
-    m: Model,
-    rec: &[u32],
-    text: &[u8],
-    ix: &[u16],
-    name: &[u8],
-    e: u32,
-) -> usize
-    requires { IsTable t.now × Indexed (schema_of m rec.now text.now) ix.now }
-    ensures { Printed out.old at out.new result (each (λ v. value_text name.now (item_at (schema_of m rec.now text.now) v)) (under a_value e (schema_of m rec.now text.now))) }
+fn put_values(out: &mut [u8], at: usize, t: &[u8; 256], s: &Index<'_>, name: &[u8], e: u32) -> usize
+    requires { IsTable t.now }
+    ensures { Printed out.old at out.new result (each (λ v. value_text name.now (item_at s.now v)) (under a_value e s.now)) }
 {
     let mut none = [0u8; 0];
     let width = put_prefix(&mut none, 0, t, name);
-    let n = count(m, rec, text);
     let mut stood = out.len();
     let mut p = at;
-    let mut from = 0;
-    while from < n {
-        match child(m, rec, text, ix, VALUE, e, from) {
-            Position::At(i) => {
-                let stands = skip(p, 2);
-                p = put_value(out, p, t, m, rec, text, name, width, stood, i);
-                stood = stands;
-                from = i + 1;
-            }
-            Position::Nothing => {
-                return p;
-            }
-        }
+    for i in s.children(VALUE, e) {
+        let stands = skip(p, 2);
+        p = put_value(out, p, t, s, name, width, stood, i);
+        stood = stands;
     }
     p
 }
 
-fn put_enum(
-    out: &mut [u8],
-    at: usize,
-    t: &[u8; 256],
-    m: Model,
-    rec: &[u32],
-    text: &[u8],
-    ix: &[u16],
-    e: u32,
-) -> usize
-    requires { IsTable t.now × Indexed (schema_of m rec.now text.now) ix.now }
-    ensures { Printed out.old at out.new result (enum_text (schema_of m rec.now text.now) e) }
+fn put_enum(out: &mut [u8], at: usize, t: &[u8; 256], s: &Index<'_>, e: u32) -> usize
+    requires { IsTable t.now }
+    ensures { Printed out.old at out.new result (enum_text s.now e) }
 {
-    let name = name_at(m, rec, text, e);
+    let name = s.name(e);
     let p = put_bytes(out, at, b"enum ");
     let p = put_bytes(out, p, name);
     let p = put_bytes(out, p, b" {\n");
-    let p = put_values(out, p, t, m, rec, text, ix, name, e);
+    let p = put_values(out, p, t, s, name, e);
     put_bytes(out, p, b"}\n\n")
 }
 
-pub fn put_enums(
-    out: &mut [u8],
-    at: usize,
-    t: &[u8; 256],
-    m: Model,
-    rec: &[u32],
-    text: &[u8],
-    ix: &[u16],
-) -> usize
-    requires { IsTable t.now × Indexed (schema_of m rec.now text.now) ix.now }
-    ensures { Printed out.old at out.new result (each (enum_text (schema_of m rec.now text.now)) (all_of an_enum (schema_of m rec.now text.now))) }
+pub fn put_enums(out: &mut [u8], at: usize, t: &[u8; 256], s: &Index<'_>) -> usize
+    requires { IsTable t.now }
+    ensures { Printed out.old at out.new result (each (enum_text s.now) (all_of an_enum s.now)) }
 {
-    let n = count(m, rec, text);
     let mut p = at;
-    let mut from = 0;
-    while from < n {
-        match next_of(m, rec, ENUM, from) {
-            Position::At(i) => {
-                p = put_enum(out, p, t, m, rec, text, ix, i);
-                from = i + 1;
-            }
-            Position::Nothing => {
-                return p;
-            }
-        }
+    for i in s.all_of(ENUM) {
+        p = put_enum(out, p, t, s, i);
     }
     p
 }

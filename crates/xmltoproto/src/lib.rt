@@ -16,12 +16,10 @@ mod messages;
 pub mod source;
 mod typed;
 pub mod types;
-pub mod view;
 
-ghost use Rattle.std.specs.Prelude.{◌≡◌, leb, length};
+ghost use Rattle.std.specs.Prelude.{◌≡◌, ◌≤◌, leb, length, replicate};
 ghost use Rattle.printing.specs.Printed.{past};
-ghost use Rattle.index.specs.Index.{Indexed};
-ghost use Rattle.model.specs.Store.{schema_of};
+ghost use Rattle.index.specs.Index.{Blank};
 ghost use Rattle.xmltoproto.specs.Source.{source};
 ghost use Rattle.xmltoproto.specs.Generate.{Generated};
 ghost use Rattle.xmltoproto.specs.Convert.{Converts};
@@ -29,66 +27,61 @@ ghost use Rattle.xmltoproto.specs.Convert.{Converts};
 use crate::arrays::array_refusal;
 use crate::bound::source_most;
 use crate::source::put_source;
-use index::{FEW, FEW_SIZE, LEAST, LEAST_SIZE, MOST, SIZE, SOME, SOME_SIZE, build};
-use model::{Model, count};
+use index::seen::Index;
+use index::{FEW, FEW_SIZE, LEAST, LEAST_SIZE, MOST, SIZE, SOME, SOME_SIZE};
+use model::view::View;
 use refusals::Refusal;
 use xmlschema::build::read_schema;
 
 // Whether the source fits into `room` bytes: by its bound where that is enough, else it is measured.
-fn has_room(m: Model, rec: &[u32], text: &[u8], ix: &[u16], room: usize) -> bool
-    requires { Indexed (schema_of m rec.now text.now) ix.now }
-    ensures { result ≡ leb (past 0 (source (schema_of m rec.now text.now))) room }
+fn has_room(s: &Index<'_>, room: usize) -> bool
+    ensures { result ≡ leb (past 0 (source s.now)) room }
 {
-    if count(m, rec, text) <= MOST {
-        if source_most(m, rec, text, ix) <= room {
+    if s.count() <= MOST {
+        if source_most(s) <= room {
             return true;
         }
     }
     let mut none = [0u8; 0];
-    put_source(&mut none, 0, m, rec, text, ix) <= room
+    put_source(&mut none, 0, s) <= room
 }
 
 // The array refusals, then the source, where it fits.
-fn generate_in(
-    m: Model,
-    rec: &[u32],
-    text: &[u8],
-    ix: &[u16],
-    out: &mut [u8],
-) -> Result<usize, Refusal>
-    requires { Indexed (schema_of m rec.now text.now) ix.now }
-    ensures { Generated (schema_of m rec.now text.now) out.old out.new result }
+fn generate_in(s: &Index<'_>, out: &mut [u8]) -> Result<usize, Refusal>
+    ensures { Generated s.now out.old out.new result }
 {
-    array_refusal(m, rec, text, ix)?;
-    if has_room(m, rec, text, ix, out.len()) {
-        let written = put_source(out, 0, m, rec, text, ix);
+    array_refusal(s)?;
+    if has_room(s, out.len()) {
+        let written = put_source(out, 0, s);
         return Ok(written);
     }
     Err(Refusal::NoRoom)
 }
 
-pub fn generate(m: Model, rec: &[u32], text: &[u8], out: &mut [u8]) -> Result<usize, Refusal>
-    ensures { Generated (schema_of m rec.now text.now) out.old out.new result }
+// The same with an index of `N` numbers.
+fn generate_with<const N: usize>(schema: View<'_>, out: &mut [u8]) -> Result<usize, Refusal>
+    requires { Blank schema (replicate N 0) × (N ≤ 13312) }
+    ensures { Generated schema.entry out.old out.new result }
 {
-    let n = count(m, rec, text);
+    let mut links = [0u16; N];
+    let s = Index::of(schema, &mut links);
+    generate_in(&s, out)
+}
+
+pub fn generate(schema: View<'_>, out: &mut [u8]) -> Result<usize, Refusal>
+    ensures { Generated schema.entry out.old out.new result }
+{
+    let n = schema.count();
     if n <= LEAST {
-        let mut ix = [0u16; LEAST_SIZE];
-        build(m, rec, text, &mut ix);
-        return generate_in(m, rec, text, &ix, out);
+        return generate_with::<LEAST_SIZE>(schema, out);
     }
     if n <= FEW {
-        let mut ix = [0u16; FEW_SIZE];
-        build(m, rec, text, &mut ix);
-        return generate_in(m, rec, text, &ix, out);
+        return generate_with::<FEW_SIZE>(schema, out);
     }
     if n <= SOME {
-        let mut ix = [0u16; SOME_SIZE];
-        build(m, rec, text, &mut ix);
-        return generate_in(m, rec, text, &ix, out);
+        return generate_with::<SOME_SIZE>(schema, out);
     }
-    let mut ix = [0u16; SIZE];
-    build(m, rec, text, &mut ix);
-    generate_in(m, rec, text, &ix, out)
+    generate_with::<SIZE>(schema, out)
 }
 
 // The converter: a document, two work buffers and an output are lent. Nothing is asked of the
@@ -102,5 +95,5 @@ pub fn xml_to_proto(
     ensures { Converts document.now (length records.old) (length text.old) output.old output.new result }
 {
     let m = read_schema(document, records, text)?;
-    generate(m, records, text, output)
+    generate(View::new(m, records, text), output)
 }

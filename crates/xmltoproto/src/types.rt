@@ -1,17 +1,14 @@
 // How a type prints, and what a field's type name stands for.
 ghost use Rattle.std.specs.Prelude.{◌≡◌, List, [], ℕ};
 ghost use Rattle.texts.specs.Lists.{among};
-ghost use Rattle.index.specs.Index.{Indexed};
-ghost use Rattle.model.specs.Schema.{item_at};
-ghost use Rattle.model.specs.Store.{schema_of};
+ghost use Rattle.model.specs.Schema.{Schema};
+ghost use Rattle.index.specs.Declarations.{declaration_of};
 ghost use Rattle.xmltoproto.specs.Types.{built_ins, chars, is_byte, is_raw, is_array, as_primitive, proto_of, meaning};
 ghost use Rattle.xmltoproto.specs.Shapes.{form, proto_in, meaning_in};
 ghost use Rattle.xmltoproto.specs.Names.{signed_names, unsigned_names, other_primitives};
 
-use crate::view::second_at;
 use charsets::is_compatible;
-use index::{Declaration, declared};
-use model::Model;
+use index::seen::Declaration;
 use texts::equal;
 
 // How a type prints: as text or as bytes of a length, as a wider integer under an option, or as its
@@ -166,15 +163,14 @@ pub fn is_built_in(name: &[u8]) -> bool
 }
 
 // Enums, composites, types: the last declaration of the name wins; a built-in where there is none.
-pub fn sense_in(m: Model, rec: &[u32], text: &[u8], ix: &[u16], i: u32) -> Sense
-    requires { Indexed (schema_of m rec.now text.now) ix.now }
-    ensures { meaning_in (schema_of m rec.now text.now) (item_at (schema_of m rec.now text.now) i).second result ≡ meaning (schema_of m rec.now text.now) (item_at (schema_of m rec.now text.now) i).second }
+pub fn sense_of(declared: Option<Declaration>, name: &[u8]) -> Sense
+    ensures { (s : Schema) → declared ≡ declaration_of s name.now → meaning_in s name.now result ≡ meaning s name.now }
 {
-    match declared(m, rec, text, ix, i) {
-        Declaration::Named => Sense::Declared,
-        Declaration::Typed(t) => Sense::Typed(t),
-        Declaration::Nothing => {
-            if is_built_in(second_at(m, rec, text, i)) {
+    match declared {
+        Some(Declaration::Named) => Sense::Declared,
+        Some(Declaration::Typed(i)) => Sense::Typed(i),
+        None => {
+            if is_built_in(name) {
                 return Sense::BuiltIn;
             }
             Sense::Unknown

@@ -1,12 +1,6 @@
-use mathlib.Core.Path.{◌≡◌}
-use Prim.Native.Nat.{◌≤◌}
-use lib.ListN.{length}
-use Rattle.model.specs.Store.{schema_of}
+use Rattle.std.proofs.Common.{◌≡◌, ◌≤◌, length}
 use Rattle.index.specs.Index.{Settling}
 use Rattle.index.proofs.put_rest.Given as goal
 
-abbrev pub invariant-loop-c : goal.invariant-loop-c
-invariant-loop-c l = Settling (schema_of l.m l.rec l.text) l.c l.c l.ix × (l.c ≤ length (schema_of l.m l.rec l.text).items) × (length l.ix ≡ length l.initial.ix)
-
-abbrev pub decreases-loop-c : goal.decreases-loop-c
-decreases-loop-c l = l.c
+abbrev pub invariant-loop-i : goal.invariant-loop-i
+invariant-loop-i l = record { settling : Settling l.v l.i l.i l.ix; within : l.i ≤ length l.v.items; long : length l.ix ≡ length l.initial.ix }

@@ -1,47 +1,21 @@
-use Rattle.index.proofs.Laws.{laws}
+use Rattle.std.proofs.Common.{arith}
+use Rattle.index.proofs.Seeking.{seeking-start, seeking-none, seeking-few, seeking-found, seeking-on}
 use Rattle.index.proofs.resolved.Goals as goal
 
-pub head_of-requires : goal.head_of-requires
-head_of-requires c = search laws
+pub loop-init : goal.loop-init
+loop-init c = record { seeking = seeking-start _ _ _ c.requires.0 c.head_of.ensures c.word-p.ensures; small = omega arith; low = omega arith }
 
-pub word-p-requires : goal.word-p-requires
-word-p-requires c = search laws
-
-pub loop-p-init : goal.loop-p-init
-loop-p-init c = search laws
-
-pub returns-then-left-eq0 : goal.returns-then-left-eq0
-returns-then-left-eq0 c = search laws
-
-pub overflow_sub-left : goal.overflow_sub-left
-overflow_sub-left c = search laws
-
-pub overflow_sub-i : goal.overflow_sub-i
-overflow_sub-i c = search laws
+pub returns-then-p-eq0 : goal.returns-then-p-eq0
+returns-then-p-eq0 c = (seeking-none _ _ c.loop.invariant.seeking (omega arith), c.loop.invariant.low)
 
 pub kept_at-kept-requires : goal.kept_at-kept-requires
-kept_at-kept-requires c = search laws
+kept_at-kept-requires c = (seeking-few _ _ c.loop.invariant.seeking (omega arith) c.requires.1, c.loop.invariant.low)
 
 pub returns-then-settled : goal.returns-then-settled
-returns-then-settled c = search laws
+returns-then-settled c = (seeking-found _ _ c.loop.invariant.seeking (omega arith) c.kept_at-kept.ensures.0 c.if-settled.true, c.kept_at-kept.ensures.1)
 
-pub overflow_cast-i : goal.overflow_cast-i
-overflow_cast-i c = search laws
+pub loop-preserved : goal.loop-preserved
+loop-preserved c = record { seeking = seeking-on _ _ c.loop.invariant.seeking (omega arith) _ c.requires.0 c.word-p-in-loop.ensures c.kept_at-kept.ensures.0; small = omega arith; low = c.kept_at-kept.ensures.1 }
 
-pub overflow_mul-i : goal.overflow_mul-i
-overflow_mul-i c = search laws
-
-pub overflow_add-i : goal.overflow_add-i
-overflow_add-i c = search laws
-
-pub word-p-requires-in-loop-p : goal.word-p-requires-in-loop-p
-word-p-requires-in-loop-p c = search laws
-
-pub loop-p-smaller : goal.loop-p-smaller
-loop-p-smaller c = search laws
-
-pub loop-p-preserved : goal.loop-p-preserved
-loop-p-preserved c = search laws
-
-pub returns : goal.returns
-returns c = search laws
+pub returns-then-p-eq0-2 : goal.returns-then-p-eq0-2
+returns-then-p-eq0-2 c = (seeking-none _ _ c.loop.invariant.seeking (omega arith), c.loop.invariant.low)

@@ -3,6 +3,3 @@ use Rattle.ordered.proofs.insert.Given as goal
 
 abbrev pub invariant-loop-j : goal.invariant-loop-j
 invariant-loop-j l = Moving l.initial.names l.n l.p l.names l.j
-
-abbrev pub decreases-loop-j : goal.decreases-loop-j
-decreases-loop-j l = l.j

@@ -1,15 +1,16 @@
+use native.Mathlib.Omega.{arith}
 use borrow.Author.Rules.{rules}
 use Rattle.index.proofs.Building.{blank-least, blank-few, blank-some, blank-all}
 use Rattle.xmltoproto.proofs.generate.Goals as goal
 
-pub build-requires : goal.build-requires
-build-requires c = search (blank-least, rules)
+pub generate_with-requires : goal.generate_with-requires
+generate_with-requires c = (search (blank-least, rules), omega arith)
 
-pub build-requires-then-n-le-FEW : goal.build-requires-then-n-le-FEW
-build-requires-then-n-le-FEW c = search (blank-few, rules)
+pub generate_with-requires-then-n-le-FEW : goal.generate_with-requires-then-n-le-FEW
+generate_with-requires-then-n-le-FEW c = (search (blank-few, rules), omega arith)
 
-pub build-requires-then-n-le-SOME : goal.build-requires-then-n-le-SOME
-build-requires-then-n-le-SOME c = search (blank-some, rules)
+pub generate_with-requires-then-n-le-SOME : goal.generate_with-requires-then-n-le-SOME
+generate_with-requires-then-n-le-SOME c = (search (blank-some, rules), omega arith)
 
-pub build-requires-2 : goal.build-requires-2
-build-requires-2 c = blank-all _
+pub generate_with-requires-2 : goal.generate_with-requires-2
+generate_with-requires-2 c = (blank-all _, omega arith)

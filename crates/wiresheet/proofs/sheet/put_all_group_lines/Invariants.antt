@@ -1,13 +1,9 @@
-use Prim.Native.Nat.{◌-◌}
+use Rattle.model.specs.Search.{ahead}
 use Rattle.xmltoproto.proofs.Looping.{Walking}
+use Rattle.model.proofs.Searching.{owned_so}
 use Rattle.model.specs.Schema.{under, a_group}
-use Rattle.model.specs.Store.{schema_of}
-use Rattle.xmltoproto.proofs.Walking.{under_owner}
 use Rattle.wiresheet.specs.Sheet.{group_of, group_shown}
 use Rattle.wiresheet.proofs.sheet.put_all_group_lines.Given as goal
 
-abbrev pub invariant-loop-from : goal.invariant-loop-from
-invariant-loop-from l = Walking (λ g. group_shown (group_of (schema_of l.m l.rec l.text) g)) (under a_group l.owner (schema_of l.m l.rec l.text)) (under_owner a_group l.owner) (schema_of l.m l.rec l.text) l.from l.initial.out l.at l.out l.p
-
-abbrev pub decreases-loop-from : goal.decreases-loop-from
-decreases-loop-from l = l.n - l.from
+abbrev pub invariant-loop-i : goal.invariant-loop-i
+invariant-loop-i l = Walking (λ g. group_shown (group_of l.v g)) (under a_group l.owner l.v) (ahead (owned_so l.i-iterator.by.kind l.i-iterator.by.owner) l.i-iterator.from l.i-iterator.view.now) l.initial.out l.at l.out l.p

@@ -1,47 +1,8 @@
-use native.Mathlib.Omega.{arith}
-use Rattle.wiresheet.proofs.Walking.{under-within}
-use Rattle.wiresheet.proofs.Laws.{walk as laws}
+use Rattle.xmltoproto.proofs.Looping.{walking_on, walking-end}
 use Rattle.wiresheet.proofs.sheet.put_field_lines.Goals as goal
 
-pub count-n-requires : goal.count-n-requires
-count-n-requires c = search laws
-
-pub loop-from-init : goal.loop-from-init
-loop-from-init c = search laws
-
-pub next_under-requires : goal.next_under-requires
-next_under-requires c = search laws
-
-pub enum_known-i : goal.enum_known-i
-enum_known-i c = search laws
-
-pub put_field_line-p-requires : goal.put_field_line-p-requires
-put_field_line-p-requires c = search laws
-
-pub overflow_add-from : goal.overflow_add-from
-overflow_add-from c =
-    let h = under-within _ _ _ _ _ c.in-At.is _ c.next_under.ensures c.count-n.ensures in
-    omega (arith, h)
-
-pub loop-from-smaller : goal.loop-from-smaller
-loop-from-smaller c =
-    let h = under-within _ _ _ _ _ c.in-At.is _ c.next_under.ensures c.count-n.ensures in
-    omega (arith, h)
-
-pub loop-from-preserved : goal.loop-from-preserved
-loop-from-preserved c = search laws
-
-pub enum_told-1 : goal.enum_told-1
-enum_told-1 c = search laws
-
-pub shape_of-out-in-Nothing : goal.shape_of-out-in-Nothing
-shape_of-out-in-Nothing c = search laws
-
-pub returns-in-Nothing : goal.returns-in-Nothing
-returns-in-Nothing c = search laws
-
-pub shape_of-out : goal.shape_of-out
-shape_of-out c = search laws
+pub loop-i-preserved : goal.loop-i-preserved
+loop-i-preserved c = walking_on c.loop-i.invariant c.in-Some.ensures.steps c.put_field_line-p.ensures
 
 pub returns : goal.returns
-returns c = search laws
+returns c = walking-end c.loop-i.invariant c.in-None.ensures.steps.0

@@ -1,14 +1,10 @@
-use Prim.Native.Nat.{◌-◌}
+use Rattle.model.specs.Search.{ahead}
 use Rattle.xmltoproto.proofs.Looping.{Walking}
+use Rattle.model.proofs.Searching.{owned_so}
 use Rattle.model.specs.Schema.{item_at, under, a_member}
-use Rattle.model.specs.Store.{schema_of}
-use Rattle.xmltoproto.proofs.Walking.{under_owner}
 use Rattle.wiresheet.specs.Sheet.{member_of}
 use Rattle.wiresheet.specs.SheetLines.{part_shown}
 use Rattle.wiresheet.proofs.sheet.put_member_lines.Given as goal
 
-abbrev pub invariant-loop-from : goal.invariant-loop-from
-invariant-loop-from l = Walking (λ x. part_shown (member_of (item_at (schema_of l.m l.rec l.text) x))) (under a_member l.c (schema_of l.m l.rec l.text)) (under_owner a_member l.c) (schema_of l.m l.rec l.text) l.from l.initial.out l.at l.out l.p
-
-abbrev pub decreases-loop-from : goal.decreases-loop-from
-decreases-loop-from l = l.n - l.from
+abbrev pub invariant-loop-i : goal.invariant-loop-i
+invariant-loop-i l = Walking (λ x. part_shown (member_of (item_at l.v x))) (under a_member l.c l.v) (ahead (owned_so l.i-iterator.by.kind l.i-iterator.by.owner) l.i-iterator.from l.i-iterator.view.now) l.initial.out l.at l.out l.p

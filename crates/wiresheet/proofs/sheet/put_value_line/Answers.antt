@@ -1,32 +1,7 @@
 use Rattle.wiresheet.proofs.Sheets.{value-line}
-use Rattle.printing.proofs.Sequencing.{◌▸◌, length-printed}
-use Rattle.wiresheet.proofs.Laws.{sheet as laws}
+use Rattle.printing.proofs.Sequencing.{◌▸◌}
 use Rattle.wiresheet.proofs.sheet.put_value_line.Goals as goal
-
-pub put_bytes-p-requires : goal.put_bytes-p-requires
-put_bytes-p-requires c = search laws
-
-pub name_at-requires : goal.name_at-requires
-name_at-requires c = search laws
-
-pub put_screaming-p-requires : goal.put_screaming-p-requires
-put_screaming-p-requires c = search laws
-
-pub put_bytes-p-requires-2 : goal.put_bytes-p-requires-2
-put_bytes-p-requires-2 c = search laws
-
-pub second_at-requires : goal.second_at-requires
-second_at-requires c = search laws
-
-pub put_bytes-p-requires-3 : goal.put_bytes-p-requires-3
-put_bytes-p-requires-3 c = search laws
-
-pub put_bytes-requires : goal.put_bytes-requires
-put_bytes-requires c = search laws
 
 pub returns : goal.returns
 returns c =
-    value-line _ c.name_at.ensures c.second_at.ensures (c.put_bytes-p.ensures ▸ c.put_screaming-p.ensures ▸ c.put_bytes-p-2.ensures ▸ c.put_bytes-p-3.ensures ▸ c.put_bytes.ensures)
-
-pub shape_of-out : goal.shape_of-out
-shape_of-out c = length-printed (returns c)
+    value-line _ c.name.ensures c.second.ensures (c.put_bytes-p.ensures ▸ c.put_screaming-p.ensures ▸ c.put_bytes-p-2.ensures ▸ c.put_bytes-p-3.ensures ▸ c.put_bytes.ensures)

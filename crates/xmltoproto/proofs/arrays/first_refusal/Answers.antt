@@ -1,35 +1,11 @@
-use Rattle.xmltoproto.proofs.Laws.{arrays as laws}
+use Rattle.xmltoproto.proofs.Refusals.{refused-composite, refused-message, refused_none}
 use Rattle.xmltoproto.proofs.arrays.first_refusal.Goals as goal
 
-pub first_composite-requires : goal.first_composite-requires
-first_composite-requires c = search laws
+pub returns-in-Some : goal.returns-in-Some
+returns-in-Some c = refused-composite _ c.first_place.ensures c.in-Some.is
 
-pub enum_known-c : goal.enum_known-c
-enum_known-c c = search laws
+pub returns-in-Some-first_place : goal.returns-in-Some-first_place
+returns-in-Some-first_place c = refused-message _ c.first_place.ensures c.in-None.is c.first_place-in-None.ensures c.in-Some-first_place.is
 
-pub overflow_cast-result : goal.overflow_cast-result
-overflow_cast-result c = search laws
-
-pub enum_told-1 : goal.enum_told-1
-enum_told-1 c = search laws
-
-pub first_message-requires : goal.first_message-requires
-first_message-requires c = search laws
-
-pub enum_known-i : goal.enum_known-i
-enum_known-i c = search laws
-
-pub overflow_cast-result-in-At-first_message : goal.overflow_cast-result-in-At-first_message
-overflow_cast-result-in-At-first_message c = search laws
-
-pub enum_told-in-Nothing-first_message : goal.enum_told-in-Nothing-first_message
-enum_told-in-Nothing-first_message c = search laws
-
-pub returns-in-At : goal.returns-in-At
-returns-in-At c = search laws
-
-pub returns-in-At-first_message : goal.returns-in-At-first_message
-returns-in-At-first_message c = search laws
-
-pub returns-in-Nothing-first_message : goal.returns-in-Nothing-first_message
-returns-in-Nothing-first_message c = search laws
+pub returns-in-None-first_place : goal.returns-in-None-first_place
+returns-in-None-first_place c = refused_none _ c.first_place.ensures c.in-None.is c.first_place-in-None.ensures c.in-None-first_place.is

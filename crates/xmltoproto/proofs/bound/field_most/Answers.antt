@@ -1,38 +1,12 @@
-use Rattle.xmltoproto.proofs.Covering.{bounds}
+use native.Mathlib.Omega.{arith}
+use Rattle.xmltoproto.proofs.Covering.{field-named, field-nothing, field-typed-most}
 use Rattle.xmltoproto.proofs.bound.field_most.Goals as goal
 
-pub field_declared-requires : goal.field_declared-requires
-field_declared-requires c = search bounds
+pub returns-in-Some-Named : goal.returns-in-Some-Named
+returns-in-Some-Named c = field-named _ _ _ _ c.requires.2 c.field_declared.ensures (omega arith) (omega arith) c.named_most.ensures (rw c.in-Some-Named.field-0-is at c.in-Some-Named.is)
 
-pub enum_told-1 : goal.enum_told-1
-enum_told-1 c = search bounds
+pub returns-in-Some-Typed : goal.returns-in-Some-Typed
+returns-in-Some-Typed c = field-typed-most _ _ _ _ c.requires.2 c.field_declared.ensures (rw c.in-Some-Typed.field-0-is at c.in-Some-Typed.is) _ c.entry.ensures c.typed_most.ensures
 
-pub named_most-requires : goal.named_most-requires
-named_most-requires c = search bounds
-
-pub enum_known-t : goal.enum_known-t
-enum_known-t c = search bounds
-
-pub item-requires : goal.item-requires
-item-requires c = search bounds
-
-pub typed_most-requires : goal.typed_most-requires
-typed_most-requires c = search bounds
-
-pub enum_told-in-Nothing : goal.enum_told-in-Nothing
-enum_told-in-Nothing c = search bounds
-
-pub named_most-requires-in-Nothing : goal.named_most-requires-in-Nothing
-named_most-requires-in-Nothing c = search bounds
-
-pub overflow_add-result : goal.overflow_add-result
-overflow_add-result c = search bounds
-
-pub returns-in-Named : goal.returns-in-Named
-returns-in-Named c = search bounds
-
-pub returns-in-Typed : goal.returns-in-Typed
-returns-in-Typed c = search bounds
-
-pub returns-in-Nothing : goal.returns-in-Nothing
-returns-in-Nothing c = search bounds
+pub returns-in-None : goal.returns-in-None
+returns-in-None c = field-nothing _ _ _ _ c.requires.2 c.field_declared.ensures (omega arith) (omega arith) c.named_most-in-None.ensures c.in-None.is

@@ -2,36 +2,6 @@ use borrow.Author.Rules.{rules}
 use Rattle.xmltoproto.proofs.Covering.{share-none, bounds}
 use Rattle.xmltoproto.proofs.bound.item_most.Goals as goal
 
-pub item-e-requires : goal.item-e-requires
-item-e-requires c = search bounds
-
-pub overflow_cast-name : goal.overflow_cast-name
-overflow_cast-name c = search bounds
-
-pub typed_most-requires : goal.typed_most-requires
-typed_most-requires c = search bounds
-
-pub named_most-requires : goal.named_most-requires
-named_most-requires c = search bounds
-
-pub overflow_add-result : goal.overflow_add-result
-overflow_add-result c = search bounds
-
-pub overflow_add-result-in-5 : goal.overflow_add-result-in-5
-overflow_add-result-in-5 c = search bounds
-
-pub value_most-requires : goal.value_most-requires
-value_most-requires c = search bounds
-
-pub overflow_add-result-in-7 : goal.overflow_add-result-in-7
-overflow_add-result-in-7 c = search bounds
-
-pub overflow_mul-result : goal.overflow_mul-result
-overflow_mul-result c = search bounds
-
-pub overflow_add-result-in-8 : goal.overflow_add-result-in-8
-overflow_add-result-in-8 c = search bounds
-
 pub field_most-requires : goal.field_most-requires
 field_most-requires c = search bounds
 
@@ -60,5 +30,4 @@ pub returns-in-9 : goal.returns-in-9
 returns-in-9 c = search bounds
 
 pub returns-in_default : goal.returns-in_default
-returns-in_default c =
-    share-none _ _ _ _ _ c.item-e.ensures (search rules) (search rules) (search rules) (search rules) (search rules) (search rules) (search rules) (search rules)
+returns-in_default c = share-none _ _ _ c.entry-e.ensures (search rules) (search rules) (search rules) (search rules) (search rules) (search rules) (search rules) (search rules)

@@ -1,12 +1,8 @@
-use Prim.Native.Nat.{◌-◌}
+use Rattle.model.specs.Search.{ahead}
+use Rattle.model.proofs.Searching.{owned_so}
 use Rattle.xmltoproto.proofs.Looping.{Counting}
 use Rattle.model.specs.Schema.{under, a_member}
-use Rattle.model.specs.Store.{schema_of}
-use Rattle.xmltoproto.proofs.Walking.{under_owner}
 use Rattle.xmltoproto.proofs.composites.members_in.Given as goal
 
-abbrev pub invariant-loop-from : goal.invariant-loop-from
-invariant-loop-from l = Counting (under a_member l.c (schema_of l.m l.rec l.text)) (under_owner a_member l.c) (schema_of l.m l.rec l.text) l.n l.k l.from
-
-abbrev pub decreases-loop-from : goal.decreases-loop-from
-decreases-loop-from l = l.n - l.from
+abbrev pub invariant-loop-i : goal.invariant-loop-i
+invariant-loop-i l = Counting (under a_member l.fn.c l.fn.s) (ahead (owned_so l.i-iterator.kind l.i-iterator.owner) l.i-iterator.from l.i-iterator.index.now) l.k

@@ -1,29 +1,6 @@
 use Rattle.xmltoproto.proofs.Sources.{composite-printed}
-use Rattle.printing.proofs.Sequencing.{◌▸◌, length-printed}
-use Rattle.xmltoproto.proofs.Laws.{lines as laws}
+use Rattle.printing.proofs.Sequencing.{◌▸◌}
 use Rattle.xmltoproto.proofs.composites.put_composite.Goals as goal
 
-pub put_bytes-p-requires : goal.put_bytes-p-requires
-put_bytes-p-requires c = search laws
-
-pub name_at-requires : goal.name_at-requires
-name_at-requires c = search laws
-
-pub put_bytes-p-requires-2 : goal.put_bytes-p-requires-2
-put_bytes-p-requires-2 c = search laws
-
-pub put_bytes-p-requires-3 : goal.put_bytes-p-requires-3
-put_bytes-p-requires-3 c = search laws
-
-pub put_parts-p-requires : goal.put_parts-p-requires
-put_parts-p-requires c = search laws
-
-pub put_bytes-requires : goal.put_bytes-requires
-put_bytes-requires c = search laws
-
 pub returns : goal.returns
-returns c =
-    composite-printed _ _ c.name_at.ensures (c.put_bytes-p.ensures ▸ c.put_bytes-p-2.ensures ▸ c.put_bytes-p-3.ensures ▸ c.put_parts-p.ensures ▸ c.put_bytes.ensures)
-
-pub shape_of-out : goal.shape_of-out
-shape_of-out c = length-printed (returns c)
+returns c = composite-printed _ _ c.name.ensures (c.put_bytes-p.ensures ▸ c.put_bytes-p-2.ensures ▸ c.put_bytes-p-3.ensures ▸ c.put_parts-p.ensures ▸ c.put_bytes.ensures)

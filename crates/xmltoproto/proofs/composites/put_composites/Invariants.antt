@@ -1,16 +1,12 @@
-use Prim.Native.Nat.{◌-◌}
-use mathlib.Core.List.{[]}
-use Rattle.texts.specs.Choice.{pick}
+use Rattle.std.proofs.Common.{eqb}
+use Rattle.model.specs.Search.{ahead}
 use Rattle.xmltoproto.proofs.Looping.{Walking}
 use Rattle.model.specs.Schema.{item_at, all_of, a_composite}
-use Rattle.model.specs.Store.{schema_of}
-use Rattle.xmltoproto.proofs.Walking.{of_kind}
 use Rattle.xmltoproto.specs.Source.{composite_text}
+use mathlib.Core.List.{[]}
+use Rattle.texts.specs.Choice.{pick}
 use Rattle.xmltoproto.specs.Composites.{is_printed}
 use Rattle.xmltoproto.proofs.composites.put_composites.Given as goal
 
-abbrev pub invariant-loop-from : goal.invariant-loop-from
-invariant-loop-from l = Walking (λ c. pick (is_printed (item_at (schema_of l.m l.rec l.text) c)) (composite_text (schema_of l.m l.rec l.text) c) []) (all_of a_composite (schema_of l.m l.rec l.text)) (of_kind a_composite) (schema_of l.m l.rec l.text) l.from l.initial.out l.at l.out l.p
-
-abbrev pub decreases-loop-from : goal.decreases-loop-from
-decreases-loop-from l = l.n - l.from
+abbrev pub invariant-loop-i : goal.invariant-loop-i
+invariant-loop-i l = Walking (λ c. pick (is_printed (item_at l.s c)) (composite_text l.s c) []) (all_of a_composite l.s) (ahead (λ it. eqb it.kind l.i-iterator.by.kind) l.i-iterator.from l.i-iterator.view.now) l.initial.out l.at l.out l.p

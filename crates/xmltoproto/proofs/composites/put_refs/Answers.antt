@@ -1,54 +1,15 @@
 use native.Mathlib.Omega.{arith}
-use Rattle.xmltoproto.proofs.Looping.{numbering-room}
-use Rattle.xmltoproto.proofs.Walking.{next-child, child-within}
-use Rattle.xmltoproto.proofs.Laws.{number as laws}
+use Rattle.xmltoproto.proofs.Looping.{numbering-start, numbering-room, numbering-on, numbering-end, members-most}
 use Rattle.xmltoproto.proofs.composites.put_refs.Goals as goal
 
-pub count-n-requires : goal.count-n-requires
-count-n-requires c = search laws
-
-pub loop-from-init : goal.loop-from-init
-loop-from-init c = search laws
-
-pub child-requires : goal.child-requires
-child-requires c = search laws
-
-pub enum_known-i : goal.enum_known-i
-enum_known-i c = search laws
+pub loop-i-init : goal.loop-i-init
+loop-i-init c = numbering-start (rw (← c.into_iter-i-iterator.ensures.into_iter_gives) at c.children-i-items.ensures.list) (members-most c.requires.1)
 
 pub overflow_add-k : goal.overflow_add-k
-overflow_add-k c =
-    let x = next-child _ _ _ _ c.in-At.is c.child.ensures in
-    let h = numbering-room c.loop-from.invariant x in
-    omega (arith, h)
+overflow_add-k c = let h = numbering-room c.loop-i.invariant c.in-Some.ensures.steps in let f = c.children-i-items.ensures.few in omega arith
 
-pub put_ref-p-requires : goal.put_ref-p-requires
-put_ref-p-requires c = search laws
-
-pub overflow_add-from : goal.overflow_add-from
-overflow_add-from c =
-    let h = child-within _ _ _ _ c.in-At.is c.child.ensures c.count-n.ensures in
-    omega (arith, h)
-
-pub loop-from-smaller : goal.loop-from-smaller
-loop-from-smaller c =
-    let h = child-within _ _ _ _ c.in-At.is c.child.ensures c.count-n.ensures in
-    omega (arith, h)
-
-pub loop-from-preserved : goal.loop-from-preserved
-loop-from-preserved c = search laws
-
-pub enum_told-1 : goal.enum_told-1
-enum_told-1 c = search laws
-
-pub shape_of-out-in-Nothing : goal.shape_of-out-in-Nothing
-shape_of-out-in-Nothing c = search laws
-
-pub returns-in-Nothing : goal.returns-in-Nothing
-returns-in-Nothing c = search laws
-
-pub shape_of-out : goal.shape_of-out
-shape_of-out c = search laws
+pub loop-i-preserved : goal.loop-i-preserved
+loop-i-preserved c = numbering-on c.loop-i.invariant c.in-Some.ensures.steps c.put_ref-p.ensures
 
 pub returns : goal.returns
-returns c = search laws
+returns c = numbering-end c.loop-i.invariant c.in-None.ensures.steps.0

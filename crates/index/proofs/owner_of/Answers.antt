@@ -1,8 +1,0 @@
-use Rattle.index.proofs.Laws.{laws}
-use Rattle.index.proofs.owner_of.Goals as goal
-
-pub item-e-requires : goal.item-e-requires
-item-e-requires c = search laws
-
-pub returns : goal.returns
-returns c = search laws

@@ -1,0 +1,279 @@
+// A schema with its index, and its searches.
+ghost use Rattle.std.specs.Prelude.{◌≡◌, ◌+◌, ◌≤◌, ◌<◌, ◌^◌, ℕ, Option, Some, None, IfSome, eqb, length};
+ghost use Rattle.std.specs.Iterator.{YieldsFirst, item_count};
+ghost use Rattle.texts.specs.Choice.{◌and◌, pick};
+ghost use Rattle.model.specs.Schema.{item_at, all_of, under, next_under, a_field};
+ghost use Rattle.model.specs.Search.{ahead};
+ghost use Rattle.model.specs.Shown.{Shows};
+ghost use Rattle.index.specs.Index.{code, Blank};
+ghost use Rattle.index.specs.Declarations.{declaration_of, number_of};
+ghost use Rattle.index.specs.declared.seen.Declaration.{Declaration};
+
+use crate::{CHAIN, EACH, FIRST, MOST, build, number};
+use model::search::{OfKind, Walk};
+use model::view::View;
+use model::{COMPOSITE, ENUM, Entry, FIELD, TYPE};
+use std::marker::Model;
+
+#[derive(Drop)]
+pub struct Index<'a> {
+    view: View<'a>,
+    links: &'a [u16],
+}
+
+impl<'a> Model for Index<'a> {
+    ghost use Rattle.model.specs.Schema.{Schema};
+    ghost use Rattle.index.specs.Index.{Indexed};
+
+    ghost Value = { Schema };
+
+    ghost view = { λ x. x.view };
+
+    ghost invariant = { λ x. Indexed x.view x.links.now };
+}
+
+// A position as the index holds it.
+fn position(n: u16) -> Option<u32>
+    ensures is { (o : Option ℕ) → n ≡ code o → result ≡ o }
+    ensures within { IfSome result (λ i. i + 1 < 2 ^ 32) }
+{
+    if 0 < n { Some(n as u32 - 1) } else { None }
+}
+
+// What a name is declared as: an enum or composite, or the type at a position.
+#[derive(Clone, Copy)]
+pub enum Declaration {
+    Named,
+    Typed(u32),
+}
+
+// A declaration as the index holds it.
+fn numbered(n: u32) -> Option<Declaration>
+    ensures { (d : Option Declaration) → n ≡ number_of d → result ≡ d }
+{
+    match n {
+        0 => None,
+        1 => Some(Declaration::Named),
+        _ => Some(Declaration::Typed(n - 2)),
+    }
+}
+
+// What a name is declared as, by the model's searches.
+pub fn declaration_in(v: &View<'_>, name: &[u8]) -> Option<Declaration>
+    ensures { result ≡ declaration_of v.now name.now }
+{
+    if v.last_named(ENUM, name).is_some() {
+        return Some(Declaration::Named);
+    }
+    if v.last_named(COMPOSITE, name).is_some() {
+        return Some(Declaration::Named);
+    }
+    let i = v.last_named(TYPE, name)?;
+    Some(Declaration::Typed(i))
+}
+
+impl<'a> Index<'a> {
+    // The index of a schema, into an array of zeros.
+    pub fn of(schema: View<'a>, links: &'a mut [u16]) -> Index<'a>
+        requires { Blank schema links.old }
+        ensures { result ≡ schema.entry }
+    {
+        build(&schema, links);
+        Index {
+            view: schema,
+            links,
+        }
+    }
+
+    pub fn view(&self) -> &View<'a>
+        ensures { result.now ≡ self.now }
+    {
+        &self.view
+    }
+
+    // ---- what the schema says
+
+    pub fn package(&self) -> &'a [u8]
+        ensures { result.now ≡ self.now.package_name }
+    {
+        self.view.package()
+    }
+
+    pub fn id(&self) -> u32
+        ensures { result ≡ self.now.id }
+    {
+        self.view.id()
+    }
+
+    pub fn version(&self) -> u32
+        ensures { result ≡ self.now.version }
+    {
+        self.view.version()
+    }
+
+    pub fn count(&self) -> u32
+        ensures { result ≡ length self.now.items }
+    {
+        self.view.count()
+    }
+
+    pub fn kind(&self, i: u32) -> u32
+        ensures { result ≡ (item_at self.now i).kind }
+    {
+        self.view.kind(i)
+    }
+
+    pub fn name(&self, i: u32) -> &'a [u8]
+        ensures { result.now ≡ (item_at self.now i).name }
+    {
+        self.view.name(i)
+    }
+
+    pub fn second(&self, i: u32) -> &'a [u8]
+        ensures { result.now ≡ (item_at self.now i).second }
+    {
+        self.view.second(i)
+    }
+
+    pub fn encoding(&self, i: u32) -> &'a [u8]
+        ensures { result.now ≡ (item_at self.now i).encoding }
+    {
+        self.view.encoding(i)
+    }
+
+    pub fn number(&self, i: u32) -> u32
+        ensures { result ≡ (item_at self.now i).number }
+    {
+        self.view.number(i)
+    }
+
+    pub fn given(&self, i: u32) -> bool
+        ensures { result ≡ (item_at self.now i).given }
+    {
+        self.view.given(i)
+    }
+
+    pub fn size(&self, i: u32) -> u32
+        ensures { result ≡ pick (item_at self.now i).given (item_at self.now i).number 0 }
+    {
+        self.view.size(i)
+    }
+
+    pub fn entry(&self, i: u32) -> Entry
+        ensures { Shows result (item_at self.now i) }
+    {
+        self.view.entry(i)
+    }
+
+    // All items of a kind.
+    pub fn all_of(&'a self, kind: u32) -> Walk<'a, OfKind>
+        ensures list { ahead (λ it. eqb it.kind result.by.kind) result.from result.view.now ≡ all_of kind self.now }
+        ensures few { length self.now.items < 2 ^ 32 }
+    {
+        self.view.all_of(kind)
+    }
+
+    // ---- by the links
+
+    // The item before `from`, if it is of this kind and owner, leads to the next one.
+    fn next_child(&self, kind: u32, owner: u32, from: u32) -> Option<u32>
+        requires { (length self.now.items ≤ 1024) × (kind < 10) × (owner < length self.now.items) × (0 < from) }
+        ensures is { result ≡ next_under kind owner from self.now }
+        ensures within { IfSome result (λ i. i + 1 < 2 ^ 32) }
+    {
+        let v = &self.view;
+        let i = from - 1;
+        if i < v.count() {
+            if v.kind(i) == kind {
+                if v.owner(i) == owner {
+                    return position(self.links[EACH * (i as usize)]);
+                }
+            }
+        }
+        v.next_under(kind, owner, from)
+    }
+
+    // The first item of a kind under an owner from a place on.
+    pub fn child(&self, kind: u32, owner: u32, from: u32) -> Option<u32>
+        ensures is { result ≡ next_under kind owner from self.now }
+        ensures within { IfSome result (λ i. i + 1 < 2 ^ 32) }
+    {
+        let n = self.view.count();
+        if MOST < n || 9 < kind || n <= owner {
+            return self.view.next_under(kind, owner, from);
+        }
+        if from == 0 {
+            let head = EACH * (owner as usize) + FIRST + kind as usize;
+            return position(self.links[head]);
+        }
+        self.next_child(kind, owner, from)
+    }
+
+    // The items of a kind under an owner.
+    pub fn children(&'a self, kind: u32, owner: u32) -> Children<'a>
+        ensures list { ahead (λ it. eqb it.kind result.kind and eqb it.owner result.owner) result.from result.index.now ≡ under kind owner self.now }
+        ensures few { length self.now.items < 2 ^ 32 }
+    {
+        let _count = self.count();
+        Children {
+            index: self,
+            kind,
+            owner,
+            from: 0,
+        }
+    }
+
+    // ---- what a type name is declared as
+
+    // Of the field at `i`, as the number that the index holds.
+    pub fn field_number(&self, i: u32) -> u32
+        requires { (length self.now.items ≤ 1024) × ((item_at self.now i).kind ≡ a_field) }
+        ensures { result ≡ number_of (declaration_of self.now (item_at self.now i).second) }
+    {
+        number(self.links[EACH * (i as usize) + CHAIN])
+    }
+
+    // Of the field at `i`: the index holds it.
+    pub fn field_declared(&self, i: u32) -> Option<Declaration>
+        requires { (length self.now.items ≤ 1024) × ((item_at self.now i).kind ≡ a_field) }
+        ensures { result ≡ declaration_of self.now (item_at self.now i).second }
+    {
+        numbered(self.field_number(i))
+    }
+
+    // Of the item at `i`.
+    pub fn declared(&self, i: u32) -> Option<Declaration>
+        ensures { result ≡ declaration_of self.now (item_at self.now i).second }
+    {
+        if self.kind(i) == FIELD {
+            if self.count() <= MOST {
+                return self.field_declared(i);
+            }
+        }
+        declaration_in(&self.view, self.second(i))
+    }
+}
+
+// The items of a kind under an owner from a place on, in order.
+#[derive(Drop)]
+pub struct Children<'a> {
+    index: &'a Index<'a>,
+    kind: u32,
+    owner: u32,
+    from: u32,
+}
+
+impl<'a> Iterator for Children<'a> {
+    type Item = u32;
+
+    ghost next_gives = { YieldsFirst (λ s. ahead (λ it. eqb it.kind s.kind and eqb it.owner s.owner) s.from s.index.now) };
+
+    ghost remaining = { item_count (λ s. ahead (λ it. eqb it.kind s.kind and eqb it.owner s.owner) s.from s.index.now) };
+
+    fn next(&mut self) -> Option<u32> {
+        let s = self.index;
+        let i = s.child(self.kind, self.owner, self.from)?;
+        self.from = i + 1;
+        Some(i)
+    }
+}

@@ -1,0 +1,165 @@
+// Searches among the items, and walks over those that pass a test.
+ghost use Rattle.std.specs.Prelude.{◌≡◌, Bool, ℕ, ◌+◌, ◌<◌, ◌^◌, OnSome, IfSome, eqb, length};
+ghost use Rattle.std.specs.Iterator.{YieldsFirst, item_count};
+ghost use Rattle.texts.specs.Choice.{◌and◌};
+ghost use Rattle.texts.specs.Text.{same};
+ghost use Rattle.model.specs.Schema.{Item, item_at, positions_from, first, last, all_of, under, next_of, next_under, last_named};
+ghost use Rattle.model.specs.Search.{ahead, last_under};
+
+use crate::view::View;
+use texts::equal;
+
+// A test of an item.
+pub trait Test {
+    ghost test: { Self → Item → Bool };
+
+    fn passes(&self, v: &View<'_>, i: u32) -> bool
+        ensures { result ≡ test self.now (item_at v.now i) };
+}
+
+// Of a kind.
+#[derive(Clone, Copy)]
+pub struct OfKind {
+    pub kind: u32,
+}
+
+impl Test for OfKind {
+    ghost test = { λ t it. eqb it.kind t.kind };
+
+    fn passes(&self, v: &View<'_>, i: u32) -> bool {
+        v.kind(i) == self.kind
+    }
+}
+
+// Of a kind and under an owner.
+#[derive(Clone, Copy)]
+pub struct Under {
+    pub kind: u32,
+    pub owner: u32,
+}
+
+impl Test for Under {
+    ghost test = { λ t it. eqb it.kind t.kind and eqb it.owner t.owner };
+
+    fn passes(&self, v: &View<'_>, i: u32) -> bool {
+        v.kind(i) == self.kind && v.owner(i) == self.owner
+    }
+}
+
+// Of a kind and with a name.
+#[derive(Clone, Copy)]
+pub struct Named<'a> {
+    pub kind: u32,
+    pub name: &'a [u8],
+}
+
+impl<'a> Test for Named<'a> {
+    ghost test = { λ t it. eqb it.kind t.kind and same it.name t.name.now };
+
+    fn passes(&self, v: &View<'_>, i: u32) -> bool {
+        v.kind(i) == self.kind && equal(v.name(i), self.name)
+    }
+}
+
+// The first item from a place on that passes.
+pub fn next<T: Test>(v: &View<'_>, by: &T, from: u32) -> Option<u32>
+    ensures is { result ≡ first (ahead (T.test by.now) from v.now) }
+    ensures within { IfSome result (λ i. (i < length v.now.items) × (length v.now.items < 2 ^ 32)) }
+{
+    for i in from..v.count() {
+        if by.passes(v, i) {
+            return Some(i);
+        }
+    }
+    None
+}
+
+// The last item that passes.
+pub fn last<T: Test>(v: &View<'_>, by: &T) -> Option<u32>
+    ensures { result ≡ last (positions_from 0 (T.test by.now) v.now.items) }
+{
+    for i in (0..v.count()).rev() {
+        if by.passes(v, i) {
+            return Some(i);
+        }
+    }
+    None
+}
+
+// The items from a place on that pass, in order.
+#[derive(Drop)]
+pub struct Walk<'a, T> {
+    view: &'a View<'a>,
+    by: T,
+    from: u32,
+}
+
+impl<'a, T: Test + Drop> Iterator for Walk<'a, T> {
+    type Item = u32;
+
+    ghost next_gives = { YieldsFirst (λ s. ahead (T.test s.by) s.from s.view.now) };
+
+    ghost remaining = { item_count (λ s. ahead (T.test s.by) s.from s.view.now) };
+
+    fn next(&mut self) -> Option<u32> {
+        let v = self.view;
+        let i = next(v, &self.by, self.from)?;
+        self.from = i + 1;
+        Some(i)
+    }
+}
+
+impl<'a> View<'a> {
+    // The first item of a kind from a place on.
+    pub fn next_of(&self, kind: u32, from: u32) -> Option<u32>
+        ensures { result ≡ next_of kind from self.now }
+    {
+        next(self, &OfKind { kind }, from)
+    }
+
+    // The first item of a kind under an owner from a place on.
+    pub fn next_under(&self, kind: u32, owner: u32, from: u32) -> Option<u32>
+        ensures is { result ≡ next_under kind owner from self.now }
+        ensures within { IfSome result (λ i. i + 1 < 2 ^ 32) }
+    {
+        next(self, &Under { kind, owner }, from)
+    }
+
+    // The last item of a kind with a name.
+    pub fn last_named(&self, kind: u32, name: &[u8]) -> Option<u32>
+        ensures { result ≡ last_named kind name.now self.now }
+    {
+        last(self, &Named { kind, name })
+    }
+
+    // The last item of a kind under an owner.
+    pub fn last_under(&self, kind: u32, owner: u32) -> Option<u32>
+        ensures { result ≡ last_under kind owner self.now.items }
+    {
+        last(self, &Under { kind, owner })
+    }
+
+    // All items of a kind.
+    pub fn all_of(&'a self, kind: u32) -> Walk<'a, OfKind>
+        ensures list { ahead (λ it. eqb it.kind result.by.kind) result.from result.view.now ≡ all_of kind self.now }
+        ensures few { length self.now.items < 2 ^ 32 }
+    {
+        let _count = self.count();
+        Walk {
+            view: self,
+            by: OfKind { kind },
+            from: 0,
+        }
+    }
+
+    // Those of a kind under an owner.
+    pub fn under(&'a self, kind: u32, owner: u32) -> Walk<'a, Under>
+        ensures { ahead (λ it. eqb it.kind result.by.kind and eqb it.owner result.by.owner) result.from result.view.now ≡ under kind owner self.now }
+    {
+        Walk {
+            view: self,
+            by: Under { kind, owner },
+            from: 0,
+        }
+    }
+}

@@ -1,0 +1,148 @@
+// A model with its two buffers: the schema that it stands for.
+ghost use Rattle.std.specs.Prelude.{◌≡◌, List, ℕ, eqb, length};
+ghost use Rattle.texts.specs.Choice.{pick};
+ghost use Rattle.texts.specs.Text.{piece};
+ghost use Rattle.model.specs.Schema.{item_at};
+ghost use Rattle.model.specs.Store.{item_of, schema_of};
+ghost use Rattle.model.specs.Shown.{Shows};
+
+use crate::{Entry, Model, entry_at};
+use texts::part;
+
+#[derive(Drop)]
+pub struct View<'a> {
+    model: Model,
+    records: &'a [u32],
+    text: &'a [u8],
+}
+
+impl<'a> std::marker::Model for View<'a> {
+    ghost use Rattle.model.specs.Schema.{Schema};
+    ghost use Rattle.model.specs.Store.{schema_of};
+
+    ghost Value = { Schema };
+
+    ghost view = { λ v. schema_of v.model v.records.now v.text.now };
+}
+
+// The entry at a position, whatever the text buffer holds; past the last item an empty one.
+fn item(m: Model, rec: &[u32], i: u32) -> Entry
+    ensures { (text : List ℕ) → item_of text result ≡ item_at (schema_of m rec.now text) i }
+{
+    if i < m.count {
+        return entry_at(rec, i);
+    }
+    Entry {
+        kind: 0,
+        owner: 0,
+        name: 0,
+        nlen: 0,
+        second: 0,
+        slen: 0,
+        number: 0,
+        given: 0,
+        encoding: 0,
+        elen: 0,
+    }
+}
+
+impl<'a> View<'a> {
+    pub fn new(model: Model, records: &'a [u32], text: &'a [u8]) -> View<'a>
+        ensures { result ≡ schema_of model records.now text.now }
+    {
+        View {
+            model,
+            records,
+            text,
+        }
+    }
+
+    pub fn package(&self) -> &'a [u8]
+        ensures { result.now ≡ self.now.package_name }
+    {
+        let head = self.model.head;
+        part(self.text, head.name as usize, head.len as usize)
+    }
+
+    pub fn id(&self) -> u32
+        ensures { result ≡ self.now.id }
+    {
+        self.model.head.id
+    }
+
+    pub fn version(&self) -> u32
+        ensures { result ≡ self.now.version }
+    {
+        self.model.head.version
+    }
+
+    // How many items there are.
+    pub fn count(&self) -> u32
+        ensures { result ≡ length self.now.items }
+    {
+        self.model.count
+    }
+
+    // ---- what the schema says of the item at a position; of one past the last, what an empty item says
+
+    pub fn kind(&self, i: u32) -> u32
+        ensures { result ≡ (item_at self.now i).kind }
+    {
+        item(self.model, self.records, i).kind
+    }
+
+    pub fn owner(&self, i: u32) -> u32
+        ensures { result ≡ (item_at self.now i).owner }
+    {
+        item(self.model, self.records, i).owner
+    }
+
+    pub fn name(&self, i: u32) -> &'a [u8]
+        ensures { result.now ≡ (item_at self.now i).name }
+    {
+        let e = item(self.model, self.records, i);
+        part(self.text, e.name as usize, e.nlen as usize)
+    }
+
+    pub fn second(&self, i: u32) -> &'a [u8]
+        ensures { result.now ≡ (item_at self.now i).second }
+    {
+        let e = item(self.model, self.records, i);
+        part(self.text, e.second as usize, e.slen as usize)
+    }
+
+    pub fn encoding(&self, i: u32) -> &'a [u8]
+        ensures { result.now ≡ (item_at self.now i).encoding }
+    {
+        let e = item(self.model, self.records, i);
+        part(self.text, e.encoding as usize, e.elen as usize)
+    }
+
+    pub fn number(&self, i: u32) -> u32
+        ensures { result ≡ (item_at self.now i).number }
+    {
+        item(self.model, self.records, i).number
+    }
+
+    // Whether a length is given.
+    pub fn given(&self, i: u32) -> bool
+        ensures { result ≡ (item_at self.now i).given }
+    {
+        item(self.model, self.records, i).given == 1
+    }
+
+    // The length of a type or member, 0 where that is absent.
+    pub fn size(&self, i: u32) -> u32
+        ensures { result ≡ pick (item_at self.now i).given (item_at self.now i).number 0 }
+    {
+        let e = item(self.model, self.records, i);
+        if e.given == 1 { e.number } else { 0 }
+    }
+
+    // The numbers of an item, and how long its texts are at most.
+    pub fn entry(&self, i: u32) -> Entry
+        ensures { Shows result (item_at self.now i) }
+    {
+        item(self.model, self.records, i)
+    }
+}
