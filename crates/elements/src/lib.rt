@@ -42,7 +42,8 @@ fn other_element_of(name: &[u8]) -> Element
     }
 }
 
-// What an element's name says. A `match` of byte strings would tell the proof of the last arm only lengths.
+// What an element's name says.
+// kept: a `match` of byte strings would tell the proof of the last arm only lengths.
 pub fn element_of(name: &[u8]) -> Element
     ensures { result ≡ element_of name.now }
 {

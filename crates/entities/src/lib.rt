@@ -30,6 +30,7 @@ fn unit_at(s: &[u8], at: usize) -> Unit
         return Unit { byte: b, len: 1 };
     }
     let n = at + 1;
+    // kept: a `match` of byte strings would tell the proof of the last arm only lengths.
     if texts::starts_with(s, n, b"lt;") {
         Unit { byte: b'<', len: 4 }
     } else if texts::starts_with(s, n, b"gt;") {

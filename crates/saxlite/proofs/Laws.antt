@@ -1,4 +1,4 @@
--- The laws that the proofs of the steps cite, in one set: `search laws` at each goal. Those of a close tag whose name is known are a
+-- The laws that the proofs of the steps cite, in one set, which the attribute of each file names. Those of a close tag whose name is known are a
 -- set beside it, and so are those of finding an end (Finding.antt), passing (Idling.antt), reading and noting.
 use borrow.Author.Rules.{rules}
 use Rattle.texts.proofs.Scanning.{scan-start, scan-on, scan-stop, scan-end, until-on, until_stop, byte-on, byte-stop}

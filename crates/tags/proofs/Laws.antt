@@ -1,4 +1,4 @@
--- The laws that the proofs of functions cite, in one set: `search laws` at each goal. Those of known names are sets beside it.
+-- The laws that the proofs of functions cite, in one set, which the attribute of each file names. Those of known names are sets beside it.
 use borrow.Author.Rules.{rules}
 use Rattle.texts.proofs.Scanning.{scan-start, scan-on, scan-stop, scan-end, until-on, until_stop, byte-on, byte-stop}
 use Rattle.tags.proofs.Searching.{stands_on, stands-fits, search-start, search-found, search-on, search-none}

@@ -14,6 +14,7 @@ use words::{stands_long, stands_short};
 
 // A beginning that is known: the number of its raw name (specs/Beginning.antt), which names matter there, and the lengths of
 // the raw name and of its prefix.
+// kept: a number for a raw name, for the same reason as in `known`.
 #[derive(Clone, Copy)]
 pub struct Opening {
     pub code: usize,

@@ -10,6 +10,8 @@ use words::{stands_long, stands_short};
 
 // A known attribute: the number of its name (specs/Known.antt), and how far the value's first byte is from the space before
 // the name: the name's length and 3, so that one addition finds the value.
+// kept: a number for a name. The proofs compute over all of them (`up_to`, specs/Known.antt), and an enum would be numbered again
+// for that.
 #[derive(Clone, Copy)]
 pub struct Known {
     pub code: usize,

@@ -5,8 +5,7 @@
 // its element looks up. `known` and `beginning` tell the names that nearly every tag of a schema has by a word or two; the
 // general way answers for all others.
 //
-// `tag_part` and `attribute` require nothing of a caller; what the reader calls is lent the table of classes, and asks that it is
-// that table. Each promise is with a definition of specs/, on all inputs: specs/Find.antt, specs/Names.antt and
+// `tag_part` and `attribute` require nothing of a caller; what the reader calls is lent the classes of bytes. Each promise is with a definition of specs/, on all inputs: specs/Find.antt, specs/Names.antt and
 // specs/Attributes.antt, after 01, "Reading markup". What is noted is specs/Noting.antt. A tag's values lie within the tag,
 // without overlap (proofs/Ranges.antt).
 #![tactic(auto)]
