@@ -12,7 +12,7 @@ ghost use Rattle.texts.specs.Text.{piece};
 ghost use Rattle.entities.specs.Entities.{front, decoded, DecodedInto};
 ghost use Rattle.entities.specs.Copying.{PlainTo, RestInto};
 
-use words::{both_lack, copy, lacks};
+use words::{both_lack, copy_half, copy_word, lacks};
 
 // The byte that stands at a place, and of how many bytes it is written.
 #[derive(Clone, Copy)]
@@ -74,7 +74,7 @@ fn copy_plain(raw: &[u8], dst: &mut [u8], at: usize) -> usize
     let mut i = 0;
     while i + 8 <= raw.len() {
         if lacks::<8>(raw, i, b'&') {
-            copy::<8>(raw, i, dst, at + i);
+            copy_word(raw, i, dst, at + i);
             i += 8;
         } else {
             return i;
@@ -98,7 +98,7 @@ fn decode_long(raw: &[u8], dst: &mut [u8], at: usize) -> usize
         let last = n - 8;
         if last < i {
             if lacks::<8>(raw, last, b'&') {
-                copy::<8>(raw, last, dst, at + last);
+                copy_word(raw, last, dst, at + last);
                 return n;
             }
         }
@@ -115,8 +115,8 @@ fn decode_short(raw: &[u8], dst: &mut [u8], at: usize) -> usize
     if 4 <= n {
         let last = n - 4;
         if both_lack::<4>(raw, 0, last, b'&') {
-            copy::<4>(raw, 0, dst, at);
-            copy::<4>(raw, last, dst, at + last);
+            copy_half(raw, 0, dst, at);
+            copy_half(raw, last, dst, at + last);
             return n;
         }
     }
@@ -135,8 +135,8 @@ fn decode_all(raw: &[u8], dst: &mut [u8], at: usize) -> usize
     if n <= 16 {
         let last = n - 8;
         if both_lack::<8>(raw, 0, last, b'&') {
-            copy::<8>(raw, 0, dst, at);
-            copy::<8>(raw, last, dst, at + last);
+            copy_word(raw, 0, dst, at);
+            copy_word(raw, last, dst, at + last);
             return n;
         }
     }

@@ -1,10 +1,10 @@
 // Words: eight bytes of a lent slice at once, as one number.
 //
 // `word_at` gives the number of the eight bytes at a place, the first one lowest (specs/Word.antt); a word tells its
-// bytes (proofs/Digits.antt). By words `byte_from` finds where a byte first stands, whatever the bytes are, `text_from` does so for
-// a short text, all but near the end. `lacks` and `both_lack` tell that a byte is not among a few,
-// and `copy` copies a few: how many is a const. `stands_short` and `stands_long` compare with a text that is given by its numbers, and `same_name`
-// compares two names. What works on one word asks that eight bytes are there, and no more. A half is four bytes.
+// bytes (proofs/Digits.antt). By words `byte_from` finds where a byte first stands, whatever the bytes are, and `text_from`
+// does so for a short text, all but near the end. `lacks` and `both_lack` tell that a byte is not among a few, how many is a
+// const; `copy_word` copies eight. `stands_short` and `stands_long` compare with a text that is given by its numbers, and
+// `same_name` compares two names. What works on one word asks that eight bytes are there, and no more. A half is four bytes.
 #![tactic(auto)]
 
 ghost use Rattle.std.specs.Prelude.{◌≡◌, true, false, [], ◌∷◌, ◌+◌, ◌≤◌, ◌<◌, length};
@@ -96,13 +96,43 @@ pub fn both_lack<const N: usize>(s: &[u8], i: usize, j: usize, x: u8) -> bool
     lacks::<N>(s, i, x) & lacks::<N>(s, j, x)
 }
 
-// Copies the `N` bytes from `i` on to `at`.
-pub fn copy<const N: usize>(s: &[u8], i: usize, dst: &mut [u8], at: usize)
-    requires from { i + N ≤ length s.now }
-    requires to { at + N ≤ length dst.old }
-    ensures { dst.new ≡ sets dst.old at (piece s.now i N) }
+// Copies the 8 bytes from `i` on to `at`. All are read before the first is written: it is one load and one store. Kept, and the
+// next one, beside one function for both sizes: by `copy_from_slice` each byte is some ten instructions.
+pub fn copy_word(s: &[u8], i: usize, dst: &mut [u8], at: usize)
+    requires { (i + 8 ≤ length s.now) × (at + 8 ≤ length dst.old) }
+    ensures { dst.new ≡ sets dst.old at (piece s.now i 8) }
 {
-    dst[at..at + N].copy_from_slice(&s[i..i + N]);
+    let a = s[i];
+    let b = s[i + 1];
+    let c = s[i + 2];
+    let d = s[i + 3];
+    let e = s[i + 4];
+    let f = s[i + 5];
+    let g = s[i + 6];
+    let h = s[i + 7];
+    dst[at] = a;
+    dst[at + 1] = b;
+    dst[at + 2] = c;
+    dst[at + 3] = d;
+    dst[at + 4] = e;
+    dst[at + 5] = f;
+    dst[at + 6] = g;
+    dst[at + 7] = h;
+}
+
+// Copies the 4 bytes from `i` on to `at`.
+pub fn copy_half(s: &[u8], i: usize, dst: &mut [u8], at: usize)
+    requires { (i + 4 ≤ length s.now) × (at + 4 ≤ length dst.old) }
+    ensures { dst.new ≡ sets dst.old at (piece s.now i 4) }
+{
+    let a = s[i];
+    let b = s[i + 1];
+    let c = s[i + 2];
+    let d = s[i + 3];
+    dst[at] = a;
+    dst[at + 1] = b;
+    dst[at + 2] = c;
+    dst[at + 3] = d;
 }
 
 // Where the first `x` from `at` on stands, or the end, byte by byte.
