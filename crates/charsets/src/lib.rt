@@ -41,6 +41,7 @@ fn is_punctuation_eight(s: &[u8], i: usize) -> bool
 }
 
 // Passes punctuation from `from` on, eight bytes at once.
+// kept: a `while`, since its steps are of eight bytes and not of one.
 fn past_eights(s: &[u8], from: usize) -> usize
     requires { from ≤ length s.now }
     ensures { Passed s.now from result }
@@ -58,6 +59,7 @@ fn past_eights(s: &[u8], from: usize) -> usize
 // ---- the letters
 
 // Puts the letters of the cleaned text into `out`, and gives their number, where there are no more than 13.
+// kept: a `while`, since punctuation is passed eight bytes at once.
 fn clean(out: &mut [u8], s: &[u8], classes: &Classes) -> Option<usize>
     requires { 13 ≤ length out.old }
     ensures { Letters s.now out.new result }

@@ -14,10 +14,9 @@ use borrow.Author.Tests.{eq-eqb, ne_eqb}
 use Rattle.texts.specs.Text.{ascii, piece, starts_with}
 use Rattle.texts.proofs.Choosing.{by-test, pick_yes, pick_no}
 use Rattle.texts.proofs.Comparing.{starts-append, starts-yes, starts-no}
-use Rattle.printing.specs.Printed.{Printed}
 use Rattle.printing.specs.Repeated.{up_to}
 use Rattle.conversions.specs.Letters.{raised}
-use Rattle.conversions.specs.Conversions.{breaks_screaming, screaming_at, camel_to_screaming_snake, prefix_of, without_prefix, screaming_snake_to_pascal, strip_enum_prefix}
+use Rattle.conversions.specs.Conversions.{breaks_screaming, screaming_at, camel_to_screaming_snake, prefix_of, without_prefix}
 use Rattle.conversions.specs.Prefix.{past_text}
 
 -- ---- part by part

@@ -5,7 +5,6 @@
 ghost use Rattle.std.specs.Prelude.{◌≡◌, Bool, List, [], ◌∷◌, ℕ, ◌+◌, ◌*◌, ◌<◌, ◌≤◌, length, get_or};
 ghost use Rattle.texts.specs.Choice.{pick};
 ghost use Rattle.texts.specs.Text.{ascii};
-ghost use Rattle.classes.specs.Table.{IsTable};
 ghost use Rattle.printing.specs.Printed.{Printed};
 ghost use Rattle.printing.specs.Written.{Wrote};
 ghost use Rattle.conversions.specs.Letters.{lowered, raised};
@@ -365,35 +364,10 @@ pub fn put_screaming_in(out: &mut [u8], at: usize, _t: &[u8; 256], name: &[u8]) 
 }
 
 #[tactic(auto, unfolding(printing::specs::Written::written))]
-pub fn put_camel(out: &mut [u8], at: usize, name: &[u8]) -> usize
-    ensures { Printed out.old at out.new result (snake_to_camel name.now) }
-{
-    let mut o = Output { bytes: out, at };
-    write_camel(&mut o, &Classes::new(), name);
-    o.at
-}
-
-#[tactic(auto, unfolding(printing::specs::Written::written))]
-pub fn put_pascal(out: &mut [u8], at: usize, name: &[u8]) -> usize
-    ensures { Printed out.old at out.new result (screaming_snake_to_pascal name.now) }
-{
-    let mut o = Output { bytes: out, at };
-    write_pascal(&mut o, &Classes::new(), name);
-    o.at
-}
-
-#[tactic(auto, unfolding(printing::specs::Written::written))]
 pub fn put_singular(out: &mut [u8], at: usize, name: &[u8]) -> usize
     ensures { Printed out.old at out.new result (singular_pascal name.now) }
 {
     let mut o = Output { bytes: out, at };
     write_singular(&mut o, &Classes::new(), name);
     o.at
-}
-
-#[tactic(auto, using(crate::proofs::Letters::letters))]
-pub fn lower_in(_t: &[u8; 256], b: u8) -> u8
-    ensures { result ≡ lowered b }
-{
-    lower(&Classes::new(), b)
 }

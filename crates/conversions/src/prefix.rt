@@ -1,7 +1,6 @@
 // The enum's prefix of a value name: cut without a work buffer, by comparing the value name with the
 // enum's screaming name as it would be printed.
 ghost use Rattle.std.specs.Prelude.{◌≡◌, [], ◌∷◌, ◌<◌, length};
-ghost use Rattle.printing.specs.Printed.{Printed};
 ghost use Rattle.printing.specs.Written.{Wrote};
 ghost use Rattle.conversions.specs.Conversions.{screaming_at, prefix_of, without_prefix, strip_enum_prefix};
 ghost use Rattle.conversions.specs.Prefix.{past_text};
@@ -71,15 +70,4 @@ pub fn write_stripped(out: &mut Output<'_>, classes: &Classes, value: &[u8], enu
     ensures { Wrote out.old out.new (strip_enum_prefix value.now enum_name.now) }
 {
     write_pascal(out, classes, without_prefix(classes, value, enum_name));
-}
-
-// ---- the same over a slice and a position
-
-#[tactic(auto, unfolding(printing::specs::Written::written))]
-pub fn put_stripped(out: &mut [u8], at: usize, value: &[u8], enum_name: &[u8]) -> usize
-    ensures { Printed out.old at out.new result (strip_enum_prefix value.now enum_name.now) }
-{
-    let mut o = Output { bytes: out, at };
-    write_stripped(&mut o, &Classes::new(), value, enum_name);
-    o.at
 }

@@ -135,6 +135,7 @@ fn note() -> [bool; 256]
 // ---- texts
 
 // Writes the escapes run by run: the bytes that are shown as they stand at once, then the one that is not.
+// kept: a `while`, since its steps are runs.
 #[tactic(auto, using(crate::proofs::Runs::runs))]
 fn write_runs(out: &mut Output<'_>, plain: &Plain<'_>, s: &[u8])
     ensures { Wrote out.old out.new (each escaped s.now) }
