@@ -1,4 +1,6 @@
 // Reads a whole document into the two lent buffers.
+#![tactic(auto, using(crate::proofs::Laws::driving))]
+
 ghost use Rattle.std.specs.Prelude.{◌≡◌, ◌≤◌, length};
 ghost use Rattle.saxlite.specs.Reader.{read_at, at_end};
 ghost use Rattle.saxlite.specs.Noting.{NotedIn};
