@@ -98,6 +98,7 @@ fn long_word(name: &[u8]) -> u64
 {
     let n = name.len();
     let mut h = n as u64;
+    // Kept: whole words as far as one more begins, the last word up to the end; a range by eights is no plainer.
     let mut i = 0;
     while i + 8 < n {
         h = mixed(h, word_at(name, i));

@@ -24,6 +24,7 @@ pub const SIZE: usize = 1024;
 fn compared(a: &[u8], b: &[u8]) -> Ordering
     ensures { result ≡ order a.now b.now }
 {
+    // Kept: eight bytes a step while both texts last and agree, which no range says more plainly.
     let mut i = 0;
     while i + 8 <= a.len() && i + 8 <= b.len() && word_at(a, i) == word_at(b, i) {
         i += 8;
@@ -44,6 +45,7 @@ fn place_of(v: &View<'_>, names: &[u16], n: usize, name: &[u8]) -> Result<usize,
     requires { Rising v.now names.now n }
     ensures { Placed v.now names.now n name.now result }
 {
+    // Kept: the invariant is over two ends, and `Err` says what stands on both sides of the place.
     let mut low = 0;
     let mut high = n;
     while low < high {
