@@ -1,4 +1,4 @@
--- Laws of numbers of two and three digits.
+-- Laws of numbers of one, two and three digits.
 use mathlib.Core.List.{[], ◌∷◌}
 use Prim.Native.Nat.{ℕ, ◌+◌, ◌/◌, ◌%◌, ◌≤◌, ◌<◌}
 use native.Mathlib.Omega.{arith}
@@ -7,7 +7,7 @@ use Rattle.printing.specs.Written.{Wrote}
 use Rattle.printing.specs.declared.Output.{Output}
 use Rattle.printing.proofs.Decimals.{decimal-one, decimal-more}
 use Rattle.printing.proofs.Writing.{◌▹◌}
-use Rattle.xmltoproto.proofs.Laws.{line}
+use borrow.Author.Rules.{rules}
 
 module _ {o : Output} {o₁ : Output} {o₂ : Output} (n : ℕ) where
   pub two_digits : 10 ≤ n → n < 100 → Wrote o o₁ ((48 + n / 10) ∷ []) → Wrote o₁ o₂ ((48 + n % 10) ∷ []) → Wrote o o₂ (decimal n)
@@ -16,4 +16,7 @@ module _ {o : Output} {o₁ : Output} {o₂ : Output} (n : ℕ) where
   pub last-digit : 100 ≤ n → Wrote o o₁ (decimal (n / 10)) → Wrote o₁ o₂ ((48 + n % 10) ∷ []) → Wrote o o₂ (decimal n)
   last-digit h p q = rw (decimal-more n (omega arith)) (p ▹ q)
 
-pub ruleset digits = (two_digits, last-digit, line)
+pub digit-printed : {o o' : Output} (n : ℕ) → n < 10 → Wrote o o' ((48 + n) ∷ []) → Wrote o o' (decimal n)
+digit-printed n h p = rw (decimal-one n h) p
+
+pub ruleset digits = (digit-printed, two_digits, last-digit, rules)

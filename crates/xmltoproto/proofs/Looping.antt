@@ -40,6 +40,8 @@ module _ {f : ℕ → List ℕ} {l left : List ℕ} {o o' : Output} (inv : Walki
   pub walking-length : length o'.bytes.now ≡ length o.bytes.now
   walking-length = sym (length-written o' (each f left)) ∙ ap (λ x. length x.bytes.now) inv.rest ∙ length-written o (each f l)
 
+pub ruleset walking = (walking_on, walking-end)
+
 -- ---- f of each position of l with its number, from k₀ + 1 on; k are printed, and n bounds the numbers
 
 pub record Numbering (f : ℕ → ℕ → List ℕ) (k₀ : ℕ) (l left : List ℕ) (n k : ℕ) (o o' : Output) : Type 0 where

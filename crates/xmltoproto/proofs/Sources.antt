@@ -18,18 +18,18 @@ use Rattle.printing.specs.Standing.{Standing}
 use Rattle.printing.proofs.Writing.{◌▹◌}
 use Rattle.xmltoproto.proofs.Outputs.{blank, printed-of}
 use Rattle.printing.proofs.Again.{standing-within}
-use Rattle.conversions.specs.Conversions.{camel_to_snake, camel_to_screaming_snake, prefix_of, singular_pascal}
+use Rattle.conversions.specs.Conversions.{camel_to_snake, camel_to_screaming_snake, prefix_of}
 use Rattle.index.specs.Declarations.{declaration_of, number_of}
 use Rattle.index.specs.declared.seen.Declaration.{Declaration}
 use Rattle.index.specs.declared.seen.Declaration.TheVariants.{Named, Typed}
 use Rattle.index.proofs.Finding.{declaration-none, declaration-named, declaration-typed}
 use Rattle.std.specs.Prelude.{Option, Some, None}
-use Rattle.model.specs.Schema.{Item, Schema, no_item, item_at, positions_from, all_of, under, a_member, a_ref, a_composite, a_value, a_group, a_field}
+use Rattle.model.specs.Schema.{Item, Schema, no_item, item_at, positions_from, all_of, under, a_member, a_ref, a_composite, a_group, a_field}
 use Rattle.xmltoproto.specs.Types.{built_ins, form_of, built_in, as_named, proto_of, proto_by, Meaning, typed, unknown, meaning}
 use Rattle.xmltoproto.specs.Composites.{is_printed, printed_composites}
-use Rattle.xmltoproto.specs.Source.{package_line, header, value_text, enum_text, line, member_text, ref_text, part_texts, composite_text, field_text, group_text, message_text}
+use Rattle.xmltoproto.specs.Source.{package_line, header, value_text, line, member_text, ref_text, part_texts, field_text, group_text, message_text}
 use Rattle.xmltoproto.specs.Shapes.{form, proto_in}
-use Rattle.xmltoproto.specs.Parts.{Members, group_head}
+use Rattle.xmltoproto.specs.Parts.{Members}
 use Rattle.xmltoproto.specs.declared.types.Shape.{Shape}
 use Rattle.xmltoproto.specs.declared.types.Shape.TheVariants as shape
 use Rattle.xmltoproto.proofs.Typing.{undeclared-shape, declared_so, means}
@@ -41,7 +41,7 @@ unfolding package_line
 package-none [] h = blank
 package-none (x ∷ w) h = absurd (omega arith)
 
-module _ {o : Output} {o₁ : Output} where
+module _ {o o₁ : Output} where
   pub package-some : (w : List ℕ) → (length w ≡ 0 → ⊥) → Wrote o o₁ (ascii "package " ++ w ++ ascii ";\n\n") → Wrote o o₁ (package_line w)
   unfolding package_line
   package-some [] h p = absurd (h refl)
@@ -53,22 +53,11 @@ module _ {o : Output} {o₁ : Output} where
   unfolding header
   header-printed s ew ea eb p = rw (← ew, ← ea, ← eb) p
 
-  pub value-printed : (name : List ℕ) (it : Item) {w u : List ℕ} → w ≡ it.name → u ≡ it.second
-      → Wrote o o₁ (ascii "  " ++ prefix_of name ++ camel_to_screaming_snake w ++ ascii " = " ++ u ++ ascii ";\n") → Wrote o o₁ (value_text name it)
-  unfolding value_text
-  value-printed name it ew eu p = rw (← ew, ← eu) p
-
   -- the prefix of a value stands after its two spaces
   pub value-standing : (name : List ℕ) (it : Item) {q : ℕ} → length o.bytes.now < 2 ^ 63 → q ≡ skipped o.at 2 → Wrote o o₁ (value_text name it) → Standing (prefix_of name) o₁.bytes.now q o₁.at
   unfolding value_text
   value-standing name it l e p =
       standing-within (ascii "  ") (prefix_of name) (camel_to_screaming_snake it.name ++ (ascii " = " ++ (it.second ++ ascii ";\n"))) l e (printed-of (simp append_assoc at p))
-
-  pub enum-printed : (s : Schema) (e : ℕ) {w : List ℕ} → w ≡ (item_at s e).name
-      → Wrote o o₁ (ascii "enum " ++ w ++ ascii " {\n" ++ each (λ v. value_text w (item_at s v)) (under a_value e s) ++ ascii "}\n\n") → Wrote o o₁ (enum_text s e)
-  unfolding enum_text
-  enum-printed s e ew p =
-      subst (λ (x : List ℕ). Wrote o o₁ (ascii "enum " ++ x ++ ascii " {\n" ++ each (λ v. value_text x (item_at s v)) (under a_value e s) ++ ascii "}\n\n")) ew p
 
 -- ---- lines
 
@@ -80,7 +69,7 @@ pub form-seen : (it : Item) {p : List ℕ} {n : ℕ} {e : List ℕ} → p ≡ it
 unfolding form_of
 form-seen it ep en ee = rw (ep, en, ee)
 
-module _ {o : Output} {o' : Output} where
+module _ {o o' : Output} where
   pub typed-printed : (it : Item) (ind name : List ℕ) (k : ℕ) {p : List ℕ} {n : ℕ} {e : List ℕ} (sh : Shape) → p ≡ it.second → n ≡ (form_of it).size → e ≡ it.encoding
       → proto_in sh p e ≡ proto_of (form p n e) → Wrote o o' (line ind (proto_in sh p e) name k) → Wrote o o' (line ind (proto_of (form_of it)) name k)
   typed-printed it ind name k sh ep en ee h d = rw (← form-seen it ep en ee, ← h) d
@@ -145,10 +134,6 @@ module _ {o : Output} {o' : Output} where
       let z : k + 1 ≡ 1 + length (under a_member c s) = omega (arith, h.are) in
       p ▹ (rw z at q)
 
-  pub composite-printed : (s : Schema) (c : ℕ) {w : List ℕ} → w ≡ (item_at s c).name → Wrote o o' (ascii "message " ++ w ++ ascii " {\n" ++ part_texts s c ++ ascii "}\n\n") → Wrote o o' (composite_text s c)
-  unfolding composite_text
-  composite-printed s c ew p = rw (← ew) p
-
 module _ (it : Item) {w : List ℕ} (ew : w ≡ it.name) {a : Bool} (ea : a ≡ same w (ascii "messageHeader")) where
   pub printed-header : a ≡ true → false ≡ is_printed it
   unfolding is_printed
@@ -157,13 +142,6 @@ module _ (it : Item) {w : List ℕ} (ew : w ≡ it.name) {a : Bool} (ea : a ≡ 
   pub printed-other : a ≡ false → {b : Bool} → b ≡ same w (ascii "groupSizeEncoding") → not b ≡ is_printed it
   unfolding is_printed
   printed-other t eb = rw (← ew, ← ea, t, ← eb)
-
-module _ {o : Output} {on b : Bool} (e : b ≡ on) (t : List ℕ) where
-  pub chosen : b ≡ true → {o' : Output} → Wrote o o' t → Wrote o o' (pick on t [])
-  chosen v p = rw (← e, v) p
-
-  pub not_chosen : b ≡ false → Wrote o o (pick on t [])
-  not_chosen v = rw (← e, v) blank
 
 -- the texts of those that are printed, among all composites
 chosen-each : (f : ℕ → List ℕ) (p q : Item → Bool) (xs : List Item) (k : ℕ) (ys : List Item) → ((j : ℕ) → get_or ys j no_item ≡ get_or xs (k + j) no_item)
@@ -186,7 +164,7 @@ chosen-each f p q xs k (y ∷ ys) h =
 add-zero-left : (xs : List Item) (j : ℕ) → get_or xs j no_item ≡ get_or xs (0 + j) no_item
 add-zero-left xs j = let z : 0 + j ≡ j = omega arith in rw z
 
-pub composites-printed : (f : ℕ → List ℕ) (s : Schema) {o : Output} {o' : Output}
+pub composites-printed : (f : ℕ → List ℕ) (s : Schema) {o o' : Output}
     → Wrote o o' (each (λ c. pick (is_printed (item_at s c)) (f c) []) (all_of a_composite s)) → Wrote o o' (each f (printed_composites s))
 unfolding all_of printed_composites
 composites-printed f s {o} {o'} d =
@@ -194,22 +172,10 @@ composites-printed f s {o} {o'} d =
 
 -- ---- messages
 
-module _ (s : Schema) (g : ℕ) {o o' : Output} {w : List ℕ} (ew : w ≡ (item_at s g).name) where
-  pub group-head-printed : Wrote o o' (ascii "  message " ++ singular_pascal w ++ ascii " {\n" ++ each (λ f. field_text s (ascii "    ") (item_at s f)) (under a_field g s)) → Wrote o o' (group_head s g)
-  unfolding group_head
-  group-head-printed p =
-      subst (λ (x : List ℕ). Wrote o o' (ascii "  message " ++ singular_pascal x ++ ascii " {\n" ++ each (λ f. field_text s (ascii "    ") (item_at s f)) (under a_field g s))) ew p
-
-  module _ {k : ℕ} (ek : k ≡ (item_at s g).number) where
-    pub group-printed : Wrote o o' (group_head s g ++ ascii "  }\n  repeated " ++ singular_pascal w ++ ascii " " ++ camel_to_snake w ++ ascii " = " ++ decimal k ++ ascii ";\n") → Wrote o o' (group_text s g)
-    unfolding group_text group_head
-    group-printed p =
-        subst (λ (n : ℕ). Wrote o o' (group_head s g ++ ascii "  }\n  repeated " ++ singular_pascal (item_at s g).name ++ ascii " " ++ camel_to_snake (item_at s g).name ++ ascii " = " ++ decimal n ++ ascii ";\n")) ek
-        (subst (λ (x : List ℕ). Wrote o o' (group_head s g ++ ascii "  }\n  repeated " ++ singular_pascal x ++ ascii " " ++ camel_to_snake x ++ ascii " = " ++ decimal k ++ ascii ";\n")) ew p)
-
-    pub message-printed : Wrote o o' (ascii "message " ++ w ++ ascii " {\n  option (sbe.template_id) = " ++ decimal k ++ ascii ";\n" ++ each (λ f. field_text s (ascii "  ") (item_at s f)) (under a_field g s) ++ each (group_text s) (under a_group g s) ++ ascii "}\n\n")
-        → Wrote o o' (message_text s g)
-    unfolding message_text
-    message-printed p =
-        subst (λ (n : ℕ). Wrote o o' (ascii "message " ++ (item_at s g).name ++ ascii " {\n  option (sbe.template_id) = " ++ decimal n ++ ascii ";\n" ++ each (λ f. field_text s (ascii "  ") (item_at s f)) (under a_field g s) ++ each (group_text s) (under a_group g s) ++ ascii "}\n\n")) ek
-        (subst (λ (x : List ℕ). Wrote o o' (ascii "message " ++ x ++ ascii " {\n  option (sbe.template_id) = " ++ decimal k ++ ascii ";\n" ++ each (λ f. field_text s (ascii "  ") (item_at s f)) (under a_field g s) ++ each (group_text s) (under a_group g s) ++ ascii "}\n\n")) ew p)
+module _ (s : Schema) (g : ℕ) {o o' : Output} {w : List ℕ} (ew : w ≡ (item_at s g).name) {k : ℕ} (ek : k ≡ (item_at s g).number) where
+  pub message-printed : Wrote o o' (ascii "message " ++ w ++ ascii " {\n  option (sbe.template_id) = " ++ decimal k ++ ascii ";\n" ++ each (λ f. field_text s (ascii "  ") (item_at s f)) (under a_field g s) ++ each (group_text s) (under a_group g s) ++ ascii "}\n\n")
+      → Wrote o o' (message_text s g)
+  unfolding message_text
+  message-printed p =
+      subst (λ (n : ℕ). Wrote o o' (ascii "message " ++ (item_at s g).name ++ ascii " {\n  option (sbe.template_id) = " ++ decimal n ++ ascii ";\n" ++ each (λ f. field_text s (ascii "  ") (item_at s f)) (under a_field g s) ++ each (group_text s) (under a_group g s) ++ ascii "}\n\n")) ek
+      (subst (λ (x : List ℕ). Wrote o o' (ascii "message " ++ x ++ ascii " {\n  option (sbe.template_id) = " ++ decimal k ++ ascii ";\n" ++ each (λ f. field_text s (ascii "  ") (item_at s f)) (under a_field g s) ++ each (group_text s) (under a_group g s) ++ ascii "}\n\n")) ew p)

@@ -102,6 +102,7 @@ fn write_enum(out: &mut Output<'_>, classes: &Classes, s: &Index<'_>, e: u32)
     out.text(b"}\n\n");
 }
 
+#[tactic(auto, using(crate::proofs::Looping::walking))]
 pub fn write_enums(out: &mut Output<'_>, classes: &Classes, s: &Index<'_>)
     ensures { Wrote out.old out.new (each (enum_text s.now) (all_of an_enum s.now)) }
 {

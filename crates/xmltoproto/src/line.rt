@@ -64,6 +64,7 @@ fn write_foreign(out: &mut Output<'_>, deep: bool, encoding: &[u8])
     out.text(b" is not UTF-8 compatible, so this field is bytes.\n");
 }
 
+#[tactic(auto, unfolding(crate::specs::Source::note_line), using(printing::proofs::Writing::writing))]
 fn write_note(out: &mut Output<'_>, deep: bool, shape: Shape, encoding: &[u8])
     ensures { Wrote out.old out.new (note_line (indent_of deep) (note_in shape encoding.now)) }
 {
@@ -106,6 +107,7 @@ fn write_encoding(out: &mut Output<'_>, primitive: &[u8])
     out.text(b"\"]");
 }
 
+#[tactic(auto, unfolding(crate::specs::Source::bracketed, crate::specs::Shapes::length_option, crate::specs::Shapes::encoding_option), using(printing::proofs::Writing::writing))]
 fn write_option(out: &mut Output<'_>, shape: Shape, primitive: &[u8])
     ensures { Wrote out.old out.new (bracketed (option_in shape primitive.now)) }
 {

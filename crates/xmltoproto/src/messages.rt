@@ -94,6 +94,7 @@ fn write_field(out: &mut Output<'_>, classes: &Classes, s: &Index<'_>, deep: boo
     write_unsettled(out, classes, s, deep, i);
 }
 
+#[tactic(auto, using(crate::proofs::Looping::walking))]
 fn write_fields(out: &mut Output<'_>, classes: &Classes, s: &Index<'_>, deep: bool, owner: u32)
     ensures { Wrote out.old out.new (each (λ f. field_text s.now (indent_of deep) (item_at s.now f)) (under a_field owner s.now)) }
 {
@@ -127,6 +128,7 @@ fn write_group(out: &mut Output<'_>, classes: &Classes, s: &Index<'_>, g: u32)
     out.text(b";\n");
 }
 
+#[tactic(auto, using(crate::proofs::Looping::walking))]
 fn write_groups(out: &mut Output<'_>, classes: &Classes, s: &Index<'_>, owner: u32)
     ensures { Wrote out.old out.new (each (group_text s.now) (under a_group owner s.now)) }
 {
@@ -148,6 +150,7 @@ fn write_message(out: &mut Output<'_>, classes: &Classes, s: &Index<'_>, i: u32)
     out.text(b"}\n\n");
 }
 
+#[tactic(auto, using(crate::proofs::Looping::walking))]
 pub fn write_messages(out: &mut Output<'_>, classes: &Classes, s: &Index<'_>)
     ensures { Wrote out.old out.new (each (message_text s.now) (all_of a_message s.now)) }
 {
