@@ -1,6 +1,6 @@
 -- Demand 3 about two calls of the converter.
 use mathlib.Core.Path.{◌≡◌, sym, ap, ◌∙◌}
-use mathlib.Core.Bool.{Bool, false}
+use mathlib.Core.Bool.{Bool}
 use mathlib.Core.List.{List, ◌++◌}
 use Rattle.std.specs.Prelude.{Option, None, Some}
 use Prim.Native.Nat.{ℕ}
@@ -8,7 +8,6 @@ use native.Mathlib.Omega.{arith}
 use lib.Dec.{ltb}
 use lib.ListN.{length, take, drop}
 use lib.Seq.{take_at}
-use borrow.Author.Rules.{rules}
 use Rattle.texts.specs.Text.{piece, same}
 use Rattle.texts.proofs.Choosing.{by-test, pick_yes, pick_no}
 use Rattle.texts.proofs.Comparing.{same-equal, equal-same}

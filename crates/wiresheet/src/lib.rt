@@ -1,6 +1,6 @@
 // The wire sheet of a schema, and demand 3.
 //
-// `sheet::put_sheet` prints the lines of the wire sheet (specs/Sheet.antt) from the model.
+// `sheet::write_sheet` prints the lines of the wire sheet (specs/Sheet.antt) from the model.
 // `same_source` converts two documents and tells whether the two sources are the same bytes. Its
 // contract `Decides` (specs/Demand.antt) is demand 3: where both schemas are plain
 // (specs/Plain.antt), accepted and printed, it answers true exactly when their wire sheets are equal.

@@ -16,7 +16,7 @@ use Rattle.xmltoproto.specs.Types.{form_of, built_in, built_ins, is_array, is_de
 use Rattle.xmltoproto.specs.Composites.{is_printed}
 use Rattle.xmltoproto.specs.Arrays.{first_from, refused_composite, is_array_type, holds_array, refused_message, array_refusal}
 use Rattle.xmltoproto.specs.Refusing.{refusing, Arrayless}
-use Rattle.std.specs.Prelude.{Ok, Err}
+use Rattle.std.specs.Prelude.{Ok}
 
 -- ---- a test that holds of nothing
 

@@ -1,20 +1,15 @@
 -- Laws of the converter.
-use mathlib.Core.Path.{◌≡◌, refl, sym, ap, ◌∙◌}
+use mathlib.Core.Path.{◌≡◌, refl, ap, ◌∙◌}
 use mathlib.Core.List.{List}
 use Prim.Native.Nat.{ℕ}
 use lib.ListN.{length}
-use borrow.Author.Rules.{rules}
-use Rattle.std.specs.Prelude.{Result, Ok, Err, IsErrAnd}
+use Rattle.std.specs.Prelude.{Err, IsErrAnd}
 use Rattle.std.proofs.lemmas.Result.{err_from_is_err_and}
 use Rattle.refusals.specs.Figures.{Answer}
 use Rattle.refusals.specs.declared.Refusal.{Refusal}
 use Rattle.printing.specs.Output.{output_after}
-use Rattle.model.specs.Store.{schema_of}
-use Rattle.xmlschema.specs.Whole.{accepted, refused_by, answer_of}
-use Rattle.xmlschema.specs.Driving.{shown, ReadInto}
-use Rattle.model.specs.declared.Model.{Model}
-use Rattle.xmltoproto.specs.Generate.{Generated}
-use Rattle.xmltoproto.specs.Convert.{converted, source_in, Converts}
+use Rattle.xmlschema.specs.Driving.{ReadInto}
+use Rattle.xmltoproto.specs.Convert.{converted, Converts}
 
 -- d is what reading answered, w what the definition says
 

@@ -2,6 +2,7 @@
 pub mod Trials
 pub mod Typing
 pub mod Laying
+pub mod Outputs
 pub mod Looping
 pub mod Lengths
 pub mod Longest

@@ -11,37 +11,41 @@ use Rattle.std.specs.Prelude.{Some, None}
 use Rattle.texts.specs.Choice.{pick, ◌or◌}
 use Rattle.texts.specs.Lists.{each, numbered, any}
 use Rattle.texts.proofs.Choosing.{both_true}
-use Rattle.printing.specs.Printed.{Printed}
+use Rattle.printing.specs.Written.{written, Wrote}
+use Rattle.printing.specs.declared.Output.{Output}
 use Rattle.model.specs.Schema.{Item, Schema, positions_from, all_of, under, a_member, a_ref}
 use Rattle.model.proofs.Searching.{owned_so}
 use Rattle.xmltoproto.specs.Arrays.{first_from}
 use Rattle.xmltoproto.specs.Parts.{Members}
-use Rattle.printing.proofs.Going.{Going, going_start, going_on, going_end}
+use Rattle.printing.proofs.Writing.{written-append, written-nothing, length-written}
 
--- ---- f of each position of l, of which `left` are still to come
+-- ---- f of each position of l, of which `left` are still to come: once they are written, all are
 
-pub record Walking (f : ℕ → List ℕ) (l left : List ℕ) (o : List ℕ) (at : ℕ) (o' : List ℕ) (p : ℕ) : Type 0 where
-  pub going : Going (each f l) (each f left) o at o' p
+pub record Walking (f : ℕ → List ℕ) (l left : List ℕ) (o o' : Output) : Type 0 where
+  pub rest : written o' (each f left) ≡ written o (each f l)
 
-pub walking-start : {f : ℕ → List ℕ} {l left o : List ℕ} {at : ℕ} → left ≡ l → Walking f l left o at o at
-walking-start e = record { going = rw e going_start }
+pub walking-start : {f : ℕ → List ℕ} {l left : List ℕ} {o : Output} → left ≡ l → Walking f l left o o
+walking-start e = record { rest = rw e }
 
-module _ {f : ℕ → List ℕ} {l left : List ℕ} {o : List ℕ} {at : ℕ} {o' : List ℕ} {p : ℕ} (inv : Walking f l left o at o' p) where
-  pub walking_on : {i : ℕ} {rest : List ℕ} → left ≡ i ∷ rest → {o'' : List ℕ} {r : ℕ} → Printed o' p o'' r (f i) → Walking f l rest o at o'' r
+module _ {f : ℕ → List ℕ} {l left : List ℕ} {o o' : Output} (inv : Walking f l left o o') where
+  pub walking_on : {i : ℕ} {rest : List ℕ} → left ≡ i ∷ rest → {o'' : Output} → Wrote o' o'' (f i) → Walking f l rest o o''
   unfolding each
-  walking_on e d = record { going = going_on inv.going (ap (each f) e) d }
+  walking_on {i} {rest} e {o''} d =
+      record { rest = ap (λ x. written x (each f rest)) d.is ∙ written-append o' (f i) (each f rest) ∙ sym (ap (λ x. written o' (each f x)) e) ∙ inv.rest }
 
-  pub walking-end : left ≡ [] → Printed o at o' p (each f l)
+  pub walking-end : left ≡ [] → Wrote o o' (each f l)
   unfolding each
-  walking-end e = going_end inv.going (ap (each f) e)
+  walking-end e = record { is = sym (written-nothing o') ∙ sym (ap (λ x. written o' (each f x)) e) ∙ inv.rest }
 
-  pub walking-length : length o' ≡ length o
-  walking-length = inv.going.same
+  pub walking-length : length o'.bytes.now ≡ length o.bytes.now
+  walking-length = sym (length-written o' (each f left)) ∙ ap (λ x. length x.bytes.now) inv.rest ∙ length-written o (each f l)
+
+pub ruleset walking = (walking_on, walking-end)
 
 -- ---- f of each position of l with its number, from k₀ + 1 on; k are printed, and n bounds the numbers
 
-pub record Numbering (f : ℕ → ℕ → List ℕ) (k₀ : ℕ) (l left : List ℕ) (n k : ℕ) (o : List ℕ) (at : ℕ) (o' : List ℕ) (p : ℕ) : Type 0 where
-  pub going : Going (numbered f (k₀ + 1) l) (numbered f (k + 1) left) o at o' p
+pub record Numbering (f : ℕ → ℕ → List ℕ) (k₀ : ℕ) (l left : List ℕ) (n k : ℕ) (o o' : Output) : Type 0 where
+  pub rest : written o' (numbered f (k + 1) left) ≡ written o (numbered f (k₀ + 1) l)
   pub room : k + length left ≤ n
 
 pub at_most : (q : Item → Bool) (k : ℕ) (xs : List Item) → length (positions_from k q xs) ≤ length xs
@@ -79,26 +83,28 @@ pub members-most : {s : Schema} {c k : ℕ} → Members s c k → k + length (un
 unfolding under
 members-most {s} {c} h = omega (arith, h.are, disjoint c 0 s.items)
 
-module _ {f : ℕ → ℕ → List ℕ} {k₀ : ℕ} {l left : List ℕ} {n : ℕ} {o : List ℕ} {at : ℕ} where
-  pub numbering-start : left ≡ l → k₀ + length l ≤ n → Numbering f k₀ l left n k₀ o at o at
-  numbering-start e h = record { going = rw e going_start; room = rw e h }
+module _ {f : ℕ → ℕ → List ℕ} {k₀ : ℕ} {l left : List ℕ} {n : ℕ} {o : Output} where
+  pub numbering-start : left ≡ l → k₀ + length l ≤ n → Numbering f k₀ l left n k₀ o o
+  numbering-start e h = record { rest = rw e; room = rw e h }
 
-  module _ {k : ℕ} {o' : List ℕ} {p : ℕ} (inv : Numbering f k₀ l left n k o at o' p) where
+  module _ {k : ℕ} {o' : Output} (inv : Numbering f k₀ l left n k o o') where
     module _ {i : ℕ} {rest : List ℕ} (e : left ≡ i ∷ rest) where
       pub numbering-room : k + 1 ≤ n
       numbering-room = let r = rw e at inv.room in omega arith
 
-      pub numbering-on : {o'' : List ℕ} {r : ℕ} → Printed o' p o'' r (f (k + 1) i) → Numbering f k₀ l rest n (k + 1) o at o'' r
+      pub numbering-on : {o'' : Output} → Wrote o' o'' (f (k + 1) i) → Numbering f k₀ l rest n (k + 1) o o''
       unfolding numbered
       numbering-on d =
           record {
-            going = going_on inv.going (ap (numbered f (k + 1)) e) d;
+            rest =
+                ap (λ x. written x (numbered f (k + 1 + 1) rest)) d.is ∙ written-append o' (f (k + 1) i) (numbered f (k + 1 + 1) rest)
+                ∙ sym (ap (λ x. written o' (numbered f (k + 1) x)) e) ∙ inv.rest;
             room = let r = rw e at inv.room in omega arith;
           }
 
-    pub numbering-end : left ≡ [] → Printed o at o' p (numbered f (k₀ + 1) l)
+    pub numbering-end : left ≡ [] → Wrote o o' (numbered f (k₀ + 1) l)
     unfolding numbered
-    numbering-end e = going_end inv.going (ap (numbered f (k + 1)) e)
+    numbering-end e = record { is = sym (written-nothing o') ∙ sym (ap (λ x. written o' (numbered f (k + 1) x)) e) ∙ inv.rest }
 
 -- ---- how many: k are counted
 

@@ -11,61 +11,53 @@ use Rattle.texts.specs.Choice.{pick, ◌and◌}
 use Rattle.texts.specs.Text.{ascii, same}
 use Rattle.texts.specs.Lists.{among, each, numbered}
 use Rattle.printing.specs.Decimal.{decimal}
-use Rattle.printing.specs.Printed.{skipped, Printed}
+use Rattle.printing.specs.Printed.{skipped}
+use Rattle.printing.specs.Written.{Wrote}
+use Rattle.printing.specs.declared.Output.{Output}
 use Rattle.printing.specs.Standing.{Standing}
-use Rattle.printing.proofs.Sequencing.{blank, ◌▸◌}
+use Rattle.printing.proofs.Writing.{◌▹◌}
+use Rattle.xmltoproto.proofs.Outputs.{blank, printed-of}
 use Rattle.printing.proofs.Again.{standing-within}
-use Rattle.conversions.specs.Conversions.{camel_to_snake, camel_to_screaming_snake, prefix_of, singular_pascal}
+use Rattle.conversions.specs.Conversions.{camel_to_snake, camel_to_screaming_snake, prefix_of}
 use Rattle.index.specs.Declarations.{declaration_of, number_of}
 use Rattle.index.specs.declared.seen.Declaration.{Declaration}
 use Rattle.index.specs.declared.seen.Declaration.TheVariants.{Named, Typed}
 use Rattle.index.proofs.Finding.{declaration-none, declaration-named, declaration-typed}
 use Rattle.std.specs.Prelude.{Option, Some, None}
-use Rattle.model.specs.Schema.{Item, Schema, no_item, item_at, positions_from, all_of, under, a_member, a_ref, a_composite, a_value, a_group, a_field}
+use Rattle.model.specs.Schema.{Item, Schema, no_item, item_at, positions_from, all_of, under, a_member, a_ref, a_composite, a_group, a_field}
 use Rattle.xmltoproto.specs.Types.{built_ins, form_of, built_in, as_named, proto_of, proto_by, Meaning, typed, unknown, meaning}
 use Rattle.xmltoproto.specs.Composites.{is_printed, printed_composites}
-use Rattle.xmltoproto.specs.Source.{package_line, header, value_text, enum_text, line, member_text, ref_text, part_texts, composite_text, field_text, group_text, message_text}
+use Rattle.xmltoproto.specs.Source.{package_line, header, value_text, line, member_text, ref_text, part_texts, field_text, group_text, message_text}
 use Rattle.xmltoproto.specs.Shapes.{form, proto_in}
-use Rattle.xmltoproto.specs.Parts.{Members, group_head}
+use Rattle.xmltoproto.specs.Parts.{Members}
 use Rattle.xmltoproto.specs.declared.types.Shape.{Shape}
 use Rattle.xmltoproto.specs.declared.types.Shape.TheVariants as shape
 use Rattle.xmltoproto.proofs.Typing.{undeclared-shape, declared_so, means}
 
 -- ---- header and enums
 
-pub package-none : (w : List ℕ) {o : List ℕ} {at : ℕ} → length w ≡ 0 → Printed o at o at (package_line w)
+pub package-none : (w : List ℕ) {o : Output} → length w ≡ 0 → Wrote o o (package_line w)
 unfolding package_line
 package-none [] h = blank
 package-none (x ∷ w) h = absurd (omega arith)
 
-module _ {o : List ℕ} {at : ℕ} {o₁ : List ℕ} {r₁ : ℕ} where
-  pub package-some : (w : List ℕ) → (length w ≡ 0 → ⊥) → Printed o at o₁ r₁ (ascii "package " ++ w ++ ascii ";\n\n") → Printed o at o₁ r₁ (package_line w)
+module _ {o o₁ : Output} where
+  pub package-some : (w : List ℕ) → (length w ≡ 0 → ⊥) → Wrote o o₁ (ascii "package " ++ w ++ ascii ";\n\n") → Wrote o o₁ (package_line w)
   unfolding package_line
   package-some [] h p = absurd (h refl)
   package-some (x ∷ w) h p = p
 
   pub header-printed : (s : Schema) {w : List ℕ} {a b : ℕ} → w ≡ s.package_name → a ≡ s.id → b ≡ s.version
-      → Printed o at o₁ r₁ (ascii "syntax = \"proto3\";\n\n" ++ package_line w ++ ascii "import \"sbe/annotations.proto\";\n\noption (sbe.schema_id) = " ++ decimal a ++ ascii ";\noption (sbe.version) = " ++ decimal b ++ ascii ";\n\n")
-      → Printed o at o₁ r₁ (header s)
+      → Wrote o o₁ (ascii "syntax = \"proto3\";\n\n" ++ package_line w ++ ascii "import \"sbe/annotations.proto\";\n\noption (sbe.schema_id) = " ++ decimal a ++ ascii ";\noption (sbe.version) = " ++ decimal b ++ ascii ";\n\n")
+      → Wrote o o₁ (header s)
   unfolding header
   header-printed s ew ea eb p = rw (← ew, ← ea, ← eb) p
 
-  pub value-printed : (name : List ℕ) (it : Item) {w u : List ℕ} → w ≡ it.name → u ≡ it.second
-      → Printed o at o₁ r₁ (ascii "  " ++ prefix_of name ++ camel_to_screaming_snake w ++ ascii " = " ++ u ++ ascii ";\n") → Printed o at o₁ r₁ (value_text name it)
-  unfolding value_text
-  value-printed name it ew eu p = rw (← ew, ← eu) p
-
   -- the prefix of a value stands after its two spaces
-  pub value-standing : (name : List ℕ) (it : Item) {q : ℕ} → length o < 2 ^ 63 → q ≡ skipped at 2 → Printed o at o₁ r₁ (value_text name it) → Standing (prefix_of name) o₁ q r₁
+  pub value-standing : (name : List ℕ) (it : Item) {q : ℕ} → length o.bytes.now < 2 ^ 63 → q ≡ skipped o.at 2 → Wrote o o₁ (value_text name it) → Standing (prefix_of name) o₁.bytes.now q o₁.at
   unfolding value_text
   value-standing name it l e p =
-      standing-within (ascii "  ") (prefix_of name) (camel_to_screaming_snake it.name ++ (ascii " = " ++ (it.second ++ ascii ";\n"))) l e (simp append_assoc at p)
-
-  pub enum-printed : (s : Schema) (e : ℕ) {w : List ℕ} → w ≡ (item_at s e).name
-      → Printed o at o₁ r₁ (ascii "enum " ++ w ++ ascii " {\n" ++ each (λ v. value_text w (item_at s v)) (under a_value e s) ++ ascii "}\n\n") → Printed o at o₁ r₁ (enum_text s e)
-  unfolding enum_text
-  enum-printed s e ew p =
-      subst (λ (x : List ℕ). Printed o at o₁ r₁ (ascii "enum " ++ x ++ ascii " {\n" ++ each (λ v. value_text x (item_at s v)) (under a_value e s) ++ ascii "}\n\n")) ew p
+      standing-within (ascii "  ") (prefix_of name) (camel_to_screaming_snake it.name ++ (ascii " = " ++ (it.second ++ ascii ";\n"))) l e (printed-of (simp append_assoc at p))
 
 -- ---- lines
 
@@ -77,27 +69,27 @@ pub form-seen : (it : Item) {p : List ℕ} {n : ℕ} {e : List ℕ} → p ≡ it
 unfolding form_of
 form-seen it ep en ee = rw (ep, en, ee)
 
-module _ {o : List ℕ} {at : ℕ} {o' : List ℕ} {r : ℕ} where
+module _ {o o' : Output} where
   pub typed-printed : (it : Item) (ind name : List ℕ) (k : ℕ) {p : List ℕ} {n : ℕ} {e : List ℕ} (sh : Shape) → p ≡ it.second → n ≡ (form_of it).size → e ≡ it.encoding
-      → proto_in sh p e ≡ proto_of (form p n e) → Printed o at o' r (line ind (proto_in sh p e) name k) → Printed o at o' r (line ind (proto_of (form_of it)) name k)
+      → proto_in sh p e ≡ proto_of (form p n e) → Wrote o o' (line ind (proto_in sh p e) name k) → Wrote o o' (line ind (proto_of (form_of it)) name k)
   typed-printed it ind name k sh ep en ee h d = rw (← form-seen it ep en ee, ← h) d
 
   module _ (it : Item) (k : ℕ) {w : List ℕ} (ew : w ≡ it.name) where
-    pub member-printed : Printed o at o' r (line (ascii "  ") (proto_of (form_of it)) (camel_to_snake w) k) → Printed o at o' r (member_text k it)
+    pub member-printed : Wrote o o' (line (ascii "  ") (proto_of (form_of it)) (camel_to_snake w) k) → Wrote o o' (member_text k it)
     unfolding member_text
-    member-printed d = subst (λ (x : List ℕ). Printed o at o' r (line (ascii "  ") (proto_of (form_of it)) (camel_to_snake x) k)) ew d
+    member-printed d = subst (λ (x : List ℕ). Wrote o o' (line (ascii "  ") (proto_of (form_of it)) (camel_to_snake x) k)) ew d
 
-    pub ref-printed : {u : List ℕ} → u ≡ it.second → Printed o at o' r (line (ascii "  ") (proto_in shape.Plain u []) (camel_to_snake w) k) → Printed o at o' r (ref_text k it)
+    pub ref-printed : {u : List ℕ} → u ≡ it.second → Wrote o o' (line (ascii "  ") (proto_in shape.Plain u []) (camel_to_snake w) k) → Wrote o o' (ref_text k it)
     unfolding ref_text as_named
     ref-printed eu d = rw (← ew, ← eu) d
 
   pub undeclared-printed : (u ind name : List ℕ) (k : ℕ) (sh : Shape) → proto_in sh u [] ≡ proto_of (form u 0 [])
-      → Printed o at o' r (line ind (proto_in sh u []) name k) → Printed o at o' r (line ind (pick (among u built_ins) (proto_of (built_in u)) (as_named u)) name k)
+      → Wrote o o' (line ind (proto_in sh u []) name k) → Wrote o o' (line ind (pick (among u built_ins) (proto_of (built_in u)) (as_named u)) name k)
   undeclared-printed u ind name k sh h d = rw (← undeclared-shape u, ← h) d
 
   -- by what the type name is declared as
   module _ (s : Schema) (ind : List ℕ) (it : Item) {u w : List ℕ} {k : ℕ} (eu : u ≡ it.second) (ew : w ≡ it.name) (ek : k ≡ it.number) {d : Option Declaration} (ed : d ≡ declaration_of s it.second) where
-    by-declaration : {c : Option Declaration} → d ≡ c → Printed o at o' r (line ind (proto_by u (declared_so s u c)) (camel_to_snake w) k) → Printed o at o' r (field_text s ind it)
+    by-declaration : {c : Option Declaration} → d ≡ c → Wrote o o' (line ind (proto_by u (declared_so s u c)) (camel_to_snake w) k) → Wrote o o' (field_text s ind it)
     unfolding field_text
     by-declaration {c} f p =
         let e : line ind (proto_by u (declared_so s u c)) (camel_to_snake w) k ≡ line ind (proto_by it.second (meaning s it.second)) (camel_to_snake it.name) it.number =
@@ -105,46 +97,42 @@ module _ {o : List ℕ} {at : ℕ} {o' : List ℕ} {r : ℕ} where
         ∙ ap (λ (x : List ℕ). line ind (proto_by x (meaning s x)) (camel_to_snake w) k) eu
         ∙ ap (λ (x : List ℕ). line ind (proto_by it.second (meaning s it.second)) (camel_to_snake x) k) ew
         ∙ ap (λ (x : ℕ). line ind (proto_by it.second (meaning s it.second)) (camel_to_snake it.name) x) ek in
-        subst (λ (x : List ℕ). Printed o at o' r x) e p
+        subst (λ (x : List ℕ). Wrote o o' x) e p
 
-    pub field-declared : d ≡ Some Named → Printed o at o' r (line ind (proto_in shape.Plain u []) (camel_to_snake w) k) → Printed o at o' r (field_text s ind it)
+    pub field-declared : d ≡ Some Named → Wrote o o' (line ind (proto_in shape.Plain u []) (camel_to_snake w) k) → Wrote o o' (field_text s ind it)
     unfolding as_named
     field-declared f p = by-declaration f p
 
-    pub field-typed : {t : ℕ} → d ≡ Some (Typed t) → Printed o at o' r (line ind (proto_of (form_of (item_at s t))) (camel_to_snake w) k) → Printed o at o' r (field_text s ind it)
+    pub field-typed : {t : ℕ} → d ≡ Some (Typed t) → Wrote o o' (line ind (proto_of (form_of (item_at s t))) (camel_to_snake w) k) → Wrote o o' (field_text s ind it)
     field-typed f p = by-declaration f p
 
-    pub field-undeclared : d ≡ None → Printed o at o' r (line ind (pick (among u built_ins) (proto_of (built_in u)) (as_named u)) (camel_to_snake w) k) → Printed o at o' r (field_text s ind it)
+    pub field-undeclared : d ≡ None → Wrote o o' (line ind (pick (among u built_ins) (proto_of (built_in u)) (as_named u)) (camel_to_snake w) k) → Wrote o o' (field_text s ind it)
     field-undeclared f p = by-declaration f (go (among u built_ins) p)
       where
-        go : (b : Bool) → Printed o at o' r (line ind (pick b (proto_of (built_in u)) (as_named u)) (camel_to_snake w) k) → Printed o at o' r (line ind (proto_by u (pick b (typed (built_in u)) unknown)) (camel_to_snake w) k)
+        go : (b : Bool) → Wrote o o' (line ind (pick b (proto_of (built_in u)) (as_named u)) (camel_to_snake w) k) → Wrote o o' (line ind (proto_by u (pick b (typed (built_in u)) unknown)) (camel_to_snake w) k)
         go true q = q
         go false q = q
 
   -- by the number n that the index holds
   module _ (s : Schema) (ind : List ℕ) (it : Item) {w : List ℕ} {k n : ℕ} (ew : w ≡ it.name) (ek : k ≡ it.number) (en : n ≡ number_of (declaration_of s it.second)) where
-    pub field-number-typed : 1 < n → Printed o at o' r (line ind (proto_of (form_of (item_at s (n - 2)))) (camel_to_snake w) k) → Printed o at o' r (field_text s ind it)
+    pub field-number-typed : 1 < n → Wrote o o' (line ind (proto_of (form_of (item_at s (n - 2)))) (camel_to_snake w) k) → Wrote o o' (field_text s ind it)
     field-number-typed h p = field-typed s ind it refl ew ek refl (sym (declaration-typed (λ z. absurd (omega arith)) (λ z. absurd (omega arith)) (declaration_of s it.second) en)) p
 
     module _ {u : List ℕ} (eu : u ≡ it.second) where
-      pub field-number-named : n ≡ 1 → Printed o at o' r (line ind (proto_in shape.Plain u []) (camel_to_snake w) k) → Printed o at o' r (field_text s ind it)
+      pub field-number-named : n ≡ 1 → Wrote o o' (line ind (proto_in shape.Plain u []) (camel_to_snake w) k) → Wrote o o' (field_text s ind it)
       field-number-named f p = field-declared s ind it eu ew ek refl (sym (declaration-named f (declaration_of s it.second) en)) p
 
-      pub field-number-undeclared : n ≤ 1 → (n ≡ 1 → ⊥) → Printed o at o' r (line ind (pick (among u built_ins) (proto_of (built_in u)) (as_named u)) (camel_to_snake w) k) → Printed o at o' r (field_text s ind it)
+      pub field-number-undeclared : n ≤ 1 → (n ≡ 1 → ⊥) → Wrote o o' (line ind (pick (among u built_ins) (proto_of (built_in u)) (as_named u)) (camel_to_snake w) k) → Wrote o o' (field_text s ind it)
       field-number-undeclared l f p = field-undeclared s ind it eu ew ek refl (sym (declaration-none (omega arith) (declaration_of s it.second) en)) p
 
   -- ---- composites
 
-  pub parts-printed : (s : Schema) (c : ℕ) {k : ℕ} → Members s c k → {o'' : List ℕ} {r'' : ℕ} → Printed o at o' r (numbered (λ n i. member_text n (item_at s i)) 1 (under a_member c s))
-      → Printed o' r o'' r'' (numbered (λ n i. ref_text n (item_at s i)) (k + 1) (under a_ref c s)) → Printed o at o'' r'' (part_texts s c)
+  pub parts-printed : (s : Schema) (c : ℕ) {k : ℕ} → Members s c k → {o'' : Output} → Wrote o o' (numbered (λ n i. member_text n (item_at s i)) 1 (under a_member c s))
+      → Wrote o' o'' (numbered (λ n i. ref_text n (item_at s i)) (k + 1) (under a_ref c s)) → Wrote o o'' (part_texts s c)
   unfolding part_texts
   parts-printed s c {k} h p q =
       let z : k + 1 ≡ 1 + length (under a_member c s) = omega (arith, h.are) in
-      p ▸ (rw z at q)
-
-  pub composite-printed : (s : Schema) (c : ℕ) {w : List ℕ} → w ≡ (item_at s c).name → Printed o at o' r (ascii "message " ++ w ++ ascii " {\n" ++ part_texts s c ++ ascii "}\n\n") → Printed o at o' r (composite_text s c)
-  unfolding composite_text
-  composite-printed s c ew p = rw (← ew) p
+      p ▹ (rw z at q)
 
 module _ (it : Item) {w : List ℕ} (ew : w ≡ it.name) {a : Bool} (ea : a ≡ same w (ascii "messageHeader")) where
   pub printed-header : a ≡ true → false ≡ is_printed it
@@ -154,13 +142,6 @@ module _ (it : Item) {w : List ℕ} (ew : w ≡ it.name) {a : Bool} (ea : a ≡ 
   pub printed-other : a ≡ false → {b : Bool} → b ≡ same w (ascii "groupSizeEncoding") → not b ≡ is_printed it
   unfolding is_printed
   printed-other t eb = rw (← ew, ← ea, t, ← eb)
-
-module _ {o : List ℕ} {at : ℕ} {on b : Bool} (e : b ≡ on) (t : List ℕ) where
-  pub chosen : b ≡ true → {o' : List ℕ} {r : ℕ} → Printed o at o' r t → Printed o at o' r (pick on t [])
-  chosen v p = rw (← e, v) p
-
-  pub not_chosen : b ≡ false → Printed o at o at (pick on t [])
-  not_chosen v = rw (← e, v) blank
 
 -- the texts of those that are printed, among all composites
 chosen-each : (f : ℕ → List ℕ) (p q : Item → Bool) (xs : List Item) (k : ℕ) (ys : List Item) → ((j : ℕ) → get_or ys j no_item ≡ get_or xs (k + j) no_item)
@@ -183,30 +164,18 @@ chosen-each f p q xs k (y ∷ ys) h =
 add-zero-left : (xs : List Item) (j : ℕ) → get_or xs j no_item ≡ get_or xs (0 + j) no_item
 add-zero-left xs j = let z : 0 + j ≡ j = omega arith in rw z
 
-pub composites-printed : (f : ℕ → List ℕ) (s : Schema) {o : List ℕ} {at : ℕ} {o' : List ℕ} {r : ℕ}
-    → Printed o at o' r (each (λ c. pick (is_printed (item_at s c)) (f c) []) (all_of a_composite s)) → Printed o at o' r (each f (printed_composites s))
+pub composites-printed : (f : ℕ → List ℕ) (s : Schema) {o o' : Output}
+    → Wrote o o' (each (λ c. pick (is_printed (item_at s c)) (f c) []) (all_of a_composite s)) → Wrote o o' (each f (printed_composites s))
 unfolding all_of printed_composites
-composites-printed f s {o} {at} {o'} {r} d =
-    subst (λ (x : List ℕ). Printed o at o' r x) (chosen-each f (λ it. eqb it.kind a_composite) is_printed s.items 0 s.items (add-zero-left s.items)) d
+composites-printed f s {o} {o'} d =
+    subst (λ (x : List ℕ). Wrote o o' x) (chosen-each f (λ it. eqb it.kind a_composite) is_printed s.items 0 s.items (add-zero-left s.items)) d
 
 -- ---- messages
 
-module _ (s : Schema) (g : ℕ) {o : List ℕ} {at : ℕ} {o' : List ℕ} {r : ℕ} {w : List ℕ} (ew : w ≡ (item_at s g).name) where
-  pub group-head-printed : Printed o at o' r (ascii "  message " ++ singular_pascal w ++ ascii " {\n" ++ each (λ f. field_text s (ascii "    ") (item_at s f)) (under a_field g s)) → Printed o at o' r (group_head s g)
-  unfolding group_head
-  group-head-printed p =
-      subst (λ (x : List ℕ). Printed o at o' r (ascii "  message " ++ singular_pascal x ++ ascii " {\n" ++ each (λ f. field_text s (ascii "    ") (item_at s f)) (under a_field g s))) ew p
-
-  module _ {k : ℕ} (ek : k ≡ (item_at s g).number) where
-    pub group-printed : Printed o at o' r (group_head s g ++ ascii "  }\n  repeated " ++ singular_pascal w ++ ascii " " ++ camel_to_snake w ++ ascii " = " ++ decimal k ++ ascii ";\n") → Printed o at o' r (group_text s g)
-    unfolding group_text group_head
-    group-printed p =
-        subst (λ (n : ℕ). Printed o at o' r (group_head s g ++ ascii "  }\n  repeated " ++ singular_pascal (item_at s g).name ++ ascii " " ++ camel_to_snake (item_at s g).name ++ ascii " = " ++ decimal n ++ ascii ";\n")) ek
-        (subst (λ (x : List ℕ). Printed o at o' r (group_head s g ++ ascii "  }\n  repeated " ++ singular_pascal x ++ ascii " " ++ camel_to_snake x ++ ascii " = " ++ decimal k ++ ascii ";\n")) ew p)
-
-    pub message-printed : Printed o at o' r (ascii "message " ++ w ++ ascii " {\n  option (sbe.template_id) = " ++ decimal k ++ ascii ";\n" ++ each (λ f. field_text s (ascii "  ") (item_at s f)) (under a_field g s) ++ each (group_text s) (under a_group g s) ++ ascii "}\n\n")
-        → Printed o at o' r (message_text s g)
-    unfolding message_text
-    message-printed p =
-        subst (λ (n : ℕ). Printed o at o' r (ascii "message " ++ (item_at s g).name ++ ascii " {\n  option (sbe.template_id) = " ++ decimal n ++ ascii ";\n" ++ each (λ f. field_text s (ascii "  ") (item_at s f)) (under a_field g s) ++ each (group_text s) (under a_group g s) ++ ascii "}\n\n")) ek
-        (subst (λ (x : List ℕ). Printed o at o' r (ascii "message " ++ x ++ ascii " {\n  option (sbe.template_id) = " ++ decimal k ++ ascii ";\n" ++ each (λ f. field_text s (ascii "  ") (item_at s f)) (under a_field g s) ++ each (group_text s) (under a_group g s) ++ ascii "}\n\n")) ew p)
+module _ (s : Schema) (g : ℕ) {o o' : Output} {w : List ℕ} (ew : w ≡ (item_at s g).name) {k : ℕ} (ek : k ≡ (item_at s g).number) where
+  pub message-printed : Wrote o o' (ascii "message " ++ w ++ ascii " {\n  option (sbe.template_id) = " ++ decimal k ++ ascii ";\n" ++ each (λ f. field_text s (ascii "  ") (item_at s f)) (under a_field g s) ++ each (group_text s) (under a_group g s) ++ ascii "}\n\n")
+      → Wrote o o' (message_text s g)
+  unfolding message_text
+  message-printed p =
+      subst (λ (n : ℕ). Wrote o o' (ascii "message " ++ (item_at s g).name ++ ascii " {\n  option (sbe.template_id) = " ++ decimal n ++ ascii ";\n" ++ each (λ f. field_text s (ascii "  ") (item_at s f)) (under a_field g s) ++ each (group_text s) (under a_group g s) ++ ascii "}\n\n")) ek
+      (subst (λ (x : List ℕ). Wrote o o' (ascii "message " ++ x ++ ascii " {\n  option (sbe.template_id) = " ++ decimal k ++ ascii ";\n" ++ each (λ f. field_text s (ascii "  ") (item_at s f)) (under a_field g s) ++ each (group_text s) (under a_group g s) ++ ascii "}\n\n")) ew p)

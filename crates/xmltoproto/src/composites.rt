@@ -1,47 +1,46 @@
 // Composites, printed: members, then refs, numbered from 1.
+#![tactic(auto, using(printing::proofs::Writing::writing))]
+
 ghost use Rattle.std.specs.Prelude.{◌≡◌, [], ◌+◌};
 ghost use Rattle.texts.specs.Choice.{pick};
 ghost use Rattle.texts.specs.Lists.{each, numbered};
-ghost use Rattle.classes.specs.Table.{IsTable};
-ghost use Rattle.printing.specs.Printed.{Printed};
+ghost use Rattle.printing.specs.Written.{Wrote};
 ghost use Rattle.model.specs.Schema.{item_at, under, a_member, a_ref};
 ghost use Rattle.xmltoproto.specs.Composites.{is_printed, printed_composites};
 ghost use Rattle.xmltoproto.specs.Source.{member_text, ref_text, part_texts, composite_text};
 ghost use Rattle.xmltoproto.specs.Parts.{Members};
 
-use crate::line::put_line;
-use crate::typed::put_typed;
+use crate::line::write_line;
+use crate::typed::write_typed;
 use crate::types::Shape;
+use classes::Classes;
 use index::seen::Index;
 use model::view::View;
 use model::{COMPOSITE, MEMBER, REF};
-use printing::put_bytes;
+use printing::Output;
 use texts::equal;
 
-fn put_member(out: &mut [u8], at: usize, t: &[u8; 256], s: &Index<'_>, i: u32, number: u32) -> usize
-    requires { IsTable t.now }
-    ensures { Printed out.old at out.new result (member_text number (item_at s.now i)) }
+fn write_member(out: &mut Output<'_>, classes: &Classes, s: &Index<'_>, i: u32, number: u32)
+    ensures { Wrote out.old out.new (member_text number (item_at s.now i)) }
 {
-    put_typed(out, at, t, s, false, i, s.name(i), number)
+    write_typed(out, classes, s, false, i, s.name(i), number);
 }
 
-fn put_ref(out: &mut [u8], at: usize, t: &[u8; 256], s: &Index<'_>, i: u32, number: u32) -> usize
-    requires { IsTable t.now }
-    ensures { Printed out.old at out.new result (ref_text number (item_at s.now i)) }
+fn write_ref(out: &mut Output<'_>, classes: &Classes, s: &Index<'_>, i: u32, number: u32)
+    ensures { Wrote out.old out.new (ref_text number (item_at s.now i)) }
 {
     let type_name = s.second(i);
     let name = s.name(i);
-    put_line(
+    write_line(
         out,
-        at,
-        t,
+        classes,
         false,
         Shape::Plain,
         type_name,
         b"",
         name,
         number,
-    )
+    );
 }
 
 // How many members a composite has.
@@ -55,51 +54,45 @@ fn members_in(s: &Index<'_>, c: u32) -> u32
     k
 }
 
-fn put_members(out: &mut [u8], at: usize, t: &[u8; 256], s: &Index<'_>, c: u32) -> usize
-    requires { IsTable t.now }
-    ensures { Printed out.old at out.new result (numbered (λ n i. member_text n (item_at s.now i)) 1 (under a_member c s.now)) }
+fn write_members(out: &mut Output<'_>, classes: &Classes, s: &Index<'_>, c: u32)
+    ensures { Wrote out.old out.new (numbered (λ n i. member_text n (item_at s.now i)) 1 (under a_member c s.now)) }
 {
-    let mut p = at;
     let mut k = 0;
     for i in s.children(MEMBER, c) {
         k += 1;
-        p = put_member(out, p, t, s, i, k);
+        write_member(out, classes, s, i, k);
     }
-    p
 }
 
 // The refs, numbered on from the composite's `members`.
-fn put_refs(out: &mut [u8], at: usize, t: &[u8; 256], s: &Index<'_>, c: u32, members: u32) -> usize
-    requires { IsTable t.now × Members s.now c members }
-    ensures { Printed out.old at out.new result (numbered (λ n i. ref_text n (item_at s.now i)) (members + 1) (under a_ref c s.now)) }
+fn write_refs(out: &mut Output<'_>, classes: &Classes, s: &Index<'_>, c: u32, members: u32)
+    requires { Members s.now c members }
+    ensures { Wrote out.old out.new (numbered (λ n i. ref_text n (item_at s.now i)) (members + 1) (under a_ref c s.now)) }
 {
-    let mut p = at;
     let mut k = members;
     for i in s.children(REF, c) {
         k += 1;
-        p = put_ref(out, p, t, s, i, k);
+        write_ref(out, classes, s, i, k);
     }
-    p
 }
 
-fn put_parts(out: &mut [u8], at: usize, t: &[u8; 256], s: &Index<'_>, c: u32) -> usize
-    requires { IsTable t.now }
-    ensures { Printed out.old at out.new result (part_texts s.now c) }
+fn write_parts(out: &mut Output<'_>, classes: &Classes, s: &Index<'_>, c: u32)
+    ensures { Wrote out.old out.new (part_texts s.now c) }
 {
     let members = members_in(s, c);
-    let p = put_members(out, at, t, s, c);
-    put_refs(out, p, t, s, c, members)
+    write_members(out, classes, s, c);
+    write_refs(out, classes, s, c, members);
 }
 
-fn put_composite(out: &mut [u8], at: usize, t: &[u8; 256], s: &Index<'_>, c: u32) -> usize
-    requires { IsTable t.now }
-    ensures { Printed out.old at out.new result (composite_text s.now c) }
+#[tactic(auto, unfolding(crate::specs::Source::composite_text), using(printing::proofs::Writing::writing))]
+fn write_composite(out: &mut Output<'_>, classes: &Classes, s: &Index<'_>, c: u32)
+    ensures { Wrote out.old out.new (composite_text s.now c) }
 {
-    let p = put_bytes(out, at, b"message ");
-    let p = put_bytes(out, p, s.name(c));
-    let p = put_bytes(out, p, b" {\n");
-    let p = put_parts(out, p, t, s, c);
-    put_bytes(out, p, b"}\n\n")
+    out.text(b"message ");
+    out.text(s.name(c));
+    out.text(b" {\n");
+    write_parts(out, classes, s, c);
+    out.text(b"}\n\n");
 }
 
 // All composites are printed but messageHeader and groupSizeEncoding.
@@ -113,29 +106,18 @@ pub fn is_printed(v: &View<'_>, c: u32) -> bool
     !equal(name, b"groupSizeEncoding")
 }
 
-fn put_composite_if_printed(
-    out: &mut [u8],
-    at: usize,
-    t: &[u8; 256],
-    s: &Index<'_>,
-    c: u32,
-) -> usize
-    requires { IsTable t.now }
-    ensures { Printed out.old at out.new result (pick (is_printed (item_at s.now c)) (composite_text s.now c) []) }
+fn write_composite_if_printed(out: &mut Output<'_>, classes: &Classes, s: &Index<'_>, c: u32)
+    ensures { Wrote out.old out.new (pick (is_printed (item_at s.now c)) (composite_text s.now c) []) }
 {
     if is_printed(s.view(), c) {
-        return put_composite(out, at, t, s, c);
+        write_composite(out, classes, s, c);
     }
-    at
 }
 
-pub fn put_composites(out: &mut [u8], at: usize, t: &[u8; 256], s: &Index<'_>) -> usize
-    requires { IsTable t.now }
-    ensures { Printed out.old at out.new result (each (composite_text s.now) (printed_composites s.now)) }
+pub fn write_composites(out: &mut Output<'_>, classes: &Classes, s: &Index<'_>)
+    ensures { Wrote out.old out.new (each (composite_text s.now) (printed_composites s.now)) }
 {
-    let mut p = at;
     for i in s.all_of(COMPOSITE) {
-        p = put_composite_if_printed(out, p, t, s, i);
+        write_composite_if_printed(out, classes, s, i);
     }
-    p
 }

@@ -18,7 +18,7 @@ mod typed;
 pub mod types;
 
 ghost use Rattle.std.specs.Prelude.{◌≡◌, ◌≤◌, leb, length, replicate};
-ghost use Rattle.printing.specs.Printed.{past};
+ghost use Rattle.printing.specs.Printed.{Printed, past};
 ghost use Rattle.index.specs.Index.{Blank};
 ghost use Rattle.xmltoproto.specs.Source.{source};
 ghost use Rattle.xmltoproto.specs.Generate.{Generated};
@@ -26,12 +26,23 @@ ghost use Rattle.xmltoproto.specs.Convert.{Converts};
 
 use crate::arrays::array_refusal;
 use crate::bound::source_most;
-use crate::source::put_source;
+use crate::source::write_source;
 use index::seen::Index;
 use index::{FEW, FEW_SIZE, LEAST, LEAST_SIZE, MOST, SIZE, SOME, SOME_SIZE};
 use model::view::View;
+use printing::Output;
 use refusals::Refusal;
 use xmlschema::build::read_schema;
+
+// Prints the source from the first byte of `out` on, and gives the next position.
+#[tactic(auto, unfolding(printing::specs::Written::written))]
+fn print_source(s: &Index<'_>, out: &mut [u8]) -> usize
+    ensures { Printed out.old 0 out.new result (source s.now) }
+{
+    let mut o = Output::new(out);
+    write_source(&mut o, s);
+    o.at
+}
 
 // Whether the source fits into `room` bytes: by its bound where that is enough, else it is measured.
 fn has_room(s: &Index<'_>, room: usize) -> bool
@@ -43,7 +54,7 @@ fn has_room(s: &Index<'_>, room: usize) -> bool
         }
     }
     let mut none = [0u8; 0];
-    put_source(&mut none, 0, s) <= room
+    print_source(s, &mut none) <= room
 }
 
 // The array refusals, then the source, where it fits.
@@ -52,8 +63,7 @@ fn generate_in(s: &Index<'_>, out: &mut [u8]) -> Result<usize, Refusal>
 {
     array_refusal(s)?;
     if has_room(s, out.len()) {
-        let written = put_source(out, 0, s);
-        return Ok(written);
+        return Ok(print_source(s, out));
     }
     Err(Refusal::NoRoom)
 }

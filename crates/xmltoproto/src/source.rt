@@ -1,50 +1,49 @@
 // The printed source: header, enums, composites, messages.
 //
-// Each function prints from a position on (crate `printing`) and promises the text that
+// Each function writes to an output (crate `printing`) and promises the text that
 // specs/Source.antt gives. A loop over items goes by the model's searches, from one item to the next.
-ghost use Rattle.printing.specs.Printed.{Printed};
+#![tactic(auto, using(printing::proofs::Writing::writing))]
+
+ghost use Rattle.printing.specs.Written.{Wrote};
 ghost use Rattle.xmltoproto.specs.Source.{package_line, header, source};
 
-use crate::composites::put_composites;
-use crate::enums::put_enums;
-use crate::messages::put_messages;
-use classes::table;
+use crate::composites::write_composites;
+use crate::enums::write_enums;
+use crate::messages::write_messages;
+use classes::Classes;
 use index::seen::Index;
-use printing::{put_bytes, put_decimal};
+use printing::Output;
 
-fn put_package(out: &mut [u8], at: usize, name: &[u8]) -> usize
-    ensures { Printed out.old at out.new result (package_line name.now) }
+fn write_package(out: &mut Output<'_>, name: &[u8])
+    ensures { Wrote out.old out.new (package_line name.now) }
 {
     if name.len() == 0 {
-        return at;
+        return;
     }
-    let p = put_bytes(out, at, b"package ");
-    let p = put_bytes(out, p, name);
-    put_bytes(out, p, b";\n\n")
+    out.text(b"package ");
+    out.text(name);
+    out.text(b";\n\n");
 }
 
-fn put_header(out: &mut [u8], at: usize, s: &Index<'_>) -> usize
-    ensures { Printed out.old at out.new result (header s.now) }
+fn write_header(out: &mut Output<'_>, s: &Index<'_>)
+    ensures { Wrote out.old out.new (header s.now) }
 {
-    let p = put_bytes(out, at, b"syntax = \"proto3\";\n\n");
-    let p = put_package(out, p, s.package());
-    let p = put_bytes(
-        out,
-        p,
-        b"import \"sbe/annotations.proto\";\n\noption (sbe.schema_id) = ",
-    );
-    let p = put_decimal(out, p, s.id());
-    let p = put_bytes(out, p, b";\noption (sbe.version) = ");
-    let p = put_decimal(out, p, s.version());
-    put_bytes(out, p, b";\n\n")
+    out.text(b"syntax = \"proto3\";\n\n");
+    write_package(out, s.package());
+    out.text(b"import \"sbe/annotations.proto\";\n\noption (sbe.schema_id) = ");
+    out.decimal(s.id());
+    out.text(b";\noption (sbe.version) = ");
+    out.decimal(s.version());
+    out.text(b";\n\n");
 }
 
-pub fn put_source(out: &mut [u8], at: usize, s: &Index<'_>) -> usize
-    ensures { Printed out.old at out.new result (source s.now) }
+#[tactic(auto, unfolding(crate::specs::Source::source), using(printing::proofs::Writing::writing))]
+pub fn write_source(out: &mut Output<'_>, s: &Index<'_>)
+    ensures { Wrote out.old out.new (source s.now) }
 {
-    let t = table();
-    let p = put_header(out, at, s);
-    let p = put_enums(out, p, &t, s);
-    let p = put_composites(out, p, &t, s);
-    put_messages(out, p, &t, s)
+    let classes = Classes::new();
+    write_header(out, s);
+    write_enums(out, &classes, s);
+    write_composites(out, &classes, s);
+    write_messages(out, &classes, s);
 }

@@ -6,7 +6,7 @@ pub returns-in_err-array_refusal : goal.returns-in_err-array_refusal
 returns-in_err-array_refusal c = generated-refused _ _ c.in_err-array_refusal.ensures c.from_residual.ensures.1
 
 pub returns-then-has_room : goal.returns-then-has_room
-returns-then-has_room c = generated-wrote _ _ c.in_ok-array_refusal.ensures c.has_room.ensures c.if-has_room.true (omega arith) c.put_source-written.ensures
+returns-then-has_room c = generated-wrote _ _ c.in_ok-array_refusal.ensures c.has_room.ensures c.if-has_room.true (omega arith) c.print_source.ensures
 
 pub returns : goal.returns
 returns c = generated-no-room _ _ c.in_ok-array_refusal.ensures c.has_room.ensures c.if-has_room.false

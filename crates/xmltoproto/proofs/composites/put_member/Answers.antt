@@ -1,5 +1,0 @@
-use Rattle.xmltoproto.proofs.Laws.{lines as laws}
-use Rattle.xmltoproto.proofs.composites.put_member.Goals as goal
-
-pub returns : goal.returns
-returns c = search laws

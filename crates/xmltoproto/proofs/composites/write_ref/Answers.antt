@@ -1,0 +1,5 @@
+use Rattle.xmltoproto.proofs.Laws.{lines as laws}
+use Rattle.xmltoproto.proofs.composites.write_ref.Goals as goal
+
+pub returns : goal.returns
+returns c = search laws

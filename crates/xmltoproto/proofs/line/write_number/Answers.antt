@@ -1,0 +1,5 @@
+use Rattle.xmltoproto.proofs.Digits.{digits}
+use Rattle.xmltoproto.proofs.line.write_number.Goals as goal
+
+pub returns-then-n-lt1000 : goal.returns-then-n-lt1000
+returns-then-n-lt1000 c = search digits

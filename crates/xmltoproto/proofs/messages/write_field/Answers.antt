@@ -1,0 +1,11 @@
+use Rattle.xmltoproto.proofs.Laws.{lines as laws}
+use Rattle.xmltoproto.proofs.messages.write_field.Goals as goal
+
+pub returns-then-known-gt1 : goal.returns-then-known-gt1
+returns-then-known-gt1 c = search laws
+
+pub returns-then-known-eq1 : goal.returns-then-known-eq1
+returns-then-known-eq1 c = search laws
+
+pub returns-then-count-le-MOST : goal.returns-then-count-le-MOST
+returns-then-count-le-MOST c = search laws
