@@ -1,164 +1,190 @@
--- Laws of adding an item, and of what a step may go on with.
-use Rattle.std.specs.Prelude.{Some}
+-- Laws of numbers read and of items added.
+use Rattle.std.specs.Prelude.{Option, Some, None, Result, Ok, Err, IfOk}
 use mathlib.Core.Path.{◌≡◌, refl, sym, ap, ◌∙◌}
 use mathlib.Core.List.{List, [], ◌∷◌, ◌++◌}
 use Prim.Native.Nat.{ℕ, ◌+◌, ◌*◌, ◌-◌, ◌≤◌, ◌<◌}
-use native.Mathlib.Numerals.{add-one}
 use native.Mathlib.Omega.{arith}
-use lib.ListN.{length}
+use lib.ListN.{length, get_or-eq_default}
 use lib.Seq.{sets, length-sets}
 use borrow.Author.Tests.{le-leb, lt-leb}
 use Rattle.texts.specs.Text.{piece}
+use Rattle.texts.specs.declared.Range.{Range}
 use Rattle.refusals.specs.declared.Refusal.{Refusal}
 use Rattle.refusals.specs.declared.Refusal.TheVariants.{TooManyItems}
-use Rattle.model.specs.Schema.{Item, Schema}
-use Rattle.builder.specs.Builder.{Builder, Outcome, on, refused, added, and_then, with_items}
-use Rattle.model.specs.Store.{words_of, item_of, items_of, schema_of}
-use Rattle.builder.specs.Layout.{current, model_in, builder_of, stack_of, Alike, Kept, Ready, Steady, After, Added, outcome, used_by}
-use Rattle.builder.specs.Taking.{Made}
+use Rattle.tags.specs.Attributes.{raw_length}
+use Rattle.model.specs.Schema.{Item, Schema, item_at, no_item}
+use Rattle.builder.specs.Builder.{Outcome, on, refused, added, with_items}
+use Rattle.model.specs.Store.{entry_at, words_of, item_of, items_of, schema_of}
+use Rattle.builder.specs.Layout.{model_in, builder_in, stack_of, over, texted, first, Alike, Kept, Ready, Steady, Same, After, used_by}
+use Rattle.builder.specs.Taking.{Made, ReadAt, Numbered, numbered}
 use Rattle.model.specs.declared.Entry.{Entry}
-use Rattle.builder.specs.declared.state.Limits.{Limits}
 use Rattle.builder.specs.declared.state.State.{State}
-use Rattle.builder.specs.declared.state.Stepped.{Stepped}
-use Rattle.builder.specs.declared.state.Verdict.{Verdict}
-use Rattle.builder.specs.declared.state.Verdict.TheVariants.{Fine, Refused}
-use Rattle.model.proofs.Records.{items-put, length-items}
+use Rattle.builder.specs.declared.work.Work.{Work}
+use Rattle.model.proofs.Records.{items-put, length-items, get_or-items}
 use Rattle.builder.proofs.Stacking.{stack-put}
 use Rattle.builder.proofs.Alikes.{alike_self, alike-wider, builder-alike, kept-alike}
 
-never : {q : Refusal} → Refused q ≡ Fine → ⊥
-never e = let z : ◌≡◌ {A = ℕ} 0 1 = cc in omega arith
+pub same_self : {w : Work} → Same w w
+same_self = record { limits = refl; doc = refl; records = refl; text = refl }
 
--- ---- a refusal, and a state that stays
+pub same-trans : {u v w : Work} → Same u v → Same v w → Same u w
+same-trans p q = record { limits = q.limits ∙ p.limits; doc = q.doc ∙ p.doc; records = q.records ∙ p.records; text = q.text ∙ p.text }
 
-pub after-refused : {o : Outcome} (s : State) (n : ℕ) (doc rec text : List ℕ) {a : Stepped} (q : Refusal) → a ≡ record { state = s; verdict = Refused q } → refused q ≡ o → After o s n doc a rec text
-after-refused s n doc rec text q e f = rw e (record { is = f; kept = λ v. absurd (never v); used = λ v. absurd (never v) })
+-- ---- what a step says
 
-pub after_same : {o : Outcome} (s : State) (n : ℕ) (doc rec text : List ℕ) {a : Stepped} → a ≡ record { state = s; verdict = Fine } → on (builder_of s doc rec text) ≡ o → Kept s rec text → After o s n doc a rec text
-after_same s n doc rec text e f k = rw e (record { is = f; kept = λ v. k; used = λ v. omega arith })
+if-ok : {P Q : State → Type 0} (r : Result State Refusal) → ((s : State) → P s → Q s) → IfOk r P → IfOk r Q
+if-ok (Ok s) f p = f s p
+if-ok (Err e) f p = p
 
--- what a step says of another form of the same outcome, of more space, or of the same state
-pub after-as : {o p : Outcome} {s : State} {n : ℕ} {doc rec text : List ℕ} {r : Stepped} → o ≡ p → After o s n doc r rec text → After p s n doc r rec text
-after-as e a = rw e at a
+-- a refusal, and a state that stays
+pub after-refused : {o : Outcome} {w : Work} {s : State} {n : ℕ} {q : Refusal} → refused q ≡ o → After o w s n w (Err q)
+after-refused f = record { is = f; kept = tt; used = tt; same = same_self }
 
-after_more : {o : Outcome} {s : State} {n : ℕ} (m : ℕ) {doc rec text : List ℕ} {r : Stepped} → n ≤ m → After o s n doc r rec text → After o s m doc r rec text
-after_more m h a = record { is = a.is; kept = a.kept; used = λ v. omega (arith, a.used v) }
+pub after_same : {o : Outcome} {w : Work} {s : State} {n : ℕ} → on (builder_in w s) ≡ o → Kept w s → After o w s n w (Ok s)
+after_same f k = record { is = f; kept = k; used = omega arith; same = same_self }
+
+-- of another form of the same outcome, of a state that uses as much text, and of more space
+pub after-as : {o p : Outcome} {w : Work} (s : State) {t : State} {n m : ℕ} {w' : Work} {r : Result State Refusal} → o ≡ p → used_by t ≡ used_by s → n ≤ m → After o w t n w' r → After p w s m w' r
+after-as s {r = r} e u h a =
+    record {
+      is = a.is ∙ e;
+      kept = a.kept;
+      used = if-ok r (λ x y. omega (arith, y)) a.used;
+      same = a.same;
+    }
+
+-- where what was lent had been written to before
+pub after-then : {o : Outcome} {u w : Work} {s : State} {n : ℕ} {w' : Work} {r : Result State Refusal} → Same u w → After o w s n w' r → After o u s n w' r
+after-then p a = record { is = a.is; kept = a.kept; used = a.used; same = same-trans p a.same }
+
+-- ---- the first state
+
+pub first_kept : {w : Work} → w.limits.items ≤ 1024 → w.limits.depth ≤ 64 → length w.doc.now ≤ 32768 → 16384 ≤ length w.records.now → 65536 ≤ length w.text.now → Kept w first
+unfolding schema_of items_of
+first_kept i d h k t =
+    record {
+      deep = omega arith;
+      many = omega arith;
+      begun = omega arith;
+      apart = omega arith;
+      top = omega arith;
+      records = k;
+      bytes = t;
+      document = h;
+      items = i;
+      depth = d;
+      stable = λ x a. refl;
+    }
+
+-- n bytes of text are free where so many are not in use
+pub ready-used : {w : Work} {s : State} {n : ℕ} → Kept w s → used_by s + n ≤ 65536 → Ready w s n
+ready-used k h = record { kept = k; room = omega (arith, k.top, h) }
+
+-- ---- a number
+
+module _ {place n : ℕ} {found : Option Range} {w : Work} {s : State} {x : Option ℕ} {t : List ℕ} (q : Ready w s n) (h : raw_length found ≤ n) (p : ReadAt found w.doc.now s.place.low w.text.now x t) where
+  read : {r : Result ℕ Refusal} → r ≡ numbered place x → Numbered place n found w s (texted w t) r
+  read e =
+      let a : Alike s.place.low s.place.high w.text.now t = p.scratch.alike s.place.high (omega (arith, q.room)) in
+      record {
+        is = e ∙ ap (numbered place) p.is;
+        ready = record { kept = kept-alike w s t q.kept a p.scratch.long; room = q.room };
+        builder = builder-alike w s t q.kept a;
+        same = record { limits = refl; doc = refl; records = refl; text = refl };
+      }
+
+  pub number-some : {v : ℕ} → x ≡ Some v → Numbered place n found w s (texted w t) (Ok v)
+  number-some e = read (sym (ap (numbered place) e))
+
+  pub number-none : x ≡ None → Numbered place n found w s (texted w t) (numbered place None)
+  number-none e = read (sym (ap (numbered place) e))
 
 -- ---- an item added
 
-counted-items : (s : State) (rec text : List ℕ) → length (schema_of (model_in s) rec text).items ≡ s.place.count
+pub counted-items : (w : Work) (s : State) → length (builder_in w s).schema.items ≡ s.place.count
 unfolding schema_of
-counted-items s rec text = length-items s.place.count rec text
+counted-items w s = length-items s.place.count w.records.now w.text.now
 
-module _ (s : State) (l : Limits) (place : ℕ) (e : Entry) (doc rec text : List ℕ) (k : Kept s rec text) (st : Steady s.place.low e.encoding text e) (h : s.place.low ≤ e.encoding) (g : e.encoding ≤ s.place.high) where
-  pub add-full : l.items ≤ s.place.count → {a : Stepped} → a ≡ record { state = s; verdict = Refused (TooManyItems place) } → Added l place (item_of text e) s (s.place.high - e.encoding) doc rec text a rec text
-  unfolding added schema_of
-  add-full c ea =
-      record {
-        after = after-refused s _ doc rec text (TooManyItems place) ea (rw (length-items s.place.count rec text, le-leb l.items s.place.count c));
-        counted = λ v. absurd (never (sym (ap (λ (x : Stepped). x.verdict) ea) ∙ v));
-      }
+module _ (w : Work) (s : State) (place : ℕ) (e : Entry) (k : Kept w s) where
+  pub put-full : w.limits.items ≤ s.place.count → (it : Item) → refused (TooManyItems place) ≡ added w.limits place it (builder_in w s)
+  unfolding added
+  put-full c it = rw (counted-items w s, le-leb w.limits.items s.place.count c)
 
-  module _ (c : s.place.count < l.items) (m : l.items ≤ 1024) where
+  module _ (st : Steady s.place.low e.encoding w.text.now e) (h : s.place.low ≤ e.encoding) (g : e.encoding ≤ s.place.high) (c : s.place.count < w.limits.items) where
     abbrev after : State
     after = record { place = record { depth = s.place.depth; count = s.place.count + 1; low = s.place.low; high = e.encoding; start = s.place.start }; current = s.current; head = s.head }
 
     abbrev rec' : List ℕ
-    rec' = sets rec (15 * s.place.count) (words_of e)
+    rec' = sets w.records.now (15 * s.place.count) (words_of e)
 
     -- the schema with the item, in every text that is alike
-    schema-now : (t : List ℕ) → Alike s.place.low e.encoding text t → schema_of (model_in after) rec' t ≡ with_items ((schema_of (model_in s) rec text).items ++ (item_of text e ∷ [])) (schema_of (model_in s) rec text)
+    schema-now : (t : List ℕ) → Alike s.place.low e.encoding w.text.now t → schema_of (model_in after) rec' t ≡ with_items ((builder_in w s).schema.items ++ (item_of w.text.now e ∷ [])) (builder_in w s).schema
     unfolding schema_of
     schema-now t a =
-        let w = k.stable t (alike-wider text t s.place.low e.encoding s.place.high g a) in
-        let pk : piece t s.head.name s.head.len ≡ piece text s.head.name s.head.len = ap (λ (x : Schema). x.package_name) w in
-        let it : items_of s.place.count rec t ≡ items_of s.place.count rec text = ap (λ (x : Schema). x.items) w in
-        rw (items-put s.place.count rec t e (omega (arith, k.records)), it, pk, st.item t a)
+        let v = k.stable t (alike-wider w.text.now t s.place.low e.encoding s.place.high g a) in
+        let m = k.items in
+        let pk : piece t s.head.name s.head.len ≡ piece w.text.now s.head.name s.head.len = ap (λ (x : Schema). x.package_name) v in
+        let it : items_of s.place.count w.records.now t ≡ items_of s.place.count w.records.now w.text.now = ap (λ (x : Schema). x.items) v in
+        rw (items-put s.place.count w.records.now t e (omega (arith, k.records)), it, pk, st.item t a)
 
-    added-fine : Added l place (item_of text e) s (s.place.high - e.encoding) doc rec text (record { state = after; verdict = Fine }) rec' text
+    pub put-fine : After (added w.limits place (item_of w.text.now e) (builder_in w s)) w s (s.place.high - e.encoding) (over w rec') (Ok after)
     unfolding added
-    added-fine =
-        let sk : stack_of s.place.depth rec' doc ≡ stack_of s.place.depth rec doc = stack-put s.place.depth s.place.count rec doc e (omega arith) in
-        let n : length (schema_of (model_in s) rec text).items ≡ s.place.count = counted-items s rec text in
+    put-fine =
+        let m = k.items in
+        let sk : stack_of s.place.depth rec' w.doc.now ≡ stack_of s.place.depth w.records.now w.doc.now = stack-put s.place.depth s.place.count w.records.now w.doc.now e (omega arith) in
+        let n : length (builder_in w s).schema.items ≡ s.place.count = counted-items w s in
         record {
-          after =
+          is = rw (n, lt-leb w.limits.items s.place.count c, schema-now w.text.now alike_self, sk);
+          kept =
               record {
-                is = rw (n, lt-leb l.items s.place.count c, schema-now text alike_self, sk);
-                kept = λ v.
-                    record {
-                      deep = k.deep;
-                      many = omega arith;
-                      begun = k.begun;
-                      apart = h;
-                      top = omega (arith, k.top);
-                      records = rw (length-sets rec (15 * s.place.count) (words_of e)) k.records;
-                      bytes = k.bytes;
-                      stable = λ t a. schema-now t a ∙ sym (schema-now text alike_self);
-                    };
-                used = λ v. omega (arith, k.top);
+                deep = k.deep;
+                many = omega arith;
+                begun = k.begun;
+                apart = h;
+                top = omega (arith, k.top);
+                records = rw (length-sets w.records.now (15 * s.place.count) (words_of e)) k.records;
+                bytes = k.bytes;
+                document = k.document;
+                items = k.items;
+                depth = k.depth;
+                stable = λ t a. schema-now t a ∙ sym (schema-now w.text.now alike_self);
               };
-          counted = λ v. refl;
+          used = omega (arith, k.top);
+          same = record { limits = refl; doc = refl; records = refl; text = refl };
         }
 
-    pub add-fine : {rec'' : List ℕ} → rec'' ≡ rec' → Added l place (item_of text e) s (s.place.high - e.encoding) doc rec text (record { state = after; verdict = Fine }) rec'' text
-    add-fine er = rw er added-fine
-
 -- an item whose texts were taken on the way
-module _ (s : State) (l : Limits) (place n : ℕ) (it : Item) (doc rec text : List ℕ) (r : Ready s n rec text) {e : Entry} {t : List ℕ} (p : Made it n s.place.high text e t) where
-  below : s.place.low ≤ e.encoding
-  below = omega (arith, p.start, r.room)
+module _ {w : Work} {s : State} {n m : ℕ} {it : Item} {e : Entry} {t : List ℕ} (r : Ready w s n) (h : m ≤ n) (p : Made it m s.place.high w.text.now e t) where
+  pub made-low : s.place.low ≤ e.encoding
+  made-low = omega (arith, p.start, r.room)
 
-  made_alike : Alike s.place.low s.place.high text t
-  made_alike = p.alike s.place.low below
+  made_alike : Alike s.place.low s.place.high w.text.now t
+  made_alike = p.alike s.place.low made-low
 
-  pub made_kept : Kept s rec t
-  made_kept = kept-alike s doc rec text t r.kept made_alike p.long
+  pub made-kept : Kept (texted w t) s
+  made-kept = kept-alike w s t r.kept made_alike p.long
 
   pub made-steady : Steady s.place.low e.encoding t e
   made-steady = p.steady s.place.low
 
-  pub made-added : {a : Stepped} {rec' : List ℕ} → Added l place (item_of t e) s (s.place.high - e.encoding) doc rec t a rec' t → Added l place it s n doc rec text a rec' t
-  made-added q =
-      let b : builder_of s doc rec t ≡ builder_of s doc rec text = builder-alike s doc rec text t r.kept made_alike in
-      record {
-        after = rw (← b, ← p.is) (after_more n (omega (arith, p.start)) q.after);
-        counted = q.counted;
-      }
-
-  pub made-low : s.place.low ≤ e.encoding
-  made-low = below
-
   pub made-high : e.encoding ≤ s.place.high
   made-high = omega (arith, p.start)
 
--- ---- and then
+  pub made-added : (place : ℕ) {w' : Work} {a : Result State Refusal} → After (added w.limits place (item_of t e) (builder_in (texted w t) s)) (texted w t) s (s.place.high - e.encoding) w' a → After (added w.limits place it (builder_in w s)) w s n w' a
+  made-added place q =
+      let b : builder_in (texted w t) s ≡ builder_in w s = builder-alike w s t r.kept made_alike in
+      after-then (record { limits = refl; doc = refl; records = refl; text = refl })
+      (after-as s (ap (λ x. added w.limits place x (builder_in (texted w t) s)) p.is ∙ ap (added w.limits place it) b) refl (omega (arith, p.start)) q)
 
-and-outcome : (f : Builder → Builder) (v : Verdict) (b : Builder) → and_then f (outcome v b) ≡ outcome v (f b)
-and-outcome f Fine b = refl
-and-outcome f (Refused q) b = refl
+-- ---- the owner of an item
 
-outcome-fine : (v : Verdict) (b c : Builder) → (v ≡ Fine → b ≡ c) → outcome v b ≡ outcome v c
-outcome-fine Fine b c e = rw (e refl)
-outcome-fine (Refused q) b c e = refl
+module _ (w : Work) (s : State) (i : ℕ) where
+  pub owner-shown : {e : Entry} → i < s.place.count → e ≡ entry_at w.records.now i → e.owner ≡ (item_at (builder_in w s).schema i).owner
+  unfolding schema_of item_of
+  owner-shown h q = ap (λ (x : Entry). x.owner) q ∙ ap (λ (x : Item). x.owner) (sym (get_or-items s.place.count w.records.now w.text.now i h))
 
--- a state that differs from another in what the builder says of it alone
-pub after_then : (f : Builder → Builder) {o : Outcome} {s : State} {n : ℕ} {doc rec text : List ℕ} {r : Stepped} (t : State) → After o s n doc r rec text
-    → (r.verdict ≡ Fine → builder_of t doc rec text ≡ f (builder_of r.state doc rec text))
-    → (Kept r.state rec text → Kept t rec text)
-    → used_by t ≡ used_by r.state
-    → After (and_then f o) s n doc (record { state = t; verdict = r.verdict }) rec text
-after_then f {r = r} t a e k u =
-    record {
-      is = outcome-fine r.verdict _ _ e ∙ sym (and-outcome f r.verdict _) ∙ ap (and_then f) a.is;
-      kept = λ q. k (a.kept q);
-      used = λ q. omega (arith, a.used q);
-    }
-
--- the item that was added is current
-pub current-added : (s : State) (rec text : List ℕ) {n : ℕ} → n ≡ s.place.count + 1 → current n ≡ Some (length (schema_of (model_in s) rec text).items)
-unfolding current schema_of
-current-added s rec text e = rw (e, add-one, length-items)
-
--- more space than an item took
-pub added_more : {l : Limits} {place : ℕ} {it : Item} {s : State} {n : ℕ} (m : ℕ) {doc rec text : List ℕ} {r : Stepped} {rec' text' : List ℕ} → n ≤ m → Added l place it s n doc rec text r rec' text' → Added l place it s m doc rec text r rec' text'
-added_more m h p = record { after = after_more m h p.after; counted = p.counted }
+  pub owner-none : s.place.count ≤ i → 0 ≡ (item_at (builder_in w s).schema i).owner
+  unfolding schema_of
+  owner-none h =
+      let g : length (items_of s.place.count w.records.now w.text.now) ≤ i = rw length-items h in
+      ap (λ (x : Item). x.owner) (sym (get_or-eq_default (items_of s.place.count w.records.now w.text.now) no_item g))

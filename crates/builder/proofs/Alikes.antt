@@ -11,9 +11,9 @@ use Rattle.tags.specs.Attributes.{attribute_at, raw_length, raw_lengths}
 use Rattle.saxlite.proofs.Moving.{values-fit}
 use Rattle.tags.proofs.Ranges.{different}
 use lib.Dec.{T}
-use Rattle.builder.specs.Layout.{builder_of, Alike, Kept, Ready, Tagged}
-use Rattle.builder.specs.Taking.{Scratched}
+use Rattle.builder.specs.Layout.{builder_in, texted, Alike, Kept, Tagged}
 use Rattle.builder.specs.declared.state.State.{State}
+use Rattle.builder.specs.declared.work.Work.{Work}
 
 pub alike_self : {low high : ℕ} {a : List ℕ} → Alike low high a a
 alike_self = record { below = refl; above = refl }
@@ -34,14 +34,15 @@ alike-lower text t a low high h k =
 pub alike-trans : {low high : ℕ} {a b c : List ℕ} → Alike low high a b → Alike low high b c → Alike low high a c
 alike-trans p q = record { below = q.below ∙ p.below; above = q.above ∙ p.above }
 
-module _ (s : State) (doc rec text t : List ℕ) (k : Kept s rec text) (a : Alike s.place.low s.place.high text t) where
-  pub builder-alike : builder_of s doc rec t ≡ builder_of s doc rec text
+-- what is lent, with a text that is alike
+module _ (w : Work) (s : State) (t : List ℕ) (k : Kept w s) (a : Alike s.place.low s.place.high w.text.now t) where
+  pub builder-alike : builder_in (texted w t) s ≡ builder_in w s
   builder-alike =
-      let c : piece t s.place.start (s.place.low - s.place.start) ≡ piece text s.place.start (s.place.low - s.place.start) =
-      piece-below text t s.place.low s.place.start (s.place.low - s.place.start) (omega (arith, k.begun)) a.below in
+      let c : piece t s.place.start (s.place.low - s.place.start) ≡ piece w.text.now s.place.start (s.place.low - s.place.start) =
+      piece-below w.text.now t s.place.low s.place.start (s.place.low - s.place.start) (omega (arith, k.begun)) a.below in
       rw (c, k.stable t a)
 
-  pub kept-alike : length t ≡ length text → Kept s rec t
+  pub kept-alike : length t ≡ length w.text.now → Kept (texted w t) s
   kept-alike l =
       record {
         deep = k.deep;
@@ -51,10 +52,11 @@ module _ (s : State) (doc rec text t : List ℕ) (k : Kept s rec text) (a : Alik
         top = k.top;
         records = k.records;
         bytes = omega (arith, k.bytes);
+        document = k.document;
+        items = k.items;
+        depth = k.depth;
         stable = λ u b. k.stable u (alike-trans a b) ∙ sym (k.stable t a);
       }
-
--- ---- a number read on the way
 
 -- a value of the tag has room where the tag has
 pub tag-room : (doc : List ℕ) (attributes next : ℕ) → Tagged doc attributes next → (keys : List (List ℕ)) → T (different keys) → raw_lengths doc attributes keys ≤ next - attributes
@@ -62,13 +64,3 @@ tag-room doc attributes next g keys t = omega (arith, values-fit doc g.at g.is k
 
 pub tag_one : (doc : List ℕ) (attributes next : ℕ) → Tagged doc attributes next → (key : List ℕ) → raw_length (attribute_at doc attributes key) ≤ next - attributes
 tag_one doc attributes next g key = omega (arith, tag-room doc attributes next g (key ∷ []) tt)
-
-module _ (s : State) (n m : ℕ) (doc rec text t : List ℕ) (r : Ready s n rec text) (h : m ≤ n) (p : Scratched s.place.low m text t) where
-  scratch-alike : Alike s.place.low s.place.high text t
-  scratch-alike = p.alike s.place.high (omega (arith, r.room))
-
-  pub scratch-ready : Ready s n rec t
-  scratch-ready = record { kept = kept-alike s doc rec text t r.kept scratch-alike p.long; room = r.room }
-
-  pub scratch-builder : builder_of s doc rec t ≡ builder_of s doc rec text
-  scratch-builder = builder-alike s doc rec text t r.kept scratch-alike

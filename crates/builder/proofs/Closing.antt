@@ -1,62 +1,72 @@
 -- Laws of closing an element, and of text.
 use mathlib.Core.Path.{◌≡◌, refl, sym, ap, subst, ◌∙◌}
 use mathlib.Core.Bool.{Bool, true, false}
-use mathlib.Core.List.{List, [], ◌++◌}
+use mathlib.Core.List.{List, [], ◌∷◌, ◌++◌}
 use Prim.Native.Nat.{ℕ, ◌+◌, ◌*◌, ◌-◌, ◌≤◌, ◌<◌}
 use native.Mathlib.Omega.{arith}
 use mir.Val.{Fits}
 use mir.Syntax.{w64}
 use lib.ListN.{length, take, drop, get_or, set}
 use lib.Seq.{sets, length-sets, take-add, drop-drop}
+use Rattle.texts.specs.Choice.{pick}
 use Rattle.texts.specs.Text.{piece, same}
 use Rattle.texts.specs.Trim.{trimmed, TrimmedTo}
 use Rattle.texts.specs.declared.Range.{Range}
 use Rattle.texts.proofs.Stores.{piece-stored, piece-below}
+use Rattle.refusals.specs.declared.Refusal.{Refusal}
 use Rattle.refusals.specs.declared.Refusal.TheVariants.{WrongClose}
 use Rattle.entities.specs.Entities.{decoded}
 use Rattle.model.specs.Schema.{Schema, no_item, under, last, positions_from, a_value}
 use Rattle.model.specs.Search.{last_under}
-use Rattle.builder.specs.Builder.{Builder, Currents, on, refused, with_stack, with_text, with_schema, with_second, given_to, close_value, close_by, closed, collect, top, rest}
+use Rattle.builder.specs.Builder.{Builder, on, refused, with_stack, with_text, with_schema, with_second, given_to, close_value, close_by, closed, collect, top, rest}
 use Rattle.model.specs.Store.{entry_at, words_of, item_of, items_of, schema_of}
-use Rattle.builder.specs.Layout.{current, model_in, builder_of, stack_of, recurrent, valued, given_at, higher, Alike, Kept, Ready, After, used_by}
+use Rattle.builder.specs.Layout.{model_in, builder_in, stack_of, over, texted, valued, given_at, higher, Alike, Kept, Ready, After}
 use Rattle.elements.specs.Elements.{element_of, other_element_of}
 use Rattle.elements.specs.Leaf.{leaf}
 use Rattle.elements.specs.declared.Element.{Element}
 use Rattle.elements.specs.declared.Element.TheVariants as element
 use Rattle.model.specs.declared.Entry.{Entry}
-use Rattle.model.specs.declared.Model.{Model}
-use Rattle.std.specs.Prelude.{Option, None, Some}
+use Rattle.std.specs.Prelude.{Option, None, Some, Result, Ok, Err}
+use Rattle.builder.specs.declared.state.Current.{Current}
 use Rattle.builder.specs.declared.state.State.{State}
-use Rattle.builder.specs.declared.state.Stepped.{Stepped}
-use Rattle.builder.specs.declared.state.Verdict.TheVariants.{Fine, Refused}
+use Rattle.builder.specs.declared.work.Work.{Work}
 use Rattle.model.proofs.Records.{items-set, get_or-items}
 use Rattle.model.proofs.Searching.{owned_so, last_in}
 use Rattle.builder.proofs.Alikes.{alike_self, alike-sets, alike-trans, alike-lower}
-use Rattle.builder.proofs.Stacking.{stack-put, pop-builder}
-use Rattle.builder.proofs.Adding.{after-as, after-refused}
-use Rattle.builder.proofs.Opening.{current-zero, current-some}
+use Rattle.builder.proofs.Stacking.{stack-put, pop-builder, pop_kept}
+use Rattle.builder.proofs.Adding.{same_self, after-as, after-refused, after_same}
 use Rattle.builder.proofs.Takes.{decoded-most}
+use Rattle.builder.proofs.Finding.{currently, emptied, kept-emptied}
 
 -- ---- a value given
 
 -- o is what the search answered
-module _ (m : Model) (rec text : List ℕ) (owner : ℕ) (v : Range) {o : Option ℕ} (f : o ≡ last_under a_value owner (schema_of m rec text).items) where
-  pub give-none : o ≡ None → rec ≡ given_at (last_under a_value owner (schema_of m rec text).items) v rec
-  give-none e = rw (sym f ∙ e)
+module _ (w : Work) (s : State) (owner : ℕ) (v : Range) {o : Option ℕ} (f : o ≡ last_under a_value owner (builder_in w s).schema.items) where
+  pub give-none : o ≡ None → w ≡ over w (given_at (last_under a_value owner (builder_in w s).schema.items) v w.records.now)
+  give-none e = rw (sym f ∙ e) refl
 
-  pub give-fits : {i : ℕ} → o ≡ Some i → m.count ≤ 1024 → 16384 ≤ length rec → 15 * i + 10 ≤ length rec
+  pub give-fits : {i : ℕ} → o ≡ Some i → Kept w s → 15 * i + 10 ≤ length w.records.now
   unfolding last_under schema_of
-  give-fits {i} e h k = omega (arith, last_in (owned_so a_value owner) m.count rec text (sym f ∙ e))
+  give-fits {i} e k = omega (arith, k.many, k.records, last_in (owned_so a_value owner) s.place.count w.records.now w.text.now (sym f ∙ e))
 
-  pub give-some : {i : ℕ} → o ≡ Some i → {e : Entry} → e ≡ entry_at rec i → {rec' : List ℕ} → rec' ≡ sets rec (15 * i) (words_of (valued v e)) → rec' ≡ given_at (last_under a_value owner (schema_of m rec text).items) v rec
-  give-some q ee er = er ∙ rw (sym f ∙ q, ee)
+  pub give-some : {i : ℕ} → o ≡ Some i → {e : Entry} → e ≡ entry_at w.records.now i → {rec' : List ℕ} → rec' ≡ sets w.records.now (15 * i) (words_of (valued v e)) → over w rec' ≡ over w (given_at (last_under a_value owner (builder_in w s).schema.items) v w.records.now)
+  give-some q ee er = ap (over w) (er ∙ rw (sym f ∙ q, ee))
 
 valued-item : (t : List ℕ) (v : Range) (e : Entry) (w : List ℕ) → piece t v.from v.len ≡ w → item_of t (valued v e) ≡ with_second w (item_of t e)
 unfolding item_of
 valued-item t v e w q = rw q
 
 -- the entry with its value, and what the model then is
-module _ (s : State) (doc rec text : List ℕ) (k : Kept s rec text) (v : Range) (w : TrimmedTo text s.place.start (s.place.low - s.place.start) v) (owner : ℕ) where
+module _ (w : Work) (s : State) (k : Kept w s) (v : Range) (z : TrimmedTo w.text.now s.place.start (s.place.low - s.place.start) v) (owner : ℕ) where
+  abbrev rec : List ℕ
+  rec = w.records.now
+
+  abbrev text : List ℕ
+  text = w.text.now
+
+  abbrev doc : List ℕ
+  doc = w.doc.now
+
   abbrev rec' : List ℕ
   rec' = given_at (last_under a_value owner (items_of s.place.count rec text)) v rec
 
@@ -64,7 +74,7 @@ module _ (s : State) (doc rec text : List ℕ) (k : Kept s rec text) (v : Range)
   value = trimmed (piece text s.place.start (s.place.low - s.place.start))
 
   same-value : (t : List ℕ) → Alike s.place.low s.place.high text t → piece t v.from v.len ≡ value
-  same-value t a = piece-below text t s.place.low v.from v.len (omega (arith, w.high, k.begun)) a.below ∙ w.is
+  same-value t a = piece-below text t s.place.low v.from v.len (omega (arith, z.high, k.begun)) a.below ∙ z.is
 
   given-schema : (t : List ℕ) → Alike s.place.low s.place.high text t → schema_of (model_in s) rec' t ≡ given_to (last (under a_value owner (schema_of (model_in s) rec text))) value (schema_of (model_in s) rec text)
   unfolding schema_of under last_under
@@ -105,14 +115,6 @@ module _ (s : State) (doc rec text : List ℕ) (k : Kept s rec text) (v : Range)
 
 -- ---- a validValue closes
 
-abbrev pub cleared : State → State
-cleared s =
-    record {
-      place = record { depth = s.place.depth; count = s.place.count; low = s.place.low; high = s.place.high; start = s.place.low };
-      current = record { flag = false; composite = s.current.composite; enumer = s.current.enumer; message = s.current.message; group = s.current.group };
-      head = s.head;
-    }
-
 value_none : (b : Builder) → b.current.enum ≡ None → with_text false [] b ≡ close_value b
 unfolding close_value
 value_none b e = rw e
@@ -121,43 +123,54 @@ value-some : (b : Builder) {e : ℕ} → b.current.enum ≡ Some e → with_text
 unfolding close_value
 value-some b e = rw e
 
-module _ (s : State) (doc rec text : List ℕ) (k : Kept s rec text) {a : Stepped} (ea : a ≡ record { state = cleared s; verdict = Fine }) where
-  pub value-lost : s.current.enumer ≡ 0 → After (on (close_value (builder_of s doc rec text))) s 0 doc a rec text
-  value-lost z =
-      let o : s.place.low - s.place.low ≡ 0 = omega arith in
-      rw ea
-      (after-as (ap on (value_none (builder_of s doc rec text) (current-zero z)))
-      (record {
-        is = rw o;
-        kept = λ q. record { deep = k.deep; many = k.many; begun = omega arith; apart = k.apart; top = k.top; records = k.records; bytes = k.bytes; stable = k.stable };
-        used = λ q. omega arith;
-      }))
+abbrev pub idle : State → Current
+idle s = record { collecting = false; composite = s.current.composite; enumer = s.current.enumer; message = s.current.message; group = s.current.group }
 
-  pub value-given : (s.current.enumer ≡ 0 → ⊥) → {v : Range} → TrimmedTo text s.place.start (s.place.low - s.place.start) v → {rec' : List ℕ}
-      → rec' ≡ given_at (last_under a_value (s.current.enumer - 1) (schema_of (model_in s) rec text).items) v rec → After (on (close_value (builder_of s doc rec text))) s 0 doc a rec' text
-  unfolding schema_of
-  value-given z {v} w er =
+module _ {w : Work} {s : State} (k : Kept w s) where
+  pub value-lost : s.current.enumer ≡ None → After (on (close_value (builder_in w s))) w s 0 w (Ok (emptied s (idle s)))
+  value-lost e =
       let o : s.place.low - s.place.low ≡ 0 = omega arith in
-      let owner = s.current.enumer - 1 in
-      rw (ea, er)
-      (after-as (ap on (value-some (builder_of s doc rec text) (current-some s.current.enumer z)))
+      record { is = ap on (rw o (value_none (builder_in w s) e)); kept = kept-emptied k; used = omega arith; same = same_self }
+
+  pub value-given : {owner : ℕ} → s.current.enumer ≡ Some owner → {v : Range} → TrimmedTo w.text.now s.place.start (s.place.low - s.place.start) v → {w' : Work}
+      → w' ≡ over w (given_at (last_under a_value owner (builder_in w s).schema.items) v w.records.now) → After (on (close_value (builder_in w s))) w s 0 w' (Ok (emptied s (idle s)))
+  unfolding schema_of
+  value-given {owner} e {v} z er =
+      let o : s.place.low - s.place.low ≡ 0 = omega arith in
+      rw er
       (record {
-        is = rw (o, given-stack s doc rec text k v w owner, given-schema s doc rec text k v w owner text alike_self);
-        kept = λ q.
+        is = ap on (rw (o, given-stack w s k v z owner, given-schema w s k v z owner w.text.now alike_self) (value-some (builder_in w s) e));
+        kept =
             record {
               deep = k.deep;
               many = k.many;
               begun = omega arith;
               apart = k.apart;
               top = k.top;
-              records = rw (given-long s doc rec text k v w owner) k.records;
+              records = rw (given-long w s k v z owner) k.records;
               bytes = k.bytes;
-              stable = λ t b. given-schema s doc rec text k v w owner t b ∙ sym (given-schema s doc rec text k v w owner text alike_self);
+              document = k.document;
+              items = k.items;
+              depth = k.depth;
+              stable = λ t b. given-schema w s k v z owner t b ∙ sym (given-schema w s k v z owner w.text.now alike_self);
             };
-        used = λ q. omega arith;
-      }))
+        used = omega arith;
+        same = record { limits = refl; doc = refl; records = refl; text = refl };
+      })
 
--- ---- by element
+  -- ---- by element: what stays, and other things current
+
+  pub closed-same : After (on (builder_in w s)) w s 0 w (Ok s)
+  closed-same = after_same refl k
+
+  pub closed-current : (c : Current) → After (on (builder_in w (currently s c))) w s 0 w (Ok (currently s c))
+  closed-current c =
+      record {
+        is = refl;
+        kept = record { deep = k.deep; many = k.many; begun = k.begun; apart = k.apart; top = k.top; records = k.records; bytes = k.bytes; document = k.document; items = k.items; depth = k.depth; stable = k.stable };
+        used = omega arith;
+        same = same_self;
+      }
 
 leaf-stays : (e : Element) → leaf e ≡ true → (b : Builder) → b ≡ close_by e b
 leaf-stays element.MessageSchema t b = refl
@@ -171,54 +184,6 @@ leaf-stays element.ValidValue t b = absurd (let z : ◌≡◌ {A = ℕ} 0 1 = cc
 leaf-stays element.Message t b = absurd (let z : ◌≡◌ {A = ℕ} 0 1 = cc in omega arith)
 leaf-stays element.Group t b = absurd (let z : ◌≡◌ {A = ℕ} 0 1 = cc in omega arith)
 
-module _ (e : Element) (s : State) (doc rec text : List ℕ) (k : Kept s rec text) {a : Stepped} where
-  pub leaf-shut : leaf e ≡ true → a ≡ record { state = s; verdict = Fine } → After (on (close_by e (builder_of s doc rec text))) s 0 doc a rec text
-  leaf-shut t ea = rw ea (record { is = ap on (leaf-stays e t (builder_of s doc rec text)); kept = λ v. k; used = λ v. omega arith })
-
-  pub shut-schema : e ≡ element.MessageSchema → a ≡ record { state = s; verdict = Fine } → After (on (close_by e (builder_of s doc rec text))) s 0 doc a rec text
-  shut-schema q = leaf-shut (ap leaf q)
-
-  pub shut-type : e ≡ element.«Type» → a ≡ record { state = s; verdict = Fine } → After (on (close_by e (builder_of s doc rec text))) s 0 doc a rec text
-  shut-type q = leaf-shut (ap leaf q)
-
-  pub shut-ref : e ≡ element.Ref → a ≡ record { state = s; verdict = Fine } → After (on (close_by e (builder_of s doc rec text))) s 0 doc a rec text
-  shut-ref q = leaf-shut (ap leaf q)
-
-  pub shut-field : e ≡ element.Field → a ≡ record { state = s; verdict = Fine } → After (on (close_by e (builder_of s doc rec text))) s 0 doc a rec text
-  shut-field q = leaf-shut (ap leaf q)
-
-  pub shut-other : e ≡ element.Other → a ≡ record { state = s; verdict = Fine } → After (on (close_by e (builder_of s doc rec text))) s 0 doc a rec text
-  shut-other q = leaf-shut (ap leaf q)
-
-  -- another thing current
-  now : (c n m g : ℕ) → builder_of (recurrent s c n m g) doc rec text ≡ close_by e (builder_of s doc rec text) → a ≡ record { state = recurrent s c n m g; verdict = Fine } → After (on (close_by e (builder_of s doc rec text))) s 0 doc a rec text
-  now c n m g q ea =
-      rw ea
-      (record {
-        is = ap on q;
-        kept = λ v. record { deep = k.deep; many = k.many; begun = k.begun; apart = k.apart; top = k.top; records = k.records; bytes = k.bytes; stable = k.stable };
-        used = λ v. omega arith;
-      })
-
-  pub shut-composite : e ≡ element.Composite → a ≡ record { state = recurrent s 0 s.current.enumer s.current.message s.current.group; verdict = Fine } → After (on (close_by e (builder_of s doc rec text))) s 0 doc a rec text
-  unfolding current
-  shut-composite q = now 0 s.current.enumer s.current.message s.current.group (ap (λ x. close_by x (builder_of s doc rec text)) (sym q))
-
-  pub shut-enum : e ≡ element.Enum → a ≡ record { state = recurrent s s.current.composite 0 s.current.message s.current.group; verdict = Fine } → After (on (close_by e (builder_of s doc rec text))) s 0 doc a rec text
-  unfolding current
-  shut-enum q = now s.current.composite 0 s.current.message s.current.group (ap (λ x. close_by x (builder_of s doc rec text)) (sym q))
-
-  pub shut-message : e ≡ element.Message → a ≡ record { state = recurrent s s.current.composite s.current.enumer 0 s.current.group; verdict = Fine } → After (on (close_by e (builder_of s doc rec text))) s 0 doc a rec text
-  unfolding current
-  shut-message q = now s.current.composite s.current.enumer 0 s.current.group (ap (λ x. close_by x (builder_of s doc rec text)) (sym q))
-
-  pub shut-group : e ≡ element.Group → a ≡ record { state = recurrent s s.current.composite s.current.enumer s.current.message 0; verdict = Fine } → After (on (close_by e (builder_of s doc rec text))) s 0 doc a rec text
-  unfolding current
-  shut-group q = now s.current.composite s.current.enumer s.current.message 0 (ap (λ x. close_by x (builder_of s doc rec text)) (sym q))
-
-pub shut-value : {e : Element} (s : State) (doc rec text : List ℕ) {rec' text' : List ℕ} {a : Stepped} → e ≡ element.ValidValue → After (on (close_value (builder_of s doc rec text))) s 0 doc a rec' text' → After (on (close_by e (builder_of s doc rec text))) s 0 doc a rec' text'
-shut-value s doc rec text q = after-as (ap (λ x. on (close_by x (builder_of s doc rec text))) (sym q))
-
 -- ---- a whole close
 
 closed-yes : (place : ℕ) (name : List ℕ) (b : Builder) → same name (top b.stack) ≡ true → on (close_by (element_of name) (with_stack (rest b.stack) b)) ≡ closed place name b
@@ -229,53 +194,62 @@ closed-no : (place : ℕ) (name : List ℕ) (b : Builder) → same name (top b.s
 unfolding closed
 closed-no place name b t = rw t
 
-module _ (place name len : ℕ) (s : State) (doc rec text : List ℕ) {b : Bool} (eb : b ≡ same (piece doc name len) (top (stack_of s.place.depth rec doc))) where
-  pub close-wrong : b ≡ false → After (closed place (piece doc name len) (builder_of s doc rec text)) s 0 doc (record { state = s; verdict = Refused (WrongClose place) }) rec text
-  close-wrong f = after-refused s 0 doc rec text (WrongClose place) refl (closed-no place (piece doc name len) (builder_of s doc rec text) (sym eb ∙ f))
+module _ {w : Work} {s : State} (place : ℕ) (name : List ℕ) {b : Bool} (eb : b ≡ same name (top (builder_in w s).stack)) where
+  pub close-wrong : b ≡ false → After (closed place name (builder_in w s)) w s 0 w (Err (WrongClose place))
+  close-wrong f = after-refused (closed-no place name (builder_in w s) (sym eb ∙ f))
 
-  pub close-right : b ≡ true → {e : Element} → e ≡ element_of (piece doc name len) → {p : State} → p ≡ higher s → {a : Stepped} {rec' text' : List ℕ} → After (on (close_by e (builder_of p doc rec text))) p 0 doc a rec' text' → After (closed place (piece doc name len) (builder_of s doc rec text)) s 0 doc a rec' text'
+  pub close-right : b ≡ true → {e : Element} → e ≡ element_of name → {p : State} → p ≡ higher s → {w' : Work} {r : Result State Refusal} → After (on (close_by e (builder_in w p))) w p 0 w' r → After (closed place name (builder_in w s)) w s 0 w' r
   close-right t {e} ee {p} ep f =
-      let q : on (close_by e (builder_of p doc rec text)) ≡ closed place (piece doc name len) (builder_of s doc rec text) =
-      ap (λ x. on (close_by e x)) (pop-builder s p doc rec text ep)
-      ∙ ap (λ x. on (close_by x (with_stack (rest (stack_of s.place.depth rec doc)) (builder_of s doc rec text)))) ee
-      ∙ closed-yes place (piece doc name len) (builder_of s doc rec text) (sym eb ∙ t) in
-      let c = after-as q f in
-      record { is = c.is; kept = c.kept; used = λ x. omega (arith, c.used x, ap used_by ep) }
+      let q : on (close_by e (builder_in w (higher s))) ≡ closed place name (builder_in w s) =
+      ap (λ x. on (close_by e x)) (pop-builder w s)
+      ∙ ap (λ x. on (close_by x (with_stack (rest (builder_in w s).stack) (builder_in w s)))) ee
+      ∙ closed-yes place name (builder_in w s) (sym eb ∙ t) in
+      after-as s q refl (omega arith) (rw ep at f)
+
+-- an element whose close only pops its name
+pub leaf-closed : {w : Work} {s : State} (place : ℕ) (name : List ℕ) → Kept w s → same name (top (builder_in w s).stack) ≡ true → leaf (element_of name) ≡ true → After (closed place name (builder_in w s)) w s 0 w (Ok (higher s))
+leaf-closed {w} {s} place name k t f = close-right place name refl t refl refl (after_same (ap on (leaf-stays (element_of name) f (builder_in w (higher s)))) (pop_kept w s k))
 
 -- a close of no name, where none is open: nothing is popped
-close-none : (place : ℕ) (collected : List ℕ) (collecting : Bool) (c : Currents) (s : Schema)
-    → let b : Builder = record { stack = []; collected = collected; collecting = collecting; current = c; schema = s } in on b ≡ closed place [] b
-unfolding closed same element_of other_element_of
-close-none place collected collecting c s = refl
+empty : (x : List (List ℕ)) → length x ≡ 0 → x ≡ []
+empty [] h = refl
+empty (y ∷ x) h = absurd (omega (arith, h))
 
-pub close-nameless : (place name : ℕ) (s : State) (doc rec text : List ℕ) → s.place.depth ≡ 0 → on (builder_of s doc rec text) ≡ closed place (piece doc name 0) (builder_of s doc rec text)
-unfolding stack_of
-close-nameless place name s doc rec text e =
-    let b = builder_of s doc rec text in
-    let q : stack_of s.place.depth rec doc ≡ [] = ap (λ (d : ℕ). stack_of d rec doc) e in
-    subst (λ (x : List (List ℕ)). on (record { stack = x; collected = b.collected; collecting = b.collecting; current = b.current; schema = b.schema }) ≡ closed place [] (record { stack = x; collected = b.collected; collecting = b.collecting; current = b.current; schema = b.schema })) (sym q)
-    (close-none place b.collected b.collecting b.current b.schema)
+close-none : (place : ℕ) (b : Builder) → on (with_stack [] b) ≡ closed place [] (with_stack [] b)
+unfolding closed same element_of other_element_of
+close-none place b = refl
+
+pub close-nameless : (place : ℕ) (b : Builder) → length b.stack ≡ 0 → on b ≡ closed place [] b
+close-nameless place b e = subst (λ (x : List (List ℕ)). on (with_stack x b) ≡ closed place [] (with_stack x b)) (sym (empty b.stack e)) (close-none place b)
+
+-- the state with a leaf's name popped, where it is the innermost open one
+module _ (s : State) {b c : Bool} (eb : b ≡ c) where
+  pub leaf-popped : {p : State} → b ≡ true → p ≡ higher s → Some p ≡ pick c (Some (higher s)) None
+  leaf-popped t e = rw (← eb, t, e)
+
+  pub leaf-open : b ≡ false → None ≡ pick c (Some (higher s)) None
+  leaf-open t = rw (← eb, t)
 
 -- ---- text
 
-collect-on : (w : List ℕ) (b : Builder) → b.collecting ≡ true → with_text true (b.collected ++ w) b ≡ collect w b
+collect-on : (v : List ℕ) (b : Builder) → b.collecting ≡ true → with_text true (b.collected ++ v) b ≡ collect v b
 unfolding collect
-collect-on w b t = rw t
+collect-on v b t = rw t
 
-collect-off : (w : List ℕ) (b : Builder) → b.collecting ≡ false → b ≡ collect w b
+pub text_off : (v : List ℕ) (b : Builder) → b.collecting ≡ false → on b ≡ on (collect v b)
 unfolding collect
-collect-off w b t = rw t
+text_off v b t = ap on (rw t)
 
-module _ (s : State) (doc rec text : List ℕ) (from len : ℕ) (r : Ready s len rec text) where
-  pub text-off : s.current.flag ≡ false → on (builder_of s doc rec text) ≡ on (collect (decoded (piece doc from len)) (builder_of s doc rec text))
-  text-off f = ap on (collect-off (decoded (piece doc from len)) (builder_of s doc rec text) f)
+module _ {w : Work} {s : State} (from len : ℕ) (r : Ready w s len) where
+  pub text-lost : s.current.collecting ≡ false → After (on (collect (decoded (piece w.doc.now from len)) (builder_in w s))) w s len w (Ok s)
+  text-lost f = after_same (text_off (decoded (piece w.doc.now from len)) (builder_in w s) f) r.kept
 
-  pub text-room : s.place.low + len ≤ length text
+  pub text-room : s.place.low + len ≤ length w.text.now
   text-room = omega (arith, r.room, r.kept.top, r.kept.bytes)
 
-  module _ {n : ℕ} {t : List ℕ} (en : n ≡ length (decoded (piece doc from len))) (et : t ≡ sets text s.place.low (decoded (piece doc from len))) where
+  module _ {n : ℕ} {t : List ℕ} (en : n ≡ length (decoded (piece w.doc.now from len))) (et : t ≡ sets w.text.now s.place.low (decoded (piece w.doc.now from len))) where
     short : n ≤ len
-    short = omega (arith, decoded-most doc from len)
+    short = omega (arith, decoded-most w.doc.now from len)
 
     pub text-fits : Fits w64 (s.place.low + n)
     text-fits = omega (arith, short, r.room, r.kept.top)
@@ -283,28 +257,28 @@ module _ (s : State) (doc rec text : List ℕ) (from len : ℕ) (r : Ready s len
     abbrev longer : State
     longer = record { place = record { depth = s.place.depth; count = s.place.count; low = s.place.low + n; high = s.place.high; start = s.place.start }; current = s.current; head = s.head }
 
-    alike : Alike s.place.low s.place.high text t
-    alike = rw et (alike-sets text (decoded (piece doc from len)) s.place.low s.place.high s.place.low (omega arith) (omega (arith, short, r.room)))
+    alike : Alike s.place.low s.place.high w.text.now t
+    alike = rw et (alike-sets w.text.now (decoded (piece w.doc.now from len)) s.place.low s.place.high s.place.low (omega arith) (omega (arith, short, r.room)))
 
     -- the collected text goes on
-    joined : piece t s.place.start (s.place.low + n - s.place.start) ≡ piece text s.place.start (s.place.low - s.place.start) ++ decoded (piece doc from len)
+    joined : piece t s.place.start (s.place.low + n - s.place.start) ≡ piece w.text.now s.place.start (s.place.low - s.place.start) ++ decoded (piece w.doc.now from len)
     joined =
         let b = r.kept.begun in
         let z : s.place.low + n - s.place.start ≡ s.place.low - s.place.start + n = omega arith in
         let y : s.place.start + (s.place.low - s.place.start) ≡ s.place.low = omega arith in
-        let c : piece t s.place.start (s.place.low - s.place.start) ≡ piece text s.place.start (s.place.low - s.place.start) =
-        piece-below text t s.place.low s.place.start (s.place.low - s.place.start) (omega arith) alike.below in
-        let w : piece t s.place.low n ≡ decoded (piece doc from len) = rw et (piece-stored (decoded (piece doc from len)) text s.place.low n (sym en) (omega (arith, text-room, short))) in
+        let c : piece t s.place.start (s.place.low - s.place.start) ≡ piece w.text.now s.place.start (s.place.low - s.place.start) =
+        piece-below w.text.now t s.place.low s.place.start (s.place.low - s.place.start) (omega arith) alike.below in
+        let v : piece t s.place.low n ≡ decoded (piece w.doc.now from len) = rw et (piece-stored (decoded (piece w.doc.now from len)) w.text.now s.place.low n (sym en) (omega (arith, text-room, short))) in
         ap (λ k. take k (drop s.place.start t)) z ∙ take-add (s.place.low - s.place.start) n (drop s.place.start t)
-        ∙ rw (c, drop-drop (s.place.low - s.place.start) s.place.start t, y, w)
+        ∙ rw (c, drop-drop (s.place.low - s.place.start) s.place.start t, y, v)
 
-    pub text-on : s.current.flag ≡ true → After (on (collect (decoded (piece doc from len)) (builder_of s doc rec text))) s len doc (record { state = longer; verdict = Fine }) rec t
+    pub text-on : s.current.collecting ≡ true → After (on (collect (decoded (piece w.doc.now from len)) (builder_in w s))) w s len (texted w t) (Ok longer)
     text-on f =
         let k = r.kept in
-        after-as (ap on (collect-on (decoded (piece doc from len)) (builder_of s doc rec text) f))
-        (record {
-          is = rw (joined, k.stable t alike, f);
-          kept = λ q.
+        let z : builder_in (texted w t) longer ≡ with_text true ((builder_in w s).collected ++ decoded (piece w.doc.now from len)) (builder_in w s) = rw (joined, k.stable t alike, f) in
+        record {
+          is = ap on (z ∙ collect-on (decoded (piece w.doc.now from len)) (builder_in w s) f);
+          kept =
               record {
                 deep = k.deep;
                 many = k.many;
@@ -312,8 +286,12 @@ module _ (s : State) (doc rec text : List ℕ) (from len : ℕ) (r : Ready s len
                 apart = omega (arith, short, r.room);
                 top = k.top;
                 records = k.records;
-                bytes = rw (et, length-sets text s.place.low (decoded (piece doc from len))) k.bytes;
+                bytes = rw (et, length-sets w.text.now s.place.low (decoded (piece w.doc.now from len))) k.bytes;
+                document = k.document;
+                items = k.items;
+                depth = k.depth;
                 stable = λ u b. k.stable u (alike-trans alike (alike-lower t u s.place.low (s.place.low + n) s.place.high (omega arith) b)) ∙ sym (k.stable t alike);
               };
-          used = λ q. omega (arith, short);
-        })
+          used = omega (arith, short);
+          same = record { limits = refl; doc = refl; records = refl; text = refl };
+        }

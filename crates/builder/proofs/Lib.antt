@@ -3,7 +3,9 @@ pub mod Alikes
 pub mod Takes
 pub mod Stacking
 pub mod Adding
+pub mod Finding
 pub mod Opening
+pub mod Numbering
 pub mod Keying
 pub mod Dispatching
 pub mod Closing

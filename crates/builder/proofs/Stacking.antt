@@ -10,11 +10,12 @@ use lib.Seq.{sets, get_or-set_same, get_or-set_other}
 use Rattle.texts.specs.Text.{ascii, piece, same}
 use Rattle.texts.proofs.Comparing.{equal-same}
 use Rattle.texts.proofs.Stores.{get_or-sets-above}
-use Rattle.builder.specs.Builder.{Builder, top, rest, with_stack}
+use Rattle.builder.specs.Builder.{top, rest, with_stack}
 use Rattle.model.specs.Store.{entry_at, words_of, schema_of}
-use Rattle.builder.specs.Layout.{stack_at, stack_of, in_composite, deeper, pushed, higher, model_in, builder_of, Kept, Ready}
+use Rattle.builder.specs.Layout.{stack_at, stack_of, parent_composite, deeper, pushed, higher, over, model_in, builder_in, Kept, Ready}
 use Rattle.model.specs.declared.Entry.{Entry}
 use Rattle.builder.specs.declared.state.State.{State}
+use Rattle.builder.specs.declared.work.Work.{Work}
 use Rattle.model.proofs.Records.{entry_set, items-frame}
 
 stack-frame : (d : ℕ) (rec rec' doc : List ℕ) → ((k : ℕ) → k < 2 * d → get_or rec' (15360 + k) 0 ≡ get_or rec (15360 + k) 0) → stack_of d rec' doc ≡ stack_of d rec doc
@@ -53,21 +54,23 @@ rest-stack (suc d) rec doc = ap (λ k. stack_of k rec doc) (let z : suc d - 1 �
 
 -- ---- a name pushed
 
-module _ (s : State) (from len n : ℕ) (doc rec text rec₁ : List ℕ) (p : State) (r : Ready s n rec text) (d : s.place.depth < 64) (ep : p ≡ deeper s) (er : rec₁ ≡ pushed rec s.place.depth from len) where
-  entries : (j : ℕ) → j < s.place.count → entry_at rec₁ j ≡ entry_at rec j
+module _ (w : Work) (s : State) (from len n : ℕ) (r : Ready w s n) (d : s.place.depth < 64) where
+  abbrev rec₁ : List ℕ
+  rec₁ = pushed w.records.now s.place.depth from len
+
+  entries : (j : ℕ) → j < s.place.count → entry_at rec₁ j ≡ entry_at w.records.now j
   entries j h =
       let m = r.kept.many in
-      ap (λ l. entry_at l j) er ∙ entry_set (set rec (stack_at s.place.depth) from) (stack_at s.place.depth + 1) len j (omega arith) ∙ entry_set rec (stack_at s.place.depth) from j (omega arith)
+      entry_set (set w.records.now (stack_at s.place.depth) from) (stack_at s.place.depth + 1) len j (omega arith) ∙ entry_set w.records.now (stack_at s.place.depth) from j (omega arith)
 
-  schema : (t : List ℕ) → schema_of (model_in s) rec₁ t ≡ schema_of (model_in s) rec t
+  schema : (t : List ℕ) → schema_of (model_in s) rec₁ t ≡ schema_of (model_in s) w.records.now t
   unfolding schema_of
-  schema t = rw (items-frame s.place.count rec rec₁ t entries)
+  schema t = rw (items-frame s.place.count w.records.now rec₁ t entries)
 
-  pub push-ready : Ready p n rec₁ text
+  pub push-ready : Ready (over w rec₁) (deeper s) n
   push-ready =
       let k = r.kept in
-      rw ep
-      (record {
+      record {
         kept =
             record {
               deep = omega arith;
@@ -75,21 +78,20 @@ module _ (s : State) (from len n : ℕ) (doc rec text rec₁ : List ℕ) (p : St
               begun = k.begun;
               apart = k.apart;
               top = k.top;
-              records = rw (er, length-set, length-set) k.records;
+              records = rw (length-set, length-set) k.records;
               bytes = k.bytes;
-              stable = λ t a. schema t ∙ k.stable t a ∙ sym (schema text);
+              document = k.document;
+              items = k.items;
+              depth = k.depth;
+              stable = λ t a. schema t ∙ k.stable t a ∙ sym (schema w.text.now);
             };
         room = r.room;
-      })
+      }
 
-  pub push-builder : builder_of p doc rec₁ text ≡ with_stack (piece doc from len ∷ stack_of s.place.depth rec doc) (builder_of s doc rec text)
+  pub push-builder : builder_in (over w rec₁) (deeper s) ≡ with_stack (piece w.doc.now from len ∷ (builder_in w s).stack) (builder_in w s)
   push-builder =
-      let k : stack_of (s.place.depth + 1) rec₁ doc ≡ piece doc from len ∷ stack_of s.place.depth rec doc = rw er (stack_push s.place.depth from len rec doc (omega (arith, r.kept.records))) in
-      rw (ep, k, schema text)
-
-  -- the names below it are as they were
-  pub push-below : stack_of (p.place.depth - 1) rec₁ doc ≡ stack_of s.place.depth rec doc
-  push-below = rest-stack p.place.depth rec₁ doc ∙ ap (λ (b : Builder). rest b.stack) push-builder
+      let k : stack_of (s.place.depth + 1) rec₁ w.doc.now ≡ piece w.doc.now from len ∷ stack_of s.place.depth w.records.now w.doc.now = stack_push s.place.depth from len w.records.now w.doc.now (omega (arith, r.kept.records)) in
+      rw (k, schema w.text.now)
 
 -- ---- the innermost name, and a name popped
 
@@ -111,17 +113,13 @@ top-here doc rec d name len h e i f j = sym (equal-same (top-some (piece doc nam
 pub top-same : (doc rec : List ℕ) (d name len : ℕ) {v w : List ℕ} → v ≡ piece doc name len → w ≡ top (stack_of d rec doc) → {b : Bool} → b ≡ same v w → b ≡ same (piece doc name len) (top (stack_of d rec doc))
 top-same doc rec d name len e f g = rw (← e, ← f) g
 
-pub parent-same : (doc rec : List ℕ) (d : ℕ) {w : List ℕ} → w ≡ top (stack_of (d - 1) rec doc) → {b : Bool} → b ≡ same w (ascii "composite") → b ≡ in_composite d rec doc
-parent-same doc rec d e f = f ∙ ap (λ x. same x (ascii "composite")) e
+-- the parent's name is the innermost one of those below
+pub parent-same : (w : Work) (s : State) {d : ℕ} → d ≡ s.place.depth - 1 → {v : List ℕ} → v ≡ top (stack_of d w.records.now w.doc.now) → {b : Bool} → b ≡ same v (ascii "composite") → b ≡ parent_composite (builder_in w s)
+parent-same w s e f g = g ∙ ap (λ x. same x (ascii "composite")) (f ∙ ap (λ k. top (stack_of k w.records.now w.doc.now)) e ∙ ap top (rest-stack s.place.depth w.records.now w.doc.now))
 
-pub pop-none : (s : State) → s.place.depth ≡ 0 → s ≡ higher s
-pop-none s h =
-    let z : s.place.depth - 1 ≡ s.place.depth = omega arith in
-    rw z
+module _ (w : Work) (s : State) where
+  pub pop_kept : Kept w s → Kept w (higher s)
+  pop_kept k = record { deep = omega (arith, k.deep); many = k.many; begun = k.begun; apart = k.apart; top = k.top; records = k.records; bytes = k.bytes; document = k.document; items = k.items; depth = k.depth; stable = k.stable }
 
-module _ (s p : State) (doc rec text : List ℕ) (e : p ≡ higher s) where
-  pub pop_kept : Kept s rec text → Kept p rec text
-  pop_kept k = rw e (record { deep = omega (arith, k.deep); many = k.many; begun = k.begun; apart = k.apart; top = k.top; records = k.records; bytes = k.bytes; stable = k.stable })
-
-  pub pop-builder : builder_of p doc rec text ≡ with_stack (rest (stack_of s.place.depth rec doc)) (builder_of s doc rec text)
-  pop-builder = rw (e, rest-stack s.place.depth rec doc)
+  pub pop-builder : builder_in w (higher s) ≡ with_stack (rest (builder_in w s).stack) (builder_in w s)
+  pop-builder = rw (rest-stack s.place.depth w.records.now w.doc.now)

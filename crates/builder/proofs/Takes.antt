@@ -16,19 +16,19 @@ use Rattle.texts.proofs.Choosing.{by-test, both_true}
 use Rattle.texts.proofs.Scanning.{count_yes}
 use Rattle.texts.specs.Text.{piece}
 use Rattle.texts.proofs.Stores.{piece-stored, piece-above}
-use Rattle.tags.specs.declared.tag.Noted.{Noted}
 use Rattle.entities.specs.Entities.{decoded}
 use Rattle.tags.specs.Attributes.{raw_length}
 use Rattle.saxlite.specs.Event.{value_in}
 use Rattle.entities.proofs.Decoding.{decoded-length}
 use Rattle.entities.proofs.Copying.{plain-decoded}
-use Rattle.builder.specs.Builder.{or_empty, is_given, plain_item}
+use Rattle.builder.specs.Builder.{or_empty, is_given}
 use Rattle.model.specs.Store.{item_of}
-use Rattle.builder.specs.Layout.{Alike, Steady}
-use Rattle.builder.specs.Taking.{TakenAt, ReadAt, Made, type_item_of, type_length}
+use Rattle.builder.specs.Layout.{Steady}
+use Rattle.builder.specs.Taking.{TakenAt, ReadAt, Made, drafted_item, draft_length}
 use Rattle.model.specs.declared.Entry.{Entry}
 use Rattle.numbers.specs.Numbers.{is_digit, all_digits, bounded_from, digits_of, unsigned, number_of}
 use Rattle.builder.specs.declared.take.Taken.{Taken}
+use Rattle.builder.specs.declared.take.Draft.{Draft}
 use Rattle.builder.proofs.Alikes.{alike_self, alike-sets, alike-wider, alike-trans}
 
 length-piece-le : (s : List ℕ) (a n : ℕ) → length (piece s a n) ≤ n
@@ -80,18 +80,18 @@ module _ (doc text : List ℕ) (low : ℕ) {f : Option Range} where
     pub number_at : {r : Option ℕ} {text' : List ℕ} → ReadAt (Some v) doc low text r text' → ReadAt f doc low text r text'
     number_at q = rw e q
 
-module _ (doc text : List ℕ) (low : ℕ) {v : Range} {n : ℕ} {text' : List ℕ} (q : n ≡ length (decoded (piece doc v.from v.len))) (p : text' ≡ sets text low (decoded (piece doc v.from v.len))) (fits : low + v.len ≤ length text) where
-  pub number-value : {w : List ℕ} → w ≡ piece text' low n → {r : Option ℕ} → r ≡ number_of (Some w) → ReadAt (Some v) doc low text r text'
-  number-value ew er =
+module _ (doc text : List ℕ) (low : ℕ) where
+  pub number-value : (v : Range) → low + v.len ≤ length text
+      → ReadAt (Some v) doc low text (number_of (Some (piece (sets text low (decoded (piece doc v.from v.len))) low (length (decoded (piece doc v.from v.len)))))) (sets text low (decoded (piece doc v.from v.len)))
+  number-value v fits =
       let t = decoded (piece doc v.from v.len) in
       let z = decoded-most doc v.from v.len in
-      let s : piece text' low n ≡ t = rw (p, q) (piece-stored t text low (length t) refl (omega (arith, fits))) in
       record {
-        is = er ∙ ap (λ x. number_of (Some x)) (ew ∙ s);
+        is = ap (λ x. number_of (Some x)) (piece-stored t text low (length t) refl (omega (arith, fits)));
         scratch =
             record {
-              alike = λ a b. rw p (alike-sets text t low a low (omega arith) (omega arith));
-              long = rw p (length-sets text low t);
+              alike = λ a b. alike-sets text t low a low (omega arith) (omega arith);
+              long = length-sets text low t;
             };
       }
 
@@ -160,59 +160,31 @@ steady text e h k a =
           );
     }
 
-module _ (kind owner id : ℕ) (doc text : List ℕ) (high : ℕ) {name : Option Range} {x : Taken} {t₁ : List ℕ} (p : TakenAt name doc text high x t₁) where
-  pub made-named : Made (plain_item kind owner (or_empty (value_in doc name)) [] id) (raw_length name) high text
-      (record { kind = kind; owner = owner; name = x.from; nlen = x.len; second = x.from; slen = 0; number = id; given = 0; encoding = x.from; elen = 0 }) t₁
-  unfolding item_of
-  made-named =
-      record {
-        is = rw p.is;
-        steady = steady t₁ _ (omega arith) (omega arith);
-        start = omega (arith, p.start);
-        alike = p.alike;
-        long = p.long;
-      }
-
-  module _ {second : Option Range} {y : Taken} {t₂ : List ℕ} (q : TakenAt second doc t₁ x.from y t₂) where
-    -- the first text is where it was
-    first : piece t₂ x.from x.len ≡ or_empty (value_in doc name)
-    first = piece-above t₁ t₂ x.from x.from x.len (omega arith) (q.alike 0 (omega arith)).above ∙ p.is
-
-    both : (a : ℕ) → a ≤ y.from → Alike a high text t₂
-    both a h = alike-trans (p.alike a (omega (arith, q.start))) (alike-wider t₁ t₂ a x.from high (omega (arith, p.start)) (q.alike a h))
-
-    pub made-typed : Made (plain_item kind owner (or_empty (value_in doc name)) (or_empty (value_in doc second)) id) (raw_length name + raw_length second) high text
-        (record { kind = kind; owner = owner; name = x.from; nlen = x.len; second = y.from; slen = y.len; number = id; given = 0; encoding = y.from; elen = 0 }) t₂
-    unfolding item_of
-    made-typed =
-        record {
-          is = rw (first, q.is);
-          steady = steady t₂ _ (omega (arith, q.start)) (omega arith);
-          start = omega (arith, p.start, q.start);
-          alike = both;
-          long = q.long ∙ p.long;
-        }
-
-module _ (kind owner size : ℕ) (tag : Noted) (doc text : List ℕ) (high : ℕ) {x : Taken} {t₁ : List ℕ} (p : TakenAt tag.second doc text high x t₁)
-    {y : Taken} {t₂ : List ℕ} (q : TakenAt tag.third doc t₁ x.from y t₂)
-    {z : Taken} {t₃ : List ℕ} (r : TakenAt tag.fourth doc t₂ y.from z t₃)
+module _ (d : Draft) (doc text : List ℕ) (high : ℕ) {x : Taken} {t₁ : List ℕ} (p : TakenAt d.name doc text high x t₁)
+    {y : Taken} {t₂ : List ℕ} (q : TakenAt d.second doc t₁ x.from y t₂)
+    {z : Taken} {t₃ : List ℕ} (r : TakenAt d.encoding doc t₂ y.from z t₃)
   where
-    one : piece t₃ x.from x.len ≡ or_empty (value_in doc tag.second)
-    one = piece-above t₂ t₃ y.from x.from x.len (omega (arith, q.start)) (r.alike 0 (omega arith)).above ∙ first kind owner size doc text high p q
+    -- the first two texts are where they were
+    one : piece t₃ x.from x.len ≡ or_empty (value_in doc d.name)
+    one =
+        piece-above t₂ t₃ y.from x.from x.len (omega (arith, q.start)) (r.alike 0 (omega arith)).above
+        ∙ piece-above t₁ t₂ x.from x.from x.len (omega arith) (q.alike 0 (omega arith)).above
+        ∙ p.is
 
-    two : piece t₃ y.from y.len ≡ or_empty (value_in doc tag.third)
+    two : piece t₃ y.from y.len ≡ or_empty (value_in doc d.second)
     two = piece-above t₂ t₃ y.from y.from y.len (omega arith) (r.alike 0 (omega arith)).above ∙ q.is
 
-    pub made-type : (g : ℕ) → ((d : List ℕ) → eqb g 1 ≡ is_given (value_in d tag.first)) → Made (type_item_of kind owner size tag doc) (type_length tag) high text
-        (record { kind = kind; owner = owner; name = x.from; nlen = x.len; second = y.from; slen = y.len; number = size; given = g; encoding = z.from; elen = z.len }) t₃
+    pub made-draft : (g : ℕ) → ((d' : List ℕ) → eqb g 1 ≡ is_given (value_in d' d.given)) → Made (drafted_item d doc) (draft_length d) high text
+        (record { kind = d.kind; owner = d.owner; name = x.from; nlen = x.len; second = y.from; slen = y.len; number = d.number; given = g; encoding = z.from; elen = z.len }) t₃
     unfolding item_of
-    made-type g eg =
+    made-draft g eg =
         record {
           is = rw (one, two, r.is, eg doc);
           steady = steady t₃ _ (omega (arith, q.start, r.start)) (omega (arith, r.start));
           start = omega (arith, p.start, q.start, r.start);
           alike = λ a h.
-              alike-trans (both kind owner size doc text high p q a (omega (arith, r.start)))
-              (alike-wider t₂ t₃ a y.from high (omega (arith, p.start, q.start)) (r.alike a h));
+              alike-trans (p.alike a (omega (arith, q.start, r.start)))
+              (alike-trans (alike-wider t₁ t₂ a x.from high (omega (arith, p.start)) (q.alike a (omega (arith, r.start))))
+              (alike-wider t₂ t₃ a y.from high (omega (arith, p.start, q.start)) (r.alike a h)));
           long = r.long ∙ q.long ∙ p.long;
         }

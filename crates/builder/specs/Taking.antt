@@ -1,20 +1,26 @@
 -- What taking texts into the text buffer promises. Internal.
-use Rattle.std.specs.Prelude.{◌≡◌, List, ℕ, ◌+◌, ◌≤◌, length, Option}
+use Rattle.std.specs.Prelude.{◌≡◌, List, ℕ, ◌+◌, ◌≤◌, length, Option, Some, None, Result, Ok, Err}
 use Rattle.texts.specs.Text.{piece}
 use Rattle.texts.specs.declared.Range.{Range}
-use Rattle.tags.specs.declared.tag.Noted.{Noted}
 use Rattle.tags.specs.Attributes.{raw_length}
 use Rattle.saxlite.specs.Event.{value_in}
-use Rattle.tags.specs.Noting.{Keys, schema_keys, type_keys, enum_keys, field_keys}
+use Rattle.tags.specs.Noting.{Keys, schema_keys, type_keys, enum_keys, field_keys, NotedBy, noted_of}
+use Rattle.tags.specs.declared.tag.Noted.{Noted}
+use Rattle.refusals.specs.declared.Refusal.{Refusal}
+use Rattle.refusals.specs.declared.Refusal.TheVariants.{BadNumber}
 use Rattle.model.specs.Schema.{Item}
 use Rattle.numbers.specs.Numbers.{number_of}
-use Rattle.builder.specs.Builder.{or_empty, is_given}
+use Rattle.builder.specs.Builder.{Attributes, attributes_in, or_empty, is_given}
 use Rattle.model.specs.Store.{item_of}
-use Rattle.builder.specs.Layout.{Alike, Steady}
+use Rattle.builder.specs.Layout.{Alike, Steady, builder_in, room, Ready, Tagged, Same}
 use Rattle.elements.specs.declared.Element.{Element}
 use Rattle.elements.specs.declared.Element.TheVariants as element
 use Rattle.model.specs.declared.Entry.{Entry}
 use Rattle.builder.specs.declared.take.Taken.{Taken}
+use Rattle.builder.specs.declared.take.Draft.{Draft}
+use Rattle.builder.specs.declared.state.State.{State}
+use Rattle.builder.specs.declared.work.Tag.{Tag}
+use Rattle.builder.specs.declared.work.Work.{Work}
 
 -- the value that was found lies from r on, below high, and takes its raw length
 pub record TakenAt (found : Option Range) (doc text : List ℕ) (high : ℕ) (r : Taken) (text' : List ℕ) : Type 0 where
@@ -42,21 +48,60 @@ pub record ReadAt (found : Option Range) (doc : List ℕ) (low : ℕ) (text : Li
   pub is : r ≡ number_of (value_in doc found)
   pub scratch : Scratched low (raw_length found) text text'
 
--- a type or a member, of its length, name, primitive type and encoding as they were found; and the raw length of its texts
-abbrev pub type_item_of : ℕ → ℕ → ℕ → Noted → List ℕ → Item
-type_item_of kind owner n tag doc =
+-- a draft with a name, and the text of one more attribute
+abbrev pub drafted : ℕ → ℕ → ℕ → Option Range → Option Range → Draft
+drafted kind owner number name second = record { kind = kind; owner = owner; number = number; given = None; name = name; second = second; encoding = None }
+
+-- the item that a draft stands for, and the raw length of its texts
+abbrev pub drafted_item : Draft → List ℕ → Item
+drafted_item d doc =
     record {
-      kind = kind;
-      owner = owner;
-      name = or_empty (value_in doc tag.second);
-      second = or_empty (value_in doc tag.third);
-      number = n;
-      given = is_given (value_in doc tag.first);
-      encoding = or_empty (value_in doc tag.fourth);
+      kind = d.kind;
+      owner = d.owner;
+      name = or_empty (value_in doc d.name);
+      second = or_empty (value_in doc d.second);
+      number = d.number;
+      given = is_given (value_in doc d.given);
+      encoding = or_empty (value_in doc d.encoding);
     }
 
-abbrev pub type_length : Noted → ℕ
-type_length tag = raw_length tag.second + raw_length tag.third + raw_length tag.fourth
+abbrev pub draft_length : Draft → ℕ
+draft_length d = raw_length d.name + raw_length d.second + raw_length d.encoding
+
+-- ---- over what is lent
+
+-- what was found in a tag
+pub record Finds (tag : Tag) (f : Noted) : Type 0 where
+  pub is : f ≡ noted_of tag.noted
+
+-- what reading a number asks, and adding an item: the state is kept, and the tag has room for the texts
+unfoldable pub Reads : Work → State → Tag → Option Range → Type 0
+Reads w s tag found = Ready w s (room tag) × (raw_length found ≤ room tag)
+
+unfoldable pub Adds : Work → State → Tag → Draft → Type 0
+Adds w s tag d = Ready w s (room tag) × (draft_length d ≤ room tag)
+
+-- what a tag says
+abbrev pub attributes_of : Work → Tag → Attributes
+attributes_of w tag = attributes_in w.doc.now tag.attributes
+
+-- a number, or 32 where there is none
+abbrev pub numbered : ℕ → Option ℕ → Result ℕ Refusal
+numbered place (Some n) = Ok n
+numbered place None = Err (BadNumber place)
+
+-- a number read for a tag, with n bytes of text free: nothing else changed
+pub record Numbered (place n : ℕ) (found : Option Range) (w : Work) (s : State) (w' : Work) (r : Result ℕ Refusal) : Type 0 where
+  pub is : r ≡ numbered place (number_of (value_in w.doc.now found))
+  pub ready : Ready w' s n
+  pub builder : builder_in w' s ≡ builder_in w s
+  pub same : Same w w'
+
+-- what opening an element asks: the state is kept, the tag stands in the document, its texts have room, and these names were noted
+pub record Opens (k : Keys) (w : Work) (s : State) (tag : Tag) : Type 0 where
+  pub ready : Ready w s (room tag)
+  pub tagged : Tagged w.doc.now tag.attributes tag.next
+  pub noted : NotedBy k w.doc.now tag.attributes tag.noted
 
 -- the names that the reader notes of an element
 abbrev pub keys_for : Element → Keys

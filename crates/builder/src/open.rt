@@ -1,628 +1,219 @@
 // What opening an element makes of the builder: one function for each element, and the dispatcher.
 //
-// Each `requires` is met by the driver: the state is kept, and the tag's texts have room. Each
-// promise is one equation with the definition of the same name in specs/Builder.antt.
-ghost use Rattle.std.specs.Prelude.{◌≡◌, List, [], ◌∷◌, ℕ, ◌+◌, ◌-◌, ◌≤◌, ◌<◌, length, get_or};
+// Each promise is one equation with the definition of the same name in specs/Builder.antt.
+#![tactic(auto, using(crate::proofs::Laws::opening))]
+
+ghost use Rattle.std.specs.Prelude.{◌≡◌};
 ghost use Rattle.texts.specs.Text.{piece};
-ghost use Rattle.tags.specs.Attributes.{raw_length};
-ghost use Rattle.saxlite.specs.Event.{value_in};
-ghost use Rattle.tags.specs.Noting.{NotedBy, schema_keys, type_keys, enum_keys, field_keys, keys_of};
-ghost use Rattle.model.specs.Schema.{item_at};
-ghost use Rattle.model.specs.Store.{item_of, schema_of};
-ghost use Rattle.builder.specs.Builder.{open_schema, open_type, open_ref, open_composite, open_enum, open_value, open_message, open_group, open_field, open_by, opened, plain_item, or_empty, attributes_in};
-ghost use Rattle.builder.specs.Layout.{in_composite, builder_of, model_in, recurrent, Kept, Ready, Tagged, Steady, After, Added};
-ghost use Rattle.builder.specs.Taking.{type_item_of, type_length, keys_for};
+ghost use Rattle.tags.specs.Noting.{schema_keys, type_keys, enum_keys, field_keys};
+ghost use Rattle.builder.specs.Builder.{open_schema, open_type, open_ref, open_composite, open_enum, open_value, open_message, open_group, open_field, open_by, opened, attributes_in};
+ghost use Rattle.builder.specs.Layout.{builder_in, parent_composite, room, Ready, IsTag, After};
+ghost use Rattle.builder.specs.Taking.{attributes_of, keys_for, Opens};
 
-use crate::stack::{push, top_name};
-use crate::state::{Current, Limits, Place, State, Stepped, Verdict};
-use crate::take::{
-    enum_attributes, field_attributes, named_entry, read_number, schema_attributes, take_value,
-    type_attributes, type_entry, typed_entry,
-};
+use crate::state::{Current, Place, State};
+use crate::take::{Draft, take_value};
+use crate::work::{Tag, Work};
 use elements::{Element, element_at};
-use model::{Entry, Head, entry_at, put_entry};
+use model::Head;
 use refusals::Refusal;
-use tags::tag::{Noted, Notes};
-use texts::{Range, equal};
 
-fn refuse(s: State, r: Refusal) -> Stepped
-    ensures { result ≡ record { state = s; verdict = Verdict.Refused r } }
-{
-    Stepped {
-        state: s,
-        verdict: Verdict::Refused(r),
-    }
-}
-
-fn unchanged(s: State) -> Stepped
-    ensures { result ≡ record { state = s; verdict = Verdict.Fine } }
-{
-    Stepped {
-        state: s,
-        verdict: Verdict::Fine,
-    }
-}
-
-// The state that a step gave, with other things current.
-fn with_current(r: Stepped, composite: u32, enumer: u32, message: u32, group: u32) -> Stepped
-    ensures { result ≡ record { state = recurrent r.state composite enumer message group; verdict = r.verdict } }
-{
-    let place = r.state.place;
-    let head = r.state.head;
-    let verdict = r.verdict;
-    Stepped {
-        state: State {
-            place,
-            current: Current {
-                flag: r.state.current.flag,
-                composite,
-                enumer,
-                message,
-                group,
-            },
-            head,
-        },
-        verdict,
-    }
-}
-
-// An item whose entry is made: 35, or the entry at the end of the records.
-fn add(
-    s: State,
-    l: Limits,
-    place: usize,
-    e: Entry,
-    doc: &[u8],
-    rec: &mut [u32],
-    text: &[u8],
-) -> Stepped
-    requires { Kept s rec.old text.now × Steady s.place.low e.encoding text.now e × (s.place.low ≤ e.encoding) × (e.encoding ≤ s.place.high) × (l.items ≤ 1024) }
-    ensures { Added l place (item_of text.now e) s (s.place.high - e.encoding) doc.now rec.old text.now result rec.new text.now }
-{
-    let count = s.place.count;
-    if l.items <= count {
-        return refuse(s, Refusal::TooManyItems { place });
-    }
-    put_entry(rec, count, e);
-    let more = count + 1;
-    let high = e.encoding as usize;
-    let current = s.current;
-    let head = s.head;
-    Stepped {
-        state: State {
+impl<'d, 'a> Work<'d, 'a> {
+    fn open_schema(&mut self, s: State, tag: &Tag) -> Result<State, Refusal>
+        requires { Opens schema_keys self.old s tag.now }
+        ensures { After (open_schema tag.now.place (attributes_of self.old tag.now) (builder_in self.old s)) self.old s (room tag.now) self.new result }
+    {
+        let found = tag.found();
+        let id = self.number(s, tag, found.first)?;
+        let version = self.number(s, tag, found.second)?;
+        let package = take_value(self.doc, found.third, self.text, s.place.high);
+        Ok(State {
             place: Place {
-                depth: s.place.depth,
-                count: more,
-                low: s.place.low,
-                high,
-                start: s.place.start,
-            },
-            current,
-            head,
-        },
-        verdict: Verdict::Fine,
-    }
-}
-
-// ---- the elements
-
-// What opening an element asks: the state is kept, the tag stands in the document, and its texts
-// have room.
-
-fn open_schema(
-    s: State,
-    place: usize,
-    attributes: usize,
-    next: usize,
-    noted: Notes,
-    doc: &[u8],
-    rec: &[u32],
-    text: &mut [u8],
-) -> Stepped
-    requires { Ready s (next - attributes) rec.now text.old × Tagged doc.now attributes next × NotedBy schema_keys doc.now attributes noted }
-    ensures { After (open_schema place (attributes_in doc.now attributes) (builder_of s doc.now rec.now text.old)) s (next - attributes) doc.now result rec.now text.new }
-{
-    let tag = schema_attributes(doc, attributes, noted);
-    let id_found = tag.first;
-    let version_found = tag.second;
-    let package_found = tag.third;
-    let low = s.place.low;
-    let Some(id) = read_number(doc, id_found, text, low) else {
-        return refuse(s, Refusal::BadNumber { place });
-    };
-    let Some(version) = read_number(doc, version_found, text, low) else {
-        return refuse(s, Refusal::BadNumber { place });
-    };
-    let package = take_value(doc, package_found, text, s.place.high);
-    let name = package.from as u32;
-    let len = package.len as u32;
-    let current = s.current;
-    Stepped {
-        state: State {
-            place: Place {
-                depth: s.place.depth,
-                count: s.place.count,
-                low,
                 high: package.from,
-                start: s.place.start,
+                ..s.place
             },
-            current,
             head: Head {
-                name,
-                len,
+                name: package.from as u32,
+                len: package.len as u32,
                 id,
                 version,
             },
-        },
-        verdict: Verdict::Fine,
+            ..s
+        })
     }
-}
 
-// A type or a member of the owner, of what `type_attributes` found.
-fn add_type(
-    s: State,
-    l: Limits,
-    place: usize,
-    kind: u32,
-    owner: u32,
-    size: u32,
-    tag: Noted,
-    doc: &[u8],
-    rec: &mut [u32],
-    text: &mut [u8],
-) -> Stepped
-    requires { Ready s (type_length tag) rec.old text.old × (l.items ≤ 1024) }
-    ensures { Added l place (type_item_of kind owner size tag doc.now) s (type_length tag) doc.now rec.old text.old result rec.new text.new }
-{
-    let e = type_entry(kind, owner, size, tag, doc, text, s.place.high);
-    add(s, l, place, e, doc, rec, text)
-}
-
-// Whether the parent's name is composite. The tag's own name is pushed by then, so the parent's is one below the top.
-fn in_composite(depth: usize, doc: &[u8], rec: &[u32]) -> bool
-    requires { (0 < depth) × (depth ≤ 64) }
-    ensures { result ≡ in_composite depth rec.now doc.now }
-{
-    equal(top_name(depth - 1, doc, rec), b"composite")
-}
-
-fn open_type(
-    s: State,
-    l: Limits,
-    place: usize,
-    attributes: usize,
-    next: usize,
-    noted: Notes,
-    doc: &[u8],
-    rec: &mut [u32],
-    text: &mut [u8],
-) -> Stepped
-    requires { Ready s (next - attributes) rec.old text.old × Tagged doc.now attributes next × (l.items ≤ 1024) × NotedBy type_keys doc.now attributes noted × (0 < s.place.depth) }
-    ensures { After (open_type l place (in_composite s.place.depth rec.old doc.now) (attributes_in doc.now attributes) (builder_of s doc.now rec.old text.old)) s (next - attributes) doc.now result rec.new text.new }
-{
-    let tag = type_attributes(doc, attributes, noted);
-    let length = tag.first;
-    let Some(size) = read_number(doc, length, text, s.place.low) else {
-        return refuse(s, Refusal::BadNumber { place });
-    };
-    if in_composite(s.place.depth, doc, rec) {
-        let composite = s.current.composite;
-        if composite == 0 {
-            return unchanged(s);
-        }
-        return add_type(
-            s,
-            l,
-            place,
-            model::MEMBER,
-            composite - 1,
-            size,
-            tag,
-            doc,
-            rec,
-            text,
-        );
-    }
-    add_type(s, l, place, model::TYPE, 0, size, tag, doc, rec, text)
-}
-
-// An item with a name and a second text.
-fn add_typed(
-    s: State,
-    l: Limits,
-    place: usize,
-    kind: u32,
-    owner: u32,
-    id: u32,
-    name: Option<Range>,
-    second: Option<Range>,
-    doc: &[u8],
-    rec: &mut [u32],
-    text: &mut [u8],
-) -> Stepped
-    requires { Ready s (raw_length name + raw_length second) rec.old text.old × (l.items ≤ 1024) }
-    ensures { Added l place (plain_item kind owner (or_empty (value_in doc.now name)) (or_empty (value_in doc.now second)) id) s (raw_length name + raw_length second) doc.now rec.old text.old result rec.new text.new }
-{
-    let e = typed_entry(kind, owner, id, name, second, doc, text, s.place.high);
-    add(s, l, place, e, doc, rec, text)
-}
-
-// An item with a name.
-fn add_named(
-    s: State,
-    l: Limits,
-    place: usize,
-    kind: u32,
-    owner: u32,
-    id: u32,
-    name: Option<Range>,
-    doc: &[u8],
-    rec: &mut [u32],
-    text: &mut [u8],
-) -> Stepped
-    requires { Ready s (raw_length name) rec.old text.old × (l.items ≤ 1024) }
-    ensures { Added l place (plain_item kind owner (or_empty (value_in doc.now name)) [] id) s (raw_length name) doc.now rec.old text.old result rec.new text.new }
-{
-    let e = named_entry(kind, owner, id, name, doc, text, s.place.high);
-    add(s, l, place, e, doc, rec, text)
-}
-
-fn open_ref(
-    s: State,
-    l: Limits,
-    place: usize,
-    attributes: usize,
-    next: usize,
-    noted: Notes,
-    doc: &[u8],
-    rec: &mut [u32],
-    text: &mut [u8],
-) -> Stepped
-    requires { Ready s (next - attributes) rec.old text.old × Tagged doc.now attributes next × (l.items ≤ 1024) × NotedBy field_keys doc.now attributes noted }
-    ensures { After (open_ref l place (attributes_in doc.now attributes) (builder_of s doc.now rec.old text.old)) s (next - attributes) doc.now result rec.new text.new }
-{
-    let composite = s.current.composite;
-    if composite == 0 {
-        return unchanged(s);
-    }
-    let tag = field_attributes(doc, attributes, noted);
-    let name = tag.second;
-    let type_found = tag.third;
-    add_typed(
-        s,
-        l,
-        place,
-        model::REF,
-        composite - 1,
-        0,
-        name,
-        type_found,
-        doc,
-        rec,
-        text,
-    )
-}
-
-fn open_composite(
-    s: State,
-    l: Limits,
-    place: usize,
-    attributes: usize,
-    next: usize,
-    noted: Notes,
-    doc: &[u8],
-    rec: &mut [u32],
-    text: &mut [u8],
-) -> Stepped
-    requires { Ready s (next - attributes) rec.old text.old × Tagged doc.now attributes next × (l.items ≤ 1024) × NotedBy field_keys doc.now attributes noted }
-    ensures { After (open_composite l place (attributes_in doc.now attributes) (builder_of s doc.now rec.old text.old)) s (next - attributes) doc.now result rec.new text.new }
-{
-    let tag = field_attributes(doc, attributes, noted);
-    let name = tag.second;
-    let r = add_named(s, l, place, model::COMPOSITE, 0, 0, name, doc, rec, text);
-    let count = r.state.place.count;
-    let c = r.state.current;
-    with_current(r, count, c.enumer, c.message, c.group)
-}
-
-fn open_enum(
-    s: State,
-    l: Limits,
-    place: usize,
-    attributes: usize,
-    next: usize,
-    noted: Notes,
-    doc: &[u8],
-    rec: &mut [u32],
-    text: &mut [u8],
-) -> Stepped
-    requires { Ready s (next - attributes) rec.old text.old × Tagged doc.now attributes next × (l.items ≤ 1024) × NotedBy enum_keys doc.now attributes noted }
-    ensures { After (open_enum l place (attributes_in doc.now attributes) (builder_of s doc.now rec.old text.old)) s (next - attributes) doc.now result rec.new text.new }
-{
-    let tag = enum_attributes(doc, attributes, noted);
-    let name = tag.first;
-    let encoding = tag.second;
-    let r = add_typed(
-        s,
-        l,
-        place,
-        model::ENUM,
-        0,
-        0,
-        name,
-        encoding,
-        doc,
-        rec,
-        text,
-    );
-    let count = r.state.place.count;
-    let c = r.state.current;
-    with_current(r, c.composite, count, c.message, c.group)
-}
-
-// The collected text is emptied; with a current enum the value is added and text is collected.
-fn open_value(
-    s: State,
-    l: Limits,
-    place: usize,
-    attributes: usize,
-    next: usize,
-    noted: Notes,
-    doc: &[u8],
-    rec: &mut [u32],
-    text: &mut [u8],
-) -> Stepped
-    requires { Ready s (next - attributes) rec.old text.old × Tagged doc.now attributes next × (l.items ≤ 1024) × NotedBy field_keys doc.now attributes noted }
-    ensures { After (open_value l place (attributes_in doc.now attributes) (builder_of s doc.now rec.old text.old)) s (next - attributes) doc.now result rec.new text.new }
-{
-    let enumer = s.current.enumer;
-    if enumer == 0 {
-        let current = s.current;
-        let head = s.head;
-        return Stepped {
-            state: State {
-                place: Place {
-                    depth: s.place.depth,
-                    count: s.place.count,
-                    low: s.place.low,
-                    high: s.place.high,
-                    start: s.place.low,
-                },
-                current,
-                head,
-            },
-            verdict: Verdict::Fine,
+    fn open_type(&mut self, s: State, tag: &Tag) -> Result<State, Refusal>
+        requires { Opens type_keys self.old s tag.now }
+        ensures { After (open_type self.old.limits tag.now.place (parent_composite (builder_in self.old s)) (attributes_of self.old tag.now) (builder_in self.old s)) self.old s (room tag.now) self.new result }
+    {
+        let found = tag.found();
+        let number = self.number(s, tag, found.first)?;
+        let d = Draft {
+            kind: model::TYPE,
+            owner: 0,
+            number,
+            given: found.first,
+            name: found.second,
+            second: found.third,
+            encoding: found.fourth,
         };
+        if !self.in_composite(s) {
+            return self.add(s, tag, d);
+        }
+        let Some(owner) = s.current.composite else {
+            return Ok(s);
+        };
+        let kind = model::MEMBER;
+        self.add(s, tag, Draft { kind, owner, ..d })
     }
-    let tag = field_attributes(doc, attributes, noted);
-    let name = tag.second;
-    let r = add_named(
-        s,
-        l,
-        place,
-        model::VALUE,
-        enumer - 1,
-        0,
-        name,
-        doc,
-        rec,
-        text,
-    );
-    let t = r.state;
-    let head = t.head;
-    let verdict = r.verdict;
-    Stepped {
-        state: State {
-            place: Place {
-                depth: t.place.depth,
-                count: t.place.count,
-                low: t.place.low,
-                high: t.place.high,
-                start: t.place.low,
+
+    fn open_ref(&mut self, s: State, tag: &Tag) -> Result<State, Refusal>
+        requires { Opens field_keys self.old s tag.now }
+        ensures { After (open_ref self.old.limits tag.now.place (attributes_of self.old tag.now) (builder_in self.old s)) self.old s (room tag.now) self.new result }
+    {
+        let Some(owner) = s.current.composite else {
+            return Ok(s);
+        };
+        let found = tag.found();
+        let d = Draft::new(model::REF, owner, 0, found.second, found.third);
+        self.add(s, tag, d)
+    }
+
+    fn open_composite(&mut self, s: State, tag: &Tag) -> Result<State, Refusal>
+        requires { Opens field_keys self.old s tag.now }
+        ensures { After (open_composite self.old.limits tag.now.place (attributes_of self.old tag.now) (builder_in self.old s)) self.old s (room tag.now) self.new result }
+    {
+        let found = tag.found();
+        let d = Draft::new(model::COMPOSITE, 0, 0, found.second, None);
+        let current = Current {
+            composite: Some(s.place.count),
+            ..s.current
+        };
+        self.add(State { current, ..s }, tag, d)
+    }
+
+    fn open_enum(&mut self, s: State, tag: &Tag) -> Result<State, Refusal>
+        requires { Opens enum_keys self.old s tag.now }
+        ensures { After (open_enum self.old.limits tag.now.place (attributes_of self.old tag.now) (builder_in self.old s)) self.old s (room tag.now) self.new result }
+    {
+        let found = tag.found();
+        let d = Draft::new(model::ENUM, 0, 0, found.first, found.second);
+        let current = Current {
+            enumer: Some(s.place.count),
+            ..s.current
+        };
+        self.add(State { current, ..s }, tag, d)
+    }
+
+    // The collected text is emptied; with a current enum the value is added and text is collected.
+    fn open_value(&mut self, s: State, tag: &Tag) -> Result<State, Refusal>
+        requires { Opens field_keys self.old s tag.now }
+        ensures { After (open_value self.old.limits tag.now.place (attributes_of self.old tag.now) (builder_in self.old s)) self.old s (room tag.now) self.new result }
+    {
+        let place = Place {
+            start: s.place.low,
+            ..s.place
+        };
+        let Some(owner) = s.current.enumer else {
+            return Ok(State { place, ..s });
+        };
+        let found = tag.found();
+        let d = Draft::new(model::VALUE, owner, 0, found.second, None);
+        let current = Current {
+            collecting: true,
+            ..s.current
+        };
+        self.add(
+            State {
+                place,
+                current,
+                ..s
             },
-            current: Current {
-                flag: true,
-                composite: t.current.composite,
-                enumer: t.current.enumer,
-                message: t.current.message,
-                group: t.current.group,
-            },
-            head,
-        },
-        verdict,
+            tag,
+            d,
+        )
     }
-}
 
-fn open_message(
-    s: State,
-    l: Limits,
-    place: usize,
-    attributes: usize,
-    next: usize,
-    noted: Notes,
-    doc: &[u8],
-    rec: &mut [u32],
-    text: &mut [u8],
-) -> Stepped
-    requires { Ready s (next - attributes) rec.old text.old × Tagged doc.now attributes next × (l.items ≤ 1024) × NotedBy field_keys doc.now attributes noted }
-    ensures { After (open_message l place (attributes_in doc.now attributes) (builder_of s doc.now rec.old text.old)) s (next - attributes) doc.now result rec.new text.new }
-{
-    let tag = field_attributes(doc, attributes, noted);
-    let id_found = tag.first;
-    let name = tag.second;
-    let Some(id) = read_number(doc, id_found, text, s.place.low) else {
-        return refuse(s, Refusal::BadNumber { place });
-    };
-    let r = add_named(s, l, place, model::MESSAGE, 0, id, name, doc, rec, text);
-    let count = r.state.place.count;
-    let c = r.state.current;
-    with_current(r, c.composite, c.enumer, count, c.group)
-}
+    fn open_message(&mut self, s: State, tag: &Tag) -> Result<State, Refusal>
+        requires { Opens field_keys self.old s tag.now }
+        ensures { After (open_message self.old.limits tag.now.place (attributes_of self.old tag.now) (builder_in self.old s)) self.old s (room tag.now) self.new result }
+    {
+        let found = tag.found();
+        let id = self.number(s, tag, found.first)?;
+        let d = Draft::new(model::MESSAGE, 0, id, found.second, None);
+        let current = Current {
+            message: Some(s.place.count),
+            ..s.current
+        };
+        self.add(State { current, ..s }, tag, d)
+    }
 
-// Without a message only the id is read.
-fn open_group(
-    s: State,
-    l: Limits,
-    place: usize,
-    attributes: usize,
-    next: usize,
-    noted: Notes,
-    doc: &[u8],
-    rec: &mut [u32],
-    text: &mut [u8],
-) -> Stepped
-    requires { Ready s (next - attributes) rec.old text.old × Tagged doc.now attributes next × (l.items ≤ 1024) × NotedBy field_keys doc.now attributes noted }
-    ensures { After (open_group l place (attributes_in doc.now attributes) (builder_of s doc.now rec.old text.old)) s (next - attributes) doc.now result rec.new text.new }
-{
-    let tag = field_attributes(doc, attributes, noted);
-    let id_found = tag.first;
-    let name = tag.second;
-    let Some(id) = read_number(doc, id_found, text, s.place.low) else {
-        return refuse(s, Refusal::BadNumber { place });
-    };
-    let message = s.current.message;
-    if message == 0 {
-        return unchanged(s);
+    // Without a message only the id is read.
+    fn open_group(&mut self, s: State, tag: &Tag) -> Result<State, Refusal>
+        requires { Opens field_keys self.old s tag.now }
+        ensures { After (open_group self.old.limits tag.now.place (attributes_of self.old tag.now) (builder_in self.old s)) self.old s (room tag.now) self.new result }
+    {
+        let found = tag.found();
+        let id = self.number(s, tag, found.first)?;
+        let Some(owner) = s.current.message else {
+            return Ok(s);
+        };
+        let d = Draft::new(model::GROUP, owner, id, found.second, None);
+        let current = Current {
+            group: Some(s.place.count),
+            ..s.current
+        };
+        self.add(State { current, ..s }, tag, d)
     }
-    let r = add_named(
-        s,
-        l,
-        place,
-        model::GROUP,
-        message - 1,
-        id,
-        name,
-        doc,
-        rec,
-        text,
-    );
-    let count = r.state.place.count;
-    let c = r.state.current;
-    with_current(r, c.composite, c.enumer, c.message, count)
-}
 
-// 33 where the current group was opened under another message.
-fn open_field(
-    s: State,
-    l: Limits,
-    place: usize,
-    attributes: usize,
-    next: usize,
-    noted: Notes,
-    doc: &[u8],
-    rec: &mut [u32],
-    text: &mut [u8],
-) -> Stepped
-    requires { Ready s (next - attributes) rec.old text.old × Tagged doc.now attributes next × (l.items ≤ 1024) × NotedBy field_keys doc.now attributes noted }
-    ensures { After (open_field l place (attributes_in doc.now attributes) (builder_of s doc.now rec.old text.old)) s (next - attributes) doc.now result rec.new text.new }
-{
-    let tag = field_attributes(doc, attributes, noted);
-    let id_found = tag.first;
-    let name = tag.second;
-    let type_found = tag.third;
-    let Some(id) = read_number(doc, id_found, text, s.place.low) else {
-        return refuse(s, Refusal::BadNumber { place });
-    };
-    let message = s.current.message;
-    if message == 0 {
-        return unchanged(s);
+    // 33 where the current group was opened under another message.
+    fn open_field(&mut self, s: State, tag: &Tag) -> Result<State, Refusal>
+        requires { Opens field_keys self.old s tag.now }
+        ensures { After (open_field self.old.limits tag.now.place (attributes_of self.old tag.now) (builder_in self.old s)) self.old s (room tag.now) self.new result }
+    {
+        let found = tag.found();
+        let id = self.number(s, tag, found.first)?;
+        let Some(message) = s.current.message else {
+            return Ok(s);
+        };
+        let Some(group) = s.current.group else {
+            let d = Draft::new(model::FIELD, message, id, found.second, found.third);
+            return self.add(s, tag, d);
+        };
+        let ours = self.owner_of(s, group) == message;
+        if !ours {
+            return Err(Refusal::MisplacedField { place: tag.place });
+        }
+        let d = Draft::new(model::FIELD, group, id, found.second, found.third);
+        self.add(s, tag, d)
     }
-    let group = s.current.group;
-    if group == 0 {
-        return add_typed(
-            s,
-            l,
-            place,
-            model::FIELD,
-            message - 1,
-            id,
-            name,
-            type_found,
-            doc,
-            rec,
-            text,
-        );
-    }
-    let ours = owner_of(s, group - 1, rec) == message - 1;
-    if ours {
-        return add_typed(
-            s,
-            l,
-            place,
-            model::FIELD,
-            group - 1,
-            id,
-            name,
-            type_found,
-            doc,
-            rec,
-            text,
-        );
-    }
-    refuse(s, Refusal::MisplacedField { place })
-}
 
-// The owner of an item of the state.
-fn owner_of(s: State, i: u32, rec: &[u32]) -> u32
-    ensures { (text : List ℕ) → result ≡ (item_at (schema_of (model_in s) rec.now text) i).owner }
-{
-    if i < s.place.count {
-        let e = entry_at(rec, i);
-        return e.owner;
+    fn open_by(&mut self, s: State, e: Element, tag: &Tag) -> Result<State, Refusal>
+        requires { Opens (keys_for e) self.old s tag.now }
+        ensures { After (open_by e self.old.limits tag.now.place (parent_composite (builder_in self.old s)) (attributes_of self.old tag.now) (builder_in self.old s)) self.old s (room tag.now) self.new result }
+    {
+        match e {
+            Element::MessageSchema => self.open_schema(s, tag),
+            Element::Type => self.open_type(s, tag),
+            Element::Ref => self.open_ref(s, tag),
+            Element::Composite => self.open_composite(s, tag),
+            Element::Enum => self.open_enum(s, tag),
+            Element::ValidValue => self.open_value(s, tag),
+            Element::Message => self.open_message(s, tag),
+            Element::Group => self.open_group(s, tag),
+            Element::Field => self.open_field(s, tag),
+            Element::Other => Ok(s),
+        }
     }
-    0
-}
 
-fn open_by(
-    s: State,
-    e: Element,
-    l: Limits,
-    place: usize,
-    attributes: usize,
-    next: usize,
-    noted: Notes,
-    doc: &[u8],
-    rec: &mut [u32],
-    text: &mut [u8],
-) -> Stepped
-    requires { Ready s (next - attributes) rec.old text.old × Tagged doc.now attributes next × (l.items ≤ 1024) × NotedBy (keys_for e) doc.now attributes noted × (0 < s.place.depth) }
-    ensures { After (open_by e l place (in_composite s.place.depth rec.old doc.now) (attributes_in doc.now attributes) (builder_of s doc.now rec.old text.old)) s (next - attributes) doc.now result rec.new text.new }
-{
-    match e {
-        Element::MessageSchema => open_schema(s, place, attributes, next, noted, doc, rec, text),
-        Element::Type => open_type(s, l, place, attributes, next, noted, doc, rec, text),
-        Element::Ref => open_ref(s, l, place, attributes, next, noted, doc, rec, text),
-        Element::Composite => open_composite(s, l, place, attributes, next, noted, doc, rec, text),
-        Element::Enum => open_enum(s, l, place, attributes, next, noted, doc, rec, text),
-        Element::ValidValue => open_value(s, l, place, attributes, next, noted, doc, rec, text),
-        Element::Message => open_message(s, l, place, attributes, next, noted, doc, rec, text),
-        Element::Group => open_group(s, l, place, attributes, next, noted, doc, rec, text),
-        Element::Field => open_field(s, l, place, attributes, next, noted, doc, rec, text),
-        Element::Other => unchanged(s),
+    pub fn on_open(&mut self, s: State, tag: Tag) -> Result<State, Refusal>
+        requires { Ready self.old s (room tag) × IsTag self.old.doc.now tag }
+        ensures { After (opened self.old.limits tag.place (piece self.old.doc.now tag.name tag.len) (attributes_in self.old.doc.now tag.attributes) (builder_in self.old s)) self.old s (room tag) self.new result }
+    {
+        if self.limits.depth <= s.place.depth {
+            return Err(Refusal::TooDeep { place: tag.place });
+        }
+        let e = element_at(self.doc, tag.name, tag.len);
+        let inner = self.push(s, tag.name, tag.len);
+        self.open_by(inner, e, &tag)
     }
-}
-
-pub fn on_open(
-    s: State,
-    l: Limits,
-    place: usize,
-    name: usize,
-    len: usize,
-    attributes: usize,
-    next: usize,
-    noted: Notes,
-    doc: &[u8],
-    rec: &mut [u32],
-    text: &mut [u8],
-) -> Stepped
-    requires { Ready s (next - attributes) rec.old text.old × Tagged doc.now attributes next × (l.items ≤ 1024) × (l.depth ≤ 64) × (name + len ≤ 32768) × NotedBy (keys_of (piece doc.now name len)) doc.now attributes noted }
-    ensures { After (opened l place (piece doc.now name len) (attributes_in doc.now attributes) (builder_of s doc.now rec.old text.old)) s (next - attributes) doc.now result rec.new text.new }
-{
-    let depth = s.place.depth;
-    if l.depth <= depth {
-        return refuse(s, Refusal::TooDeep { place });
-    }
-    let e = element_at(doc, name, len);
-    let p = push(s, name, len, rec);
-    open_by(p, e, l, place, attributes, next, noted, doc, rec, text)
 }

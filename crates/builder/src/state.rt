@@ -1,8 +1,8 @@
 // The builder's state by value. What lies in the buffers is told by specs/Layout.antt.
-ghost use Rattle.std.specs.Prelude.{◌≡◌, List, ℕ};
+ghost use Rattle.std.specs.Prelude.{◌≡◌};
+ghost use Rattle.builder.specs.Layout.{first, higher, model_in};
 
-use model::Head;
-use refusals::Refusal;
+use model::{Head, Model};
 
 // How many items there may be, and how many elements may be open.
 #[derive(Clone, Copy)]
@@ -22,14 +22,14 @@ pub struct Place {
     pub start: usize,
 }
 
-// Whether text is collected, and what is current: 1 + its position, and 0 where there is none.
+// Whether text is collected, and what is current, by its position.
 #[derive(Clone, Copy)]
 pub struct Current {
-    pub flag: bool,
-    pub composite: u32,
-    pub enumer: u32,
-    pub message: u32,
-    pub group: u32,
+    pub collecting: bool,
+    pub composite: Option<u32>,
+    pub enumer: Option<u32>,
+    pub message: Option<u32>,
+    pub group: Option<u32>,
 }
 
 #[derive(Clone, Copy)]
@@ -39,14 +39,68 @@ pub struct State {
     pub head: Head,
 }
 
-#[derive(Clone, Copy)]
-pub enum Verdict {
-    Fine,
-    Refused(Refusal),
-}
+impl State {
+    // Before the first event.
+    pub fn new() -> State
+        ensures { result ≡ first }
+    {
+        State {
+            place: Place {
+                depth: 0,
+                count: 0,
+                low: 0,
+                high: 65536,
+                start: 0,
+            },
+            current: Current {
+                collecting: false,
+                composite: None,
+                enumer: None,
+                message: None,
+                group: None,
+            },
+            head: Head {
+                name: 0,
+                len: 0,
+                id: 0,
+                version: 0,
+            },
+        }
+    }
 
-#[derive(Clone, Copy)]
-pub struct Stepped {
-    pub state: State,
-    pub verdict: Verdict,
+    pub fn is_collecting(self) -> bool
+        ensures { result ≡ self.current.collecting }
+    {
+        self.current.collecting
+    }
+
+    // How many elements are open.
+    pub fn depth(self) -> usize
+        ensures { result ≡ self.place.depth }
+    {
+        self.place.depth
+    }
+
+    // The schema so far, in the two buffers.
+    pub fn model(self) -> Model
+        ensures { result ≡ model_in self }
+    {
+        Model {
+            head: self.head,
+            count: self.place.count,
+        }
+    }
+
+    // With the innermost name popped.
+    pub(crate) fn popped(self) -> State
+        ensures { result ≡ higher self }
+    {
+        State {
+            place: Place {
+                depth: self.place.depth.saturating_sub(1),
+                ..self.place
+            },
+            ..self
+        }
+    }
 }

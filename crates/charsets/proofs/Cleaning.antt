@@ -37,26 +37,13 @@ both : (a b : Bool) → (a && b) ≡ true → (a ≡ true) × (b ≡ true)
 both true b t = (refl, t)
 both false b t = cc
 
-module _ (s : List ℕ) (i : ℕ) (h : i + 8 ≤ length s) where
-  next : (k : ℕ) → k < 8 → {m : Bool} → m ≡ is_punctuation (get_or s (i + k) 0) → m ≡ true → cleaned (drop (i + suc k) s) ≡ cleaned (drop (i + k) s)
-  next k l e t =
-      let z : i + k + 1 ≡ i + suc k = omega arith in
-      rw z at (clean-on s (i + k) (omega arith) (sym e ∙ t))
-
-  pub eight-passed : {a b c d e f g j : Bool}
-      → a ≡ is_punctuation (get_or s i 0) → b ≡ is_punctuation (get_or s (i + 1) 0) → c ≡ is_punctuation (get_or s (i + 2) 0) → d ≡ is_punctuation (get_or s (i + 3) 0)
-      → e ≡ is_punctuation (get_or s (i + 4) 0) → f ≡ is_punctuation (get_or s (i + 5) 0) → g ≡ is_punctuation (get_or s (i + 6) 0) → j ≡ is_punctuation (get_or s (i + 7) 0)
-      → ((((a && b) && (c && d)) && (e && f)) && (g && j)) ≡ true → cleaned (drop (i + 8) s) ≡ cleaned (drop i s)
-  eight-passed {a} {b} {c} {d} {e} {f} {g} {j} pa pb pc pd pe pf pg pj all =
-      let most = both (((a && b) && (c && d)) && (e && f)) (g && j) all in
-      let more = both ((a && b) && (c && d)) (e && f) most.0 in
-      let some = both (a && b) (c && d) more.0 in
-      let ab = both a b some.0 in
-      let cd = both c d some.1 in
-      let ef = both e f more.1 in
-      let gj = both g j most.1 in
-      next 7 (omega arith) pj gj.1 ∙ next 6 (omega arith) pg gj.0 ∙ next 5 (omega arith) pf ef.1 ∙ next 4 (omega arith) pe ef.0
-      ∙ next 3 (omega arith) pd cd.1 ∙ next 2 (omega arith) pc cd.0 ∙ next 1 (omega arith) pb ab.1 ∙ clean-on s i (omega arith) (sym pa ∙ ab.0)
+-- k bytes are punctuation where a says so, and one more where b does
+pub run-on : (s : List ℕ) (i k : ℕ) → i + k < length s → (a : Bool) {b : Bool} → (a ≡ true → cleaned (drop (i + k) s) ≡ cleaned (drop i s)) → b ≡ is_punctuation (get_or s (i + k) 0)
+    → (a && b) ≡ true → cleaned (drop (i + (k + 1)) s) ≡ cleaned (drop i s)
+run-on s i k h a {b} p e t =
+    let z : i + k + 1 ≡ i + (k + 1) = omega arith in
+    let q = both a b t in
+    rw z at (clean-on s (i + k) h (sym e ∙ q.1)) ∙ p q.0
 
 pub passed_start : {s : List ℕ} {from : ℕ} → from ≤ length s → Passed s from from
 passed_start h = record { rest = refl; within = h; on = omega arith }

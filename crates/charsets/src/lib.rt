@@ -3,7 +3,7 @@
 // `is_compatible` promises `compatible` of specs/Charset.antt for every text: trimmed and cleaned, it is
 // empty or one of 13 names. The text is cleaned once, into an array that the longest name fits in: one
 // letter more, and it is none of them.
-#![tactic(auto)]
+#![tactic(auto, using(crate::proofs::Laws::laws))]
 
 ghost use Rattle.std.specs.Prelude.{◌≡◌, true, ◌+◌, ◌≤◌, length, drop};
 ghost use Rattle.texts.specs.Lists.{among};
@@ -11,7 +11,6 @@ ghost use Rattle.charsets.specs.Charset.{is_punctuation, cleaned, charsets, comp
 ghost use Rattle.charsets.specs.Names.{is_name};
 ghost use Rattle.charsets.specs.Letters.{Passed, Letters};
 
-use classes::Classes;
 use conversions::convert::lower;
 use texts::{equal, part, trim};
 
@@ -33,15 +32,15 @@ fn is_punctuation_eight(s: &[u8], i: usize) -> bool
     requires { i + 8 ≤ length s.now }
     ensures { result ≡ true → cleaned (drop (i + 8) s.now) ≡ cleaned (drop i s.now) }
 {
-    let a = is_punctuation(s[i]) & is_punctuation(s[i + 1]);
-    let b = is_punctuation(s[i + 2]) & is_punctuation(s[i + 3]);
-    let c = is_punctuation(s[i + 4]) & is_punctuation(s[i + 5]);
-    let d = is_punctuation(s[i + 6]) & is_punctuation(s[i + 7]);
-    a & b & c & d
+    let mut all = true;
+    for k in 0..8 {
+        all &= is_punctuation(s[i + k]);
+    }
+    all
 }
 
 // Passes punctuation from `from` on, eight bytes at once.
-// kept: a `while`, since its steps are of eight bytes and not of one.
+// kept: a `while`, since its steps are of eight bytes; and a place beside the text, since `clean` goes on from it.
 fn past_eights(s: &[u8], from: usize) -> usize
     requires { from ≤ length s.now }
     ensures { Passed s.now from result }
@@ -60,7 +59,7 @@ fn past_eights(s: &[u8], from: usize) -> usize
 
 // Puts the letters of the cleaned text into `out`, and gives their number, where there are no more than 13.
 // kept: a `while`, since punctuation is passed eight bytes at once.
-fn clean(out: &mut [u8], s: &[u8], classes: &Classes) -> Option<usize>
+fn clean(out: &mut [u8], s: &[u8]) -> Option<usize>
     requires { 13 ≤ length out.old }
     ensures { Letters s.now out.new result }
 {
@@ -73,7 +72,7 @@ fn clean(out: &mut [u8], s: &[u8], classes: &Classes) -> Option<usize>
             if LONGEST <= n {
                 return None;
             }
-            out[n] = lower(classes, s[i]);
+            out[n] = lower(s[i]);
             i += 1;
             n += 1;
         }
@@ -142,7 +141,7 @@ pub fn is_compatible(encoding: &[u8]) -> bool
     ensures { result ≡ compatible encoding.now }
 {
     let mut letters = [0u8; 16];
-    let Some(n) = clean(&mut letters, trim(encoding), &Classes::new()) else {
+    let Some(n) = clean(&mut letters, trim(encoding)) else {
         return false;
     };
     is_name(part(&letters, 0, n))

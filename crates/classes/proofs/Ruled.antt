@@ -5,10 +5,10 @@ use lib.Dec.{eqb, ltb}
 use lib.ListN.{get_or}
 use Rattle.texts.specs.Choice.{◌or◌}
 use Rattle.classes.specs.Class.{is_space, is_tag_name_end, is_attribute_name_end, is_upper, is_lower}
-use Rattle.classes.specs.Table.{is_name_stop, ClassOf, IsTable}
+use Rattle.classes.specs.Table.{is_name_stop, ClassOf}
 use Rattle.classes.proofs.Rule.{agree}
 
-abbrev pub classes : List ℕ
+abbrev classes : List ℕ
 classes =
     6 ∷ 6 ∷ 6 ∷ 6 ∷ 6 ∷ 6 ∷ 6 ∷ 6 ∷ 6 ∷ 0 ∷ 0 ∷ 6 ∷ 6 ∷ 0 ∷ 6 ∷ 6 ∷
     6 ∷ 6 ∷ 6 ∷ 6 ∷ 6 ∷ 6 ∷ 6 ∷ 6 ∷ 6 ∷ 6 ∷ 6 ∷ 6 ∷ 6 ∷ 6 ∷ 6 ∷ 6 ∷
@@ -28,7 +28,7 @@ classes =
     6 ∷ 6 ∷ 6 ∷ 6 ∷ 6 ∷ 6 ∷ 6 ∷ 6 ∷ 6 ∷ 6 ∷ 6 ∷ 6 ∷ 6 ∷ 6 ∷ 6 ∷ 6 ∷
     []
 
-rule : (b : ℕ) → b < 256 → ClassOf b (get_or classes b 0)
+pub rule : (b : ℕ) → b < 256 → ClassOf b (get_or classes b 0)
 unfolding is_space is_tag_name_end is_name_stop is_attribute_name_end is_upper is_lower
 rule b h =
     record {
@@ -39,6 +39,3 @@ rule b h =
       upper = agree (λ k. eqb k 4) is_upper classes tt b h;
       lower = agree (λ k. eqb k 5) is_lower classes tt b h;
     }
-
-pub ruled : IsTable classes
-ruled = record { rule = rule }

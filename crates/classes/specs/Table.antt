@@ -1,6 +1,5 @@
--- What a class number says of its byte, and a table of such numbers. The crates above hand such a table on, and cite `is_name_stop`, and else
--- specs/Class.antt alone.
-use Rattle.std.specs.Prelude.{◌≡◌, Bool, List, ℕ, ◌<◌, eqb, ltb, get_or}
+-- What a class number says of its byte. The crates above cite `is_name_stop`, and else specs/Class.antt alone.
+use Rattle.std.specs.Prelude.{◌≡◌, Bool, ℕ, eqb, ltb}
 use Rattle.texts.specs.Choice.{◌or◌}
 use Rattle.classes.specs.Class.{is_space, is_tag_name_end, is_attribute_name_end, is_upper, is_lower}
 
@@ -16,7 +15,3 @@ pub record ClassOf (b k : ℕ) : Type 0 where
   pub attribute_name_end : ltb k 4 ≡ is_attribute_name_end b or eqb b 58
   pub upper : eqb k 4 ≡ is_upper b
   pub lower : eqb k 5 ≡ is_lower b
-
--- t has the class number of every byte
-pub record IsTable (t : List ℕ) : Type 0 where
-  pub rule : (b : ℕ) → b < 256 → ClassOf b (get_or t b 0)

@@ -1,15 +1,19 @@
 -- Laws of raising and lowering: t is what the class test says of b.
-use mathlib.Core.Path.{◌≡◌, sym, ◌∙◌}
+use mathlib.Core.Path.{◌≡◌, refl, sym, ◌∙◌}
+use mathlib.Core.List.{List}
 use mathlib.Core.Bool.{Bool, true, false}
-use Prim.Native.Nat.{ℕ, ◌+◌, ◌-◌, ◌≤◌}
+use Prim.Native.Nat.{ℕ, ◌+◌, ◌-◌, ◌≤◌, ◌<◌}
 use native.Mathlib.Omega.{arith}
-use lib.Dec.{leb}
+use lib.Dec.{leb, ltb}
+use lib.ListN.{get_or}
+use Rattle.texts.specs.Choice.{◌and◌}
 use mir.Val.{Fits}
 use mir.Syntax.{w8}
 use borrow.Author.Tests.{leb-true}
-use Rattle.texts.proofs.Choosing.{both_true, pick_yes, pick_no}
+use Rattle.texts.proofs.Choosing.{by-test, both_true, pick_yes, pick_no}
 use Rattle.classes.specs.Class.{is_upper, is_lower}
 use Rattle.conversions.specs.Letters.{lowered, raised}
+use Rattle.conversions.specs.Conversions.{breaks_screaming}
 
 module _ (b : ℕ) {t : Bool} (e : t ≡ is_upper b) where
   pub upper_fits : t ≡ true → Fits w8 (b + 32)
@@ -41,4 +45,19 @@ module _ (b : ℕ) {t : Bool} (e : t ≡ is_lower b) where
   unfolding raised
   raise-other v = sym (pick_no (is_lower b) (b - 32) b (sym e ∙ v))
 
-pub ruleset letters = (upper_fits, lower-upper, lower-other, lower-least, raise-lower, raise-other)
+-- a lower-case letter is no upper-case one, so that no word breaks at it
+module _ (name : List ℕ) (i : ℕ) {t : Bool} (e : t ≡ is_lower (get_or name i 0)) where
+  pub lower-joins : t ≡ true → false ≡ breaks_screaming name i
+  unfolding breaks_screaming is_upper is_lower
+  lower-joins v =
+      let h : 97 ≤ get_or name i 0 = leb-true 97 (get_or name i 0) (both_true (leb 97 (get_or name i 0)) (leb (get_or name i 0) 122) (sym e ∙ v)).0 in
+      by-test (leb (get_or name i 0) 90)
+      (λ u. absurd (omega (arith, h, leb-true (get_or name i 0) 90 u)))
+      (λ f. rw f (no-case (ltb 0 i) (leb 65 (get_or name i 0)) _))
+    where
+      no-case : (a b c : Bool) → false ≡ a and (b and false) and c
+      no-case true true c = refl
+      no-case true false c = refl
+      no-case false b c = refl
+
+pub ruleset letters = (lower-joins, upper_fits, lower-upper, lower-other, lower-least, raise-lower, raise-other)

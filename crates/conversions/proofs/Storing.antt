@@ -46,9 +46,6 @@ module _ {f : ℕ → List ℕ} {n : ℕ} {o : List ℕ} {at : ℕ} {o' : List �
   same : length o' ≡ length o
   same = length-printed inv.sofar
 
-  pub storing-ample : i < n → Ample o' p
-  storing-ample h = record { two = omega (arith, same, inv.room); short = omega (arith, same, inv.last-room) }
-
   module _ (h : i < n) (b : Bool) {o₁ : List ℕ} {r : ℕ} (q : Printed o' p o₁ r (pick b (95 ∷ []) [])) where
     near : r ≤ p + 1
     near = omega (arith, q.to, break-to b p (omega (arith, inv.room, inv.last-room)))

@@ -6,7 +6,6 @@ ghost use Rattle.conversions.specs.Conversions.{screaming_at, prefix_of, without
 ghost use Rattle.conversions.specs.Prefix.{past_text};
 
 use crate::convert::{Case, Screaming, write_pascal};
-use classes::Classes;
 use printing::Output;
 
 // The place past the byte `b`, where it stands at `j`.
@@ -23,7 +22,7 @@ fn past_byte(value: &[u8], j: usize, b: u8) -> Option<usize>
 // The place past what position `i` of the enum name gives, where it stands at `j`.
 #[tactic(auto, using(crate::proofs::Cutting::cutting))]
 fn past_position(
-    case: &Screaming<'_>,
+    case: &Screaming,
     value: &[u8],
     j: usize,
     enum_name: &[u8],
@@ -42,10 +41,10 @@ fn past_position(
 
 // The place past the enum's screaming name and an underscore, where they stand at the front of the value name.
 #[tactic(auto, using(crate::proofs::Cutting::cutting))]
-fn past_prefix(classes: &Classes, value: &[u8], enum_name: &[u8]) -> Option<usize>
+fn past_prefix(value: &[u8], enum_name: &[u8]) -> Option<usize>
     ensures { result ≡ past_text (prefix_of enum_name.now) value.now 0 }
 {
-    let case = Screaming(classes);
+    let case = Screaming;
     let mut j = 0;
     for i in 0..enum_name.len() {
         j = past_position(&case, value, j, enum_name, i)?;
@@ -55,10 +54,10 @@ fn past_prefix(classes: &Classes, value: &[u8], enum_name: &[u8]) -> Option<usiz
 
 // The value name without the enum's prefix: a part of the value name, never of the enum name.
 #[tactic(auto, using(crate::proofs::Cutting::cutting))]
-pub fn without_prefix<'a>(classes: &Classes, value: &'a [u8], enum_name: &[u8]) -> &'a [u8]
+pub fn without_prefix<'a>(value: &'a [u8], enum_name: &[u8]) -> &'a [u8]
     ensures { result.now ≡ without_prefix value.now enum_name.now }
 {
-    match past_prefix(classes, value, enum_name) {
+    match past_prefix(value, enum_name) {
         Some(k) => texts::part(value, k, value.len()),
         None => value,
     }
@@ -66,8 +65,8 @@ pub fn without_prefix<'a>(classes: &Classes, value: &'a [u8], enum_name: &[u8]) 
 
 // Writes the value name without the enum's prefix, in Pascal case.
 #[tactic(auto, unfolding(crate::specs::Conversions::strip_enum_prefix))]
-pub fn write_stripped(out: &mut Output<'_>, classes: &Classes, value: &[u8], enum_name: &[u8])
+pub fn write_stripped(out: &mut Output<'_>, value: &[u8], enum_name: &[u8])
     ensures { Wrote out.old out.new (strip_enum_prefix value.now enum_name.now) }
 {
-    write_pascal(out, classes, without_prefix(classes, value, enum_name));
+    write_pascal(out, without_prefix(value, enum_name));
 }

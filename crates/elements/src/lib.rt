@@ -26,6 +26,8 @@ pub enum Element {
     Other,
 }
 
+// The names behind the first five.
+// kept: text by text, as in `element_of`.
 fn other_element_of(name: &[u8]) -> Element
     ensures { result ≡ other_element_of name.now }
 {

@@ -3,7 +3,6 @@ use mathlib.Core.Path.{◌≡◌, refl, sym, ap, ◌∙◌}
 use mathlib.Core.Bool.{Bool, true, false, not}
 use mathlib.Core.List.{List, [], ◌∷◌, ◌++◌, append-nil}
 use Prim.Native.Nat.{ℕ, zero, suc, ◌+◌, ◌-◌, ◌≤◌, ◌<◌}
-use native.Mathlib.Nat.{add-zero}
 use native.Mathlib.Omega.{arith}
 use lib.Dec.{eqb}
 use lib.ListN.{length, take, drop, set, length-append, length-take, length-drop, take-append-drop, drop_of_length-le}
@@ -13,6 +12,7 @@ use Rattle.texts.specs.Scan.{count_while, scan, until, is}
 use Rattle.texts.specs.Text.{piece}
 use Rattle.texts.proofs.Choosing.{by-test, pick_no}
 use Rattle.texts.proofs.Scanning.{count_yes, count_no}
+use Rattle.words.proofs.Copying.{sets-append}
 use Rattle.words.proofs.Finding.{count_past}
 use Rattle.std.specs.Prelude.{Some, None}
 use Rattle.entities.specs.Entities.{front, decoded_past, decoded, DecodedInto}
@@ -38,12 +38,6 @@ unfolding decoded_past
 plain-decoded s e = plain-split (length s) s (omega arith) ∙ rw (take-length, drop-length) (append-nil s)
 
 -- ---- runs of stores
-
-sets-append : (d : List ℕ) (at : ℕ) (xs ys : List ℕ) → sets d at (xs ++ ys) ≡ sets (sets d at xs) (at + length xs) ys
-sets-append d at [] ys = rw add-zero
-sets-append d at (x ∷ xs) ys =
-    let z : suc at + length xs ≡ at + suc (length xs) = omega arith in
-    rw (← z) (sets-append (set d at x) (suc at) xs ys)
 
 set_below : (vs l : List ℕ) (i j x : ℕ) → j < i → set (sets l i vs) j x ≡ sets (set l j x) i vs
 set_below [] l i j x h = refl

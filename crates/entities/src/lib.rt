@@ -4,6 +4,9 @@
 // for room itself, and promises `DecodedInto` of specs/Entities.antt on all inputs, after 01, "Reading markup". `decode_room`
 // is the same for a caller that has room. Decoding never lengthens a text (proofs/Decoding.antt), and one without '&' stays
 // as it is (proofs/Copying.antt).
+//
+// kept: what is decoded, where to, and at which place are three parameters: the text buffer is filled from both ends, so that no output
+// with a position of its own stands for it. The room is asked of the caller, as `decode` alone tests it.
 #![tactic(auto, using(crate::proofs::Laws::laws, crate::proofs::Copying::plain))]
 
 ghost use Rattle.std.specs.Prelude.{◌≡◌, ◌+◌, ◌-◌, ◌≤◌, ◌<◌, length, drop};
@@ -12,7 +15,7 @@ ghost use Rattle.texts.specs.Text.{piece};
 ghost use Rattle.entities.specs.Entities.{front, decoded, DecodedInto};
 ghost use Rattle.entities.specs.Copying.{PlainTo, RestInto};
 
-use words::{both_lack, copy_half, copy_word, lacks};
+use words::{both_lack, copy_few, lacks};
 
 // The byte that stands at a place, and of how many bytes it is written.
 #[derive(Clone, Copy)]
@@ -21,6 +24,7 @@ pub struct Unit {
     pub len: usize,
 }
 
+// kept, here and below: places beside the texts, since the builder counts those of the whole document and text buffer.
 fn unit_at(s: &[u8], at: usize) -> Unit
     requires { at < length s.now }
     ensures { result ≡ front (drop at s.now) }
@@ -57,6 +61,7 @@ fn decode_each(raw: &[u8], from: usize, dst: &mut [u8], to: usize) -> usize
 {
     let mut i = from;
     let mut o = to;
+    // kept: a `while`, since its steps are entities or bytes.
     while i < raw.len() {
         let u = unit_at(raw, i);
         dst[o] = u.byte;
@@ -72,9 +77,10 @@ fn copy_plain(raw: &[u8], dst: &mut [u8], at: usize) -> usize
     ensures { PlainTo raw.now dst.old at dst.new result }
 {
     let mut i = 0;
+    // kept: a `while`, since its steps are words.
     while i + 8 <= raw.len() {
         if lacks::<8>(raw, i, b'&') {
-            copy_word(raw, i, dst, at + i);
+            copy_few::<8>(raw, i, dst, at + i);
             i += 8;
         } else {
             return i;
@@ -98,7 +104,7 @@ fn decode_long(raw: &[u8], dst: &mut [u8], at: usize) -> usize
         let last = n - 8;
         if last < i {
             if lacks::<8>(raw, last, b'&') {
-                copy_word(raw, last, dst, at + last);
+                copy_few::<8>(raw, last, dst, at + last);
                 return n;
             }
         }
@@ -115,8 +121,8 @@ fn decode_short(raw: &[u8], dst: &mut [u8], at: usize) -> usize
     if 4 <= n {
         let last = n - 4;
         if both_lack::<4>(raw, 0, last, b'&') {
-            copy_half(raw, 0, dst, at);
-            copy_half(raw, last, dst, at + last);
+            copy_few::<4>(raw, 0, dst, at);
+            copy_few::<4>(raw, last, dst, at + last);
             return n;
         }
     }
@@ -135,8 +141,8 @@ fn decode_all(raw: &[u8], dst: &mut [u8], at: usize) -> usize
     if n <= 16 {
         let last = n - 8;
         if both_lack::<8>(raw, 0, last, b'&') {
-            copy_word(raw, 0, dst, at);
-            copy_word(raw, last, dst, at + last);
+            copy_few::<8>(raw, 0, dst, at);
+            copy_few::<8>(raw, last, dst, at + last);
             return n;
         }
     }

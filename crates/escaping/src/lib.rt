@@ -7,7 +7,6 @@
 ghost use Rattle.std.specs.Prelude.{◌≡◌, Bool, true, false, [], ◌∷◌, ◌++◌, ℕ, ◌-◌, ◌≤◌, ◌<◌, length, slice_index_or};
 ghost use Rattle.texts.specs.Text.{ascii};
 ghost use Rattle.texts.specs.Lists.{each};
-ghost use Rattle.printing.specs.Printed.{Printed};
 ghost use Rattle.printing.specs.Written.{Wrote};
 ghost use Rattle.escaping.specs.Escape.{hex_digit, hex, escaped, quoted};
 ghost use Rattle.escaping.specs.Escaping.{shown_as, is_plain};
@@ -172,15 +171,4 @@ pub fn write_quoted(out: &mut Output<'_>, s: &[u8])
     out.byte(b'"');
     write_escapes(out, s);
     out.byte(b'"');
-}
-
-// ---- the same over a slice and a position
-
-#[tactic(auto, unfolding(printing::specs::Written::written))]
-pub fn put_quoted(out: &mut [u8], at: usize, s: &[u8]) -> usize
-    ensures { Printed out.old at out.new result (quoted s.now) }
-{
-    let mut o = Output { bytes: out, at };
-    write_quoted(&mut o, s);
-    o.at
 }

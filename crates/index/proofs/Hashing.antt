@@ -23,9 +23,9 @@ module _ (s : List ℕ) where
   unfolding short_word
   short_none h e = rw (lt-ltb (length s) 4 h, eq-eqb (length s) 0 e)
 
-  pub short-some : length s < 4 → (length s ≡ 0 → ⊥) → {a b c : ℕ} → (a ≡ get_or s 0 0) × (a < 256) → (b ≡ get_or s (length s / 2) 0) × (b < 256) → (c ≡ get_or s (length s - 1) 0) × (c < 256) → a + b * 256 + c * 65536 + length s * 16777216 ≡ short_word s
+  pub short-some : length s < 4 → (length s ≡ 0 → ⊥) → {a b c : ℕ} → a ≡ get_or s 0 0 → b ≡ get_or s (length s / 2) 0 → c ≡ get_or s (length s - 1) 0 → a + b * 256 + c * 65536 + length s * 16777216 ≡ short_word s
   unfolding short_word
-  short-some h n ea eb ec = rw (lt-ltb (length s) 4 h, ne_eqb (length s) 0 n, ea.0, eb.0, ec.0)
+  short-some h n ea eb ec = rw (lt-ltb (length s) 4 h, ne_eqb (length s) 0 n, ea, eb, ec)
 
 -- ---- 8 and more: what is still to come is unchanged
 

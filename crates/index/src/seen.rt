@@ -9,7 +9,7 @@ ghost use Rattle.index.specs.Index.{code, Blank};
 ghost use Rattle.index.specs.Declarations.{declaration_of, number_of};
 ghost use Rattle.index.specs.declared.seen.Declaration.{Declaration};
 
-use crate::{CHAIN, EACH, FIRST, MOST, build, number};
+use crate::{CHAIN, EACH, FIRST, MOST, build};
 use model::search::{OfKind, Walk};
 use model::view::View;
 use model::{COMPOSITE, ENUM, Entry, FIELD, TYPE};
@@ -41,6 +41,7 @@ fn position(n: u16) -> Option<u32>
 }
 
 // What a name is declared as: an enum or composite, or the type at a position.
+// kept: no Option; a name that is declared nowhere is the `None` around it.
 #[derive(Clone, Copy)]
 pub enum Declaration {
     Named,
@@ -226,11 +227,12 @@ impl<'a> Index<'a> {
     // ---- what a type name is declared as
 
     // Of the field at `i`, as the number that the index holds.
+    // kept: this and the next ask for what the index holds; by `declared`, which asks nothing, a conversion takes 2 % more.
     pub fn field_number(&self, i: u32) -> u32
         requires { (length self.now.items ≤ 1024) × ((item_at self.now i).kind ≡ a_field) }
         ensures { result ≡ number_of (declaration_of self.now (item_at self.now i).second) }
     {
-        number(self.links[EACH * (i as usize) + CHAIN])
+        self.links[EACH * (i as usize) + CHAIN] as u32
     }
 
     // Of the field at `i`: the index holds it.

@@ -10,6 +10,7 @@ pub fn read_full<R: Read>(input: &mut R, buf: &mut [u8]) -> io::Result<usize>
     ensures { IfOk result (λ n. n ≤ length buf.new) }
 {
     let mut done = 0;
+    // kept: a `while`, since a read puts as many bytes as it likes.
     while done < buf.len() {
         let n = input.read(&mut buf[done..])?;
         if n == 0 {

@@ -4,6 +4,9 @@
 // A clause sees a view as the schema that the model stands for (specs/Schema.antt, `schema_of` of
 // specs/Store.antt), whatever the buffers hold; each method promises an equation with it. `entry_at`
 // and `put_entry` read and write the records of an item, for whoever builds a model.
+//
+// kept: an item is its position in the model, as owners and links are, beside the view that shows it; and a search is told a kind and an
+// owner. Structs of these would be made at each step of a walk.
 #![tactic(auto)]
 
 pub mod search;
@@ -13,8 +16,9 @@ ghost use Rattle.std.specs.Prelude.{◌≡◌, ◌+◌, ◌*◌, ◌≤◌, leng
 ghost use Rattle.std.proofs.lemmas.List.Edits.{sets};
 ghost use Rattle.model.specs.Store.{entry_at, words_of};
 
-// The kinds of items, as specs/Schema.antt numbers them. Kept as numbers: a record's kind is whatever word the lent
-// buffer holds, and an enum of nine would ask of callers that it is one of them.
+// The kinds of items, as specs/Schema.antt numbers them.
+// kept: numbers; a record's kind is whatever word the lent buffer holds, and an enum would ask of callers that it is one
+// of the nine.
 pub const TYPE: u32 = 1;
 
 pub const MEMBER: u32 = 2;
@@ -34,6 +38,7 @@ pub const GROUP: u32 = 8;
 pub const FIELD: u32 = 9;
 
 // An item: numbers, and where its texts lie in the text buffer.
+// kept: `given` is a word, as the record buffer holds it.
 #[derive(Clone, Copy)]
 pub struct Entry {
     pub kind: u32,
@@ -96,7 +101,7 @@ pub fn put_entry(rec: &mut [u32], i: u32, e: Entry)
     ensures { rec.new ≡ sets rec.old (15 * i) (words_of e) }
 {
     let k = 15 * (i as usize);
-    // Kept as ten stores: `copy_from_slice` costs a tenth of reading a document.
+    // kept: ten stores; `copy_from_slice` costs a tenth of reading a document.
     rec[k] = e.kind;
     rec[k + 1] = e.owner;
     rec[k + 2] = e.name;

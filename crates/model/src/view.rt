@@ -97,6 +97,7 @@ impl<'a> View<'a> {
         item(self.model, self.records, i).owner
     }
 
+    // kept: a method for each of the three texts; one for all would match on which is meant.
     pub fn name(&self, i: u32) -> &'a [u8]
         ensures { result.now ≡ (item_at self.now i).name }
     {
@@ -104,6 +105,7 @@ impl<'a> View<'a> {
         part(self.text, e.name as usize, e.nlen as usize)
     }
 
+    // kept: a method for each of the three texts; one for all would match on which is meant.
     pub fn second(&self, i: u32) -> &'a [u8]
         ensures { result.now ≡ (item_at self.now i).second }
     {
@@ -111,6 +113,7 @@ impl<'a> View<'a> {
         part(self.text, e.second as usize, e.slen as usize)
     }
 
+    // kept: a method for each of the three texts; one for all would match on which is meant.
     pub fn encoding(&self, i: u32) -> &'a [u8]
         ensures { result.now ≡ (item_at self.now i).encoding }
     {

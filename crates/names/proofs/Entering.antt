@@ -67,3 +67,5 @@ module _ {t : Tested} (text out : List ℕ) where
   pub entry-finished : {u : Unit {0}} → t ≡ Ok u → {out' : List ℕ} {r : Answer} → Finishes text out out' r → Answers t text out out' r
   unfolding answer_after
   entry-finished e f = record { is = rw e f.is; output = f.output }
+
+pub ruleset tests = (test-long, test-high, test-fine, two-long, two-other-long, two-high, two-other-high, two-fine)

@@ -1,3 +1,2 @@
 -- Laws of the entries.
 pub mod Entering
-pub mod Laws

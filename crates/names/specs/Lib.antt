@@ -1,2 +1,3 @@
--- What the entries of the six name conversions answer.
+-- What the entries of the six name conversions answer, and what a name is made into.
 pub mod Entry
+pub mod Converted

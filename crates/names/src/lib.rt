@@ -5,14 +5,14 @@
 // is the one of specs/Entry.antt, and the output is the converted name (specs/Conversions.antt of the
 // crate `conversions`) and then what stood there, or, after a refusal, what it held. No entry asks
 // anything of its caller.
-#![tactic(auto)]
+#![tactic(auto, unfolding(crate::specs::Converted::converted))]
 
 ghost use Rattle.std.specs.Prelude.{ℕ, ◌≡◌, length};
 ghost use Rattle.conversions.specs.Conversions.{camel_to_snake, snake_to_camel, camel_to_screaming_snake, screaming_snake_to_pascal, strip_enum_prefix, singular_pascal};
 ghost use Rattle.printing.specs.Written.{Wrote};
 ghost use Rattle.names.specs.Entry.{tested, tested_two, Answers};
+ghost use Rattle.names.specs.Converted.{converted};
 
-use classes::Classes;
 use conversions::convert::{
     write_camel, write_pascal, write_screaming, write_singular, write_snake,
 };
@@ -24,6 +24,7 @@ use refusals::Refusal;
 const MAX_NAME: usize = 32768;
 
 // 1 and 10 of one name.
+#[tactic(auto, using(crate::proofs::Entering::tests))]
 fn test(name: &[u8]) -> Result<(), Refusal>
     ensures { result ≡ tested name.now }
 {
@@ -38,6 +39,7 @@ fn test(name: &[u8]) -> Result<(), Refusal>
 }
 
 // 1 of both names, then 10 of both.
+#[tactic(auto, using(crate::proofs::Entering::tests))]
 fn test_two(value: &[u8], enum_name: &[u8]) -> Result<(), Refusal>
     ensures { result ≡ tested_two value.now enum_name.now }
 {
@@ -58,6 +60,37 @@ fn test_two(value: &[u8], enum_name: &[u8]) -> Result<(), Refusal>
     Ok(())
 }
 
+// What one name is made into.
+#[derive(Clone, Copy)]
+enum Case {
+    Snake,
+    Camel,
+    Screaming,
+    Pascal,
+    Singular,
+}
+
+// A name to be converted.
+#[derive(Clone, Copy)]
+struct Converted<'a> {
+    to: Case,
+    name: &'a [u8],
+}
+
+impl Print for Converted<'_> {
+    ghost text = { λ s. converted s.to s.name.now };
+
+    fn print(&self, out: &mut Output<'_>) {
+        match self.to {
+            Case::Snake => write_snake(out, self.name),
+            Case::Camel => write_camel(out, self.name),
+            Case::Screaming => write_screaming(out, self.name),
+            Case::Pascal => write_pascal(out, self.name),
+            Case::Singular => write_singular(out, self.name),
+        }
+    }
+}
+
 // What an entry answers after the tests.
 fn answer<P: Print>(tested: Result<(), Refusal>, name: &P, out: &mut [u8]) -> Result<usize, Refusal>
     ensures { Answers tested (P.text name.now) out.old out.new result }
@@ -66,89 +99,44 @@ fn answer<P: Print>(tested: Result<(), Refusal>, name: &P, out: &mut [u8]) -> Re
     finish(name, out)
 }
 
-#[derive(Clone, Copy)]
-struct Snake<'a>(&'a [u8]);
-
-impl Print for Snake<'_> {
-    ghost text = { λ s. camel_to_snake s.0.now };
-
-    fn print(&self, out: &mut Output<'_>) {
-        write_snake(out, &Classes::new(), self.0);
+impl Case {
+    // The answer of the entry for this case.
+    fn convert(self, name: &[u8], out: &mut [u8]) -> Result<usize, Refusal>
+        ensures { Answers (tested name.now) (converted self name.now) out.old out.new result }
+    {
+        answer(test(name), &Converted { to: self, name }, out)
     }
 }
 
+// kept: a function for each conversion, as customers call them.
 pub fn camel_to_snake(name: &[u8], out: &mut [u8]) -> Result<usize, Refusal>
     ensures { Answers (tested name.now) (camel_to_snake name.now) out.old out.new result }
 {
-    answer(test(name), &Snake(name), out)
-}
-
-#[derive(Clone, Copy)]
-struct Camel<'a>(&'a [u8]);
-
-impl Print for Camel<'_> {
-    ghost text = { λ s. snake_to_camel s.0.now };
-
-    fn print(&self, out: &mut Output<'_>) {
-        write_camel(out, &Classes::new(), self.0);
-    }
+    Case::Snake.convert(name, out)
 }
 
 pub fn snake_to_camel(name: &[u8], out: &mut [u8]) -> Result<usize, Refusal>
     ensures { Answers (tested name.now) (snake_to_camel name.now) out.old out.new result }
 {
-    answer(test(name), &Camel(name), out)
-}
-
-#[derive(Clone, Copy)]
-struct Screaming<'a>(&'a [u8]);
-
-impl Print for Screaming<'_> {
-    ghost text = { λ s. camel_to_screaming_snake s.0.now };
-
-    fn print(&self, out: &mut Output<'_>) {
-        write_screaming(out, &Classes::new(), self.0);
-    }
+    Case::Camel.convert(name, out)
 }
 
 pub fn camel_to_screaming_snake(name: &[u8], out: &mut [u8]) -> Result<usize, Refusal>
     ensures { Answers (tested name.now) (camel_to_screaming_snake name.now) out.old out.new result }
 {
-    answer(test(name), &Screaming(name), out)
-}
-
-#[derive(Clone, Copy)]
-struct Pascal<'a>(&'a [u8]);
-
-impl Print for Pascal<'_> {
-    ghost text = { λ s. screaming_snake_to_pascal s.0.now };
-
-    fn print(&self, out: &mut Output<'_>) {
-        write_pascal(out, &Classes::new(), self.0);
-    }
+    Case::Screaming.convert(name, out)
 }
 
 pub fn screaming_snake_to_pascal(name: &[u8], out: &mut [u8]) -> Result<usize, Refusal>
     ensures { Answers (tested name.now) (screaming_snake_to_pascal name.now) out.old out.new result }
 {
-    answer(test(name), &Pascal(name), out)
-}
-
-#[derive(Clone, Copy)]
-struct Singular<'a>(&'a [u8]);
-
-impl Print for Singular<'_> {
-    ghost text = { λ s. singular_pascal s.0.now };
-
-    fn print(&self, out: &mut Output<'_>) {
-        write_singular(out, &Classes::new(), self.0);
-    }
+    Case::Pascal.convert(name, out)
 }
 
 pub fn singular_pascal(name: &[u8], out: &mut [u8]) -> Result<usize, Refusal>
     ensures { Answers (tested name.now) (singular_pascal name.now) out.old out.new result }
 {
-    answer(test(name), &Singular(name), out)
+    Case::Singular.convert(name, out)
 }
 
 #[derive(Clone, Copy)]
@@ -161,7 +149,7 @@ impl Print for Stripped<'_> {
     ghost text = { λ s. strip_enum_prefix s.value.now s.enum_name.now };
 
     fn print(&self, out: &mut Output<'_>) {
-        write_stripped(out, &Classes::new(), self.value, self.enum_name);
+        write_stripped(out, self.value, self.enum_name);
     }
 }
 

@@ -1,15 +1,9 @@
--- Which of two texts comes first: an order, and what the loops that compare keep.
-use mathlib.Core.Path.{◌≡◌, refl, sym, ap, ◌∙◌}
-use mathlib.Core.List.{List, [], ◌∷◌, ◌++◌}
-use Prim.Native.Nat.{ℕ, ◌+◌, ◌-◌, ◌<◌}
+-- Which of two texts comes first: an order.
+use mathlib.Core.Path.{◌≡◌, refl, sym, ◌∙◌}
+use mathlib.Core.List.{List, [], ◌∷◌}
+use Prim.Native.Nat.{ℕ, ◌<◌}
 use native.Mathlib.Omega.{arith}
-use lib.ListN.{length, take, drop, length-drop, take-append-drop}
-use Rattle.std.proofs.lemmas.List.{take_all}
-use lib.Seq.{drop-drop}
 use borrow.Author.Tests.{eq-eqb, ne_eqb, lt-ltb, le-ltb}
-use Rattle.texts.specs.Text.{piece}
-use Rattle.words.specs.Word.{IsWord}
-use Rattle.words.proofs.Digits.{word-tells}
 use Rattle.model.proofs.Records.{by_less}
 use Rattle.std.specs.declared.cmp.Ordering.TheVariants.{Less, Equal, Greater}
 use Rattle.std.specs.Cmp.Lexicographic.{slice_cmp}
@@ -88,11 +82,6 @@ greater-less (x ∷ xs) (y ∷ ys) p =
     (λ e. order-on y x ys xs (sym e) ∙ greater-less xs ys (sym (order-on x y xs ys e) ∙ p))
     (λ l. order-less y x ys xs l)
 
--- what two texts have in common at the front decides nothing
-order-common : (w s t : List ℕ) → order (w ++ s) (w ++ t) ≡ order s t
-order-common [] s t = refl
-order-common (x ∷ w) s t = order-on x x (w ++ s) (w ++ t) refl ∙ order-common w s t
-
 -- std's order of two texts is this one
 pub order-is : (a b : List ℕ) → slice_cmp nat_cmp a b ≡ order a b
 unfolding order
@@ -104,27 +93,3 @@ order-is (x ∷ xs) (y ∷ ys) =
     (λ l. let q : nat_cmp x y ≡ Less = rw (lt-ltb x y l) in rw q (sym (order-less x y xs ys l)))
     (λ e. let q : nat_cmp x y ≡ Equal = rw (le-ltb x y (omega arith), eq-eqb x y e) in rw q (order-is xs ys ∙ sym (order-on x y xs ys e)))
     (λ l. let q : nat_cmp x y ≡ Greater = rw (le-ltb x y (omega arith), ne_eqb x y (λ e. omega arith)) in rw q (sym (order-greater x y xs ys l)))
-
--- ---- a loop that compares a with b stands at i
-
-pub record Comparing (a b : List ℕ) (i : ℕ) : Type 0 where
-  pub rest : order (drop i a) (drop i b) ≡ order a b
-
-pub comparing-start : {a b : List ℕ} → Comparing a b 0
-comparing-start = record { rest = refl }
-
-module _ {a b : List ℕ} {i : ℕ} (inv : Comparing a b i) where
-  -- the same word stands in both
-  pub comparing-words : {x y : ℕ} → IsWord (piece a i 8) x → IsWord (piece b i 8) y → x ≡ y → Comparing a b (i + 8)
-  comparing-words u v e =
-      let p = word-tells (piece a i 8) (piece b i 8) (u.eight ∙ sym v.eight) u.bytes v.bytes (sym u.is ∙ e ∙ v.is) in
-      let q : drop i a ≡ piece b i 8 ++ drop (i + 8) a = sym (take-append-drop 8 (drop i a)) ∙ rw (p, drop-drop) refl in
-      let r : drop i b ≡ piece b i 8 ++ drop (i + 8) b = sym (take-append-drop 8 (drop i b)) ∙ rw drop-drop refl in
-      record { rest = sym (order-common (piece b i 8) (drop (i + 8) a) (drop (i + 8) b)) ∙ sym (ap (λ x. order x (piece b i 8 ++ drop (i + 8) b)) q) ∙ sym (ap (order (drop i a)) r) ∙ inv.rest }
-
-  -- what is left of each is compared by std
-  pub comparing-rest : slice_cmp nat_cmp (take (length a - i) (drop i a)) (take (length b - i) (drop i b)) ≡ order a b
-  comparing-rest = rw (whole a, whole b) (order-is (drop i a) (drop i b) ∙ inv.rest)
-    where
-      whole : (x : List ℕ) → take (length x - i) (drop i x) ≡ drop i x
-      whole x = take_all (length x - i) (drop i x) (simp length-drop (omega arith))

@@ -60,9 +60,6 @@ pub ruleset copied = (copied-length, copied-within, copied_source, copied_on, co
 
 -- ---- the text that stands
 
-pub standing-none : {t out : List ℕ} {at : ℕ} → Standing t out (length out) at
-standing-none = record { before = λ h k. omega arith; is = λ h k. absurd (omega arith) }
-
 -- what fits changes nothing before it
 module _ {o : List ℕ} {at : ℕ} {o' : List ℕ} {r : ℕ} {w : List ℕ} (p : Printed o at o' r w) (l : length o < last) (h : r ≤ length o') where
   fits : r ≡ at + length w

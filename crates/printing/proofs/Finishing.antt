@@ -38,10 +38,6 @@ module _ (out : List ℕ) {e e' : List ℕ} {n : ℕ} {t : List ℕ} (m : Printe
   unfolding finished
   no_room = rw (lt-ltb (length out) (length t) longer)
 
-  pub no-room-output : out ≡ output_after (finished t (length out)) t out
-  unfolding finished output_after
-  no-room-output = rw (lt-ltb (length out) (length t) longer)
-
 -- it fits and was written
 module _ {e e' out out' : List ℕ} {n k : ℕ} {t : List ℕ} (m : Printed e 0 e' n t) (h : n ≤ length out) (l : length out < last) (w : Printed out 0 out' k t) where
   size : past 0 t ≡ length t

@@ -90,3 +90,5 @@ module _ {s out : List ℕ} {at : ℕ} {out' : List ℕ} {i : ℕ} (inv : Copyin
   copying-end h =
       let e : i ≡ length s = omega (arith, inv.bound) in
       rw (e, take_all (length s) s (omega arith)) at inv.sofar
+
+pub ruleset copying = (copying-length, copying-within, copying-end)

@@ -129,10 +129,11 @@ pub fn finish<P: Print>(p: &P, out: &mut [u8]) -> Result<usize, Refusal>
     Ok(print_whole(p, out))
 }
 
-// ---- over a slice and a position
+// ---- over a slice and a position (kept: see above)
 
 // Prints one byte.
-pub fn put_byte(out: &mut [u8], at: usize, b: u8) -> usize
+#[tactic(auto, unfolding(crate::specs::Printed::laid, crate::specs::Printed::past))]
+fn put_byte(out: &mut [u8], at: usize, b: u8) -> usize
     ensures { Printed out.old at out.new result (b ∷ []) }
 {
     if at < out.len() {
@@ -143,19 +144,9 @@ pub fn put_byte(out: &mut [u8], at: usize, b: u8) -> usize
     }
 }
 
-// Prints one byte where `on` says so.
-#[tactic(auto, unfolding(crate::specs::Written::written))]
-pub fn put_byte_if(out: &mut [u8], at: usize, on: bool, b: u8) -> usize
-    ensures { Printed out.old at out.new result (pick on (b ∷ []) []) }
-{
-    let mut o = Output { bytes: out, at };
-    o.byte_if(on, b);
-    o.at
-}
-
 // The position `n` bytes on. A text that does not fit is passed so without a walk over it.
 #[tactic(auto, unfolding(crate::specs::Printed::skipped))]
-pub fn skip(at: usize, n: usize) -> usize
+fn skip(at: usize, n: usize) -> usize
     ensures { result ≡ skipped at n }
 {
     if n == 0 {
@@ -165,6 +156,7 @@ pub fn skip(at: usize, n: usize) -> usize
 }
 
 // Prints the bytes of `s` where all of them fit: a loop with no test but its own.
+#[tactic(auto, using(crate::proofs::Passing::copying))]
 fn copy(out: &mut [u8], at: usize, s: &[u8]) -> usize
     requires { at + length s.now ≤ length out.old }
     ensures { Printed out.old at out.new result s.now }
@@ -200,7 +192,7 @@ fn put_cut(out: &mut [u8], at: usize, s: &[u8]) -> usize
 }
 
 // Prints the bytes of `s`.
-pub fn put_bytes(out: &mut [u8], at: usize, s: &[u8]) -> usize
+fn put_bytes(out: &mut [u8], at: usize, s: &[u8]) -> usize
     ensures { Printed out.old at out.new result s.now }
 {
     if at < out.len() && s.len() <= out.len() - at {
@@ -210,7 +202,8 @@ pub fn put_bytes(out: &mut [u8], at: usize, s: &[u8]) -> usize
 }
 
 // Prints again the `n` bytes at `from`, which stand before `at`, where all of them fit: a loop inside the slice.
-pub fn put_again(out: &mut [u8], at: usize, from: usize, n: usize) -> usize
+#[tactic(auto, using(crate::proofs::Again::copied))]
+fn put_again(out: &mut [u8], at: usize, from: usize, n: usize) -> usize
     requires { (from + n ≤ at) × (at + n ≤ length out.old) }
     ensures { Printed out.old at out.new result (piece out.old from n) }
 {
@@ -221,7 +214,7 @@ pub fn put_again(out: &mut [u8], at: usize, from: usize, n: usize) -> usize
 }
 
 // Prints a number in decimal.
-pub fn put_decimal(out: &mut [u8], at: usize, n: u32) -> usize
+fn put_decimal(out: &mut [u8], at: usize, n: u32) -> usize
     ensures { Printed out.old at out.new result (decimal n) }
 {
     if n < 10 {

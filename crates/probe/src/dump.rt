@@ -8,10 +8,11 @@
 // Types come first, then composites, enums and messages, each in the order of the document. After
 // each of them comes what it holds: members, refs, values, fields, then groups, each with its fields.
 // A refusal writes nothing.
-use crate::{Reading, finished, put_name, refused};
+use crate::{finished, write_name};
 use model::view::View;
 use model::{COMPOSITE, ENUM, FIELD, GROUP, MEMBER, MESSAGE, REF, TYPE, VALUE};
-use printing::{put_byte, put_decimal};
+use printing::Output;
+use refusals::Refusal;
 use xmlschema::build::read_schema;
 
 const PACKAGE: u8 = 0x80;
@@ -28,9 +29,9 @@ const GIVEN: u8 = 0x8e;
 
 const ENCODING: u8 = 0x8f;
 
-fn put_number(out: &mut [u8], at: usize, mark: u8, n: u32) -> usize {
-    let p = put_byte(out, at, mark);
-    put_decimal(out, p, n)
+fn write_number(out: &mut Output<'_>, mark: u8, n: u32) {
+    out.byte(mark);
+    out.decimal(n);
 }
 
 // The mark of an item.
@@ -49,74 +50,65 @@ fn mark_of(kind: u32) -> u8 {
     }
 }
 
-fn put_item(out: &mut [u8], at: usize, v: &View<'_>, i: u32) -> usize {
-    let p = put_name(out, at, mark_of(v.kind(i)), v.name(i));
-    let p = put_name(out, p, SECOND, v.second(i));
-    let p = put_number(out, p, NUMBER, v.number(i));
-    let p = put_number(out, p, GIVEN, v.given(i) as u32);
-    put_name(out, p, ENCODING, v.encoding(i))
+fn write_item(out: &mut Output<'_>, v: &View<'_>, i: u32) {
+    write_name(out, mark_of(v.kind(i)), v.name(i));
+    write_name(out, SECOND, v.second(i));
+    write_number(out, NUMBER, v.number(i));
+    write_number(out, GIVEN, v.given(i) as u32);
+    write_name(out, ENCODING, v.encoding(i));
 }
 
 // The items of a kind under an owner.
-fn put_under(out: &mut [u8], at: usize, v: &View<'_>, kind: u32, owner: u32) -> usize {
-    let mut p = at;
+fn write_under(out: &mut Output<'_>, v: &View<'_>, kind: u32, owner: u32) {
     for i in v.under(kind, owner) {
-        p = put_item(out, p, v, i);
+        write_item(out, v, i);
     }
-    p
 }
 
 // The groups of a message, each with its fields.
-fn put_groups(out: &mut [u8], at: usize, v: &View<'_>, owner: u32) -> usize {
-    let mut p = at;
+fn write_groups(out: &mut Output<'_>, v: &View<'_>, owner: u32) {
     for i in v.under(GROUP, owner) {
-        p = put_item(out, p, v, i);
-        p = put_under(out, p, v, FIELD, i);
+        write_item(out, v, i);
+        write_under(out, v, FIELD, i);
     }
-    p
 }
 
 // An item with all that it holds.
-fn put_whole(out: &mut [u8], at: usize, v: &View<'_>, i: u32) -> usize {
-    let p = put_item(out, at, v, i);
-    let p = put_under(out, p, v, MEMBER, i);
-    let p = put_under(out, p, v, REF, i);
-    let p = put_under(out, p, v, VALUE, i);
-    let p = put_under(out, p, v, FIELD, i);
-    put_groups(out, p, v, i)
+fn write_whole(out: &mut Output<'_>, v: &View<'_>, i: u32) {
+    write_item(out, v, i);
+    write_under(out, v, MEMBER, i);
+    write_under(out, v, REF, i);
+    write_under(out, v, VALUE, i);
+    write_under(out, v, FIELD, i);
+    write_groups(out, v, i);
 }
 
 // All items of a kind.
-fn put_all(out: &mut [u8], at: usize, v: &View<'_>, kind: u32) -> usize {
-    let mut p = at;
+fn write_all(out: &mut Output<'_>, v: &View<'_>, kind: u32) {
     for i in v.all_of(kind) {
-        p = put_whole(out, p, v, i);
+        write_whole(out, v, i);
     }
-    p
 }
 
-fn put_head(out: &mut [u8], at: usize, v: &View<'_>) -> usize {
-    let p = put_name(out, at, PACKAGE, v.package());
-    let p = put_number(out, p, ID, v.id());
-    put_number(out, p, VERSION, v.version())
+fn write_model(out: &mut Output<'_>, v: &View<'_>) {
+    write_name(out, PACKAGE, v.package());
+    write_number(out, ID, v.id());
+    write_number(out, VERSION, v.version());
+    write_all(out, v, TYPE);
+    write_all(out, v, COMPOSITE);
+    write_all(out, v, ENUM);
+    write_all(out, v, MESSAGE);
 }
 
-fn put_model(out: &mut [u8], v: &View<'_>) -> usize {
-    let p = put_head(out, 0, v);
-    let p = put_all(out, p, v, TYPE);
-    let p = put_all(out, p, v, COMPOSITE);
-    let p = put_all(out, p, v, ENUM);
-    put_all(out, p, v, MESSAGE)
-}
-
-// The model of a document, or its refusal; 3 where the output is too short.
-pub fn schema(document: &[u8], records: &mut [u32], text: &mut [u8], output: &mut [u8]) -> Reading {
-    let read = read_schema(document, records, text);
-    match read {
-        Ok(m) => {
-            let n = put_model(output, &View::new(m, records, text));
-            finished(n, output.len())
-        }
-        Err(r) => refused(0, r),
-    }
+// The model of a document: how many bytes were written, or its refusal; 3 where the output is too short.
+pub fn schema(
+    document: &[u8],
+    records: &mut [u32],
+    text: &mut [u8],
+    output: &mut [u8],
+) -> Result<usize, Refusal> {
+    let m = read_schema(document, records, text)?;
+    let mut out = Output::new(output);
+    write_model(&mut out, &View::new(m, records, text));
+    finished(&out)
 }

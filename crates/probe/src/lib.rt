@@ -15,7 +15,7 @@
 pub mod dump;
 
 use entities::decode;
-use printing::{put_byte, put_bytes};
+use printing::Output;
 use refusals::Refusal;
 use saxlite::reader::{Cursor, Event};
 use tags::scan::{is_xmlns, prefix_len};
@@ -32,36 +32,19 @@ const VALUE: u8 = 0x83;
 
 const CLOSE: u8 = 0x84;
 
-// How many bytes of events were written, and the figures of the refusal that the reading ended in;
-// number 0 where the document was read whole.
+// How many bytes of events were written, and the refusal that the reading ended in.
 #[derive(Clone, Copy)]
 pub struct Reading {
     pub n: usize,
-    pub number: u32,
-    pub offset: usize,
-    pub place: usize,
-}
-
-pub fn refused(n: usize, r: Refusal) -> Reading {
-    Reading {
-        n,
-        number: r.number(),
-        offset: r.offset(),
-        place: r.place(),
-    }
+    pub refusal: Option<Refusal>,
 }
 
 // An output that was too short is refusal 3.
-pub fn finished(n: usize, room: usize) -> Reading {
-    if room < n {
-        return refused(0, Refusal::NoRoom);
+fn finished(out: &Output<'_>) -> Result<usize, Refusal> {
+    if out.bytes.len() < out.at {
+        return Err(Refusal::NoRoom);
     }
-    Reading {
-        n,
-        number: 0,
-        offset: 0,
-        place: 0,
-    }
+    Ok(out.at)
 }
 
 // ---- attributes, in the order of their names
@@ -92,6 +75,7 @@ fn least(doc: &[u8], last: Option<Range>, best: Option<Range>, this: Range) -> O
 }
 
 // The least name after `last` in the tag whose attributes begin at `at`. Each attribute takes a byte.
+// kept, here and below: places beside the document, since the reader under test goes by them.
 fn name_after(doc: &[u8], at: usize, last: Option<Range>) -> Option<Range> {
     let mut best = None;
     let mut i = at;
@@ -119,108 +103,102 @@ fn name_after(doc: &[u8], at: usize, last: Option<Range>) -> Option<Range> {
 
 // ---- events
 
-// Past `n` bytes that were written at `at`.
-fn past(room: usize, at: usize, n: usize) -> usize {
-    if at < room {
-        if n < room - at {
-            return at + n;
-        }
-    }
-    room
-}
-
 // Where room is short the raw bytes are counted.
-fn put_decoded(doc: &[u8], out: &mut [u8], at: usize, from: usize, len: usize) -> usize {
-    match decode(doc, from, len, out, at) {
-        Some(n) => past(out.len(), at, n),
-        None => put_bytes(out, at, part(doc, from, len)),
+fn write_decoded(out: &mut Output<'_>, doc: &[u8], from: usize, len: usize) {
+    match decode(doc, from, len, out.bytes, out.at) {
+        Some(n) => out.skip(n),
+        None => out.text(part(doc, from, len)),
     }
 }
 
-pub fn put_name(out: &mut [u8], at: usize, mark: u8, name: &[u8]) -> usize {
-    let p = put_byte(out, at, mark);
-    put_bytes(out, p, name)
+fn write_name(out: &mut Output<'_>, mark: u8, name: &[u8]) {
+    out.byte(mark);
+    out.text(name);
 }
 
-fn put_text(doc: &[u8], out: &mut [u8], at: usize, from: usize, len: usize) -> usize {
-    let p = put_byte(out, at, TEXT);
-    put_decoded(doc, out, p, from, len)
+fn write_text(out: &mut Output<'_>, doc: &[u8], mark: u8, text: Range) {
+    out.byte(mark);
+    write_decoded(out, doc, text.from, text.len);
 }
 
-fn put_value(doc: &[u8], out: &mut [u8], at: usize, found: Option<Range>) -> usize {
-    match found {
-        Some(Range { from, len }) => {
-            let p = put_byte(out, at, VALUE);
-            put_decoded(doc, out, p, from, len)
-        }
-        None => at,
+fn write_attribute(out: &mut Output<'_>, doc: &[u8], attributes: usize, name: &[u8]) {
+    write_name(out, NAME, name);
+    if let Some(value) = attribute(doc, attributes, name) {
+        write_text(out, doc, VALUE, value);
     }
-}
-
-fn put_attribute(doc: &[u8], out: &mut [u8], at: usize, attributes: usize, name: &[u8]) -> usize {
-    let p = put_name(out, at, NAME, name);
-    let found = attribute(doc, attributes, name);
-    put_value(doc, out, p, found)
 }
 
 // Each name takes a byte of the document.
-fn put_attributes(doc: &[u8], out: &mut [u8], at: usize, attributes: usize) -> usize {
-    let mut p = at;
+fn write_attributes(out: &mut Output<'_>, doc: &[u8], attributes: usize) {
     let mut last = None;
     for _ in 0..doc.len() {
         let Some(name) = name_after(doc, attributes, last) else {
-            return p;
+            return;
         };
-        p = put_attribute(doc, out, p, attributes, local(doc, name));
+        write_attribute(out, doc, attributes, local(doc, name));
         last = Some(name);
     }
-    p
 }
 
-fn put_open(doc: &[u8], out: &mut [u8], at: usize, name: &[u8], attributes: usize) -> usize {
-    let p = put_name(out, at, OPEN, name);
-    put_attributes(doc, out, p, attributes)
-}
-
-fn put_event(doc: &[u8], out: &mut [u8], at: usize, event: Event) -> usize {
+fn write_event(out: &mut Output<'_>, doc: &[u8], event: Event) {
     match event {
-        Event::Text { from, len } => put_text(doc, out, at, from, len),
+        Event::Text { from, len } => write_text(out, doc, TEXT, Range { from, len }),
         Event::Open {
             name,
             name_len,
             attributes,
             next: _,
-        } => put_open(doc, out, at, part(doc, name, name_len), attributes),
-        Event::Close { name, name_len } => put_name(out, at, CLOSE, part(doc, name, name_len)),
-        Event::Skipped => at,
-        Event::End => at,
-        Event::Refused(_) => at,
+        } => {
+            write_name(out, OPEN, part(doc, name, name_len));
+            write_attributes(out, doc, attributes);
+        }
+        Event::Close { name, name_len } => write_name(out, CLOSE, part(doc, name, name_len)),
+        Event::Skipped => {}
+        Event::End => {}
+        Event::Refused(_) => {}
     }
 }
 
-// There are never more events than bytes: a self-closed tag, which is two, has four.
-fn read_all(doc: &[u8], out: &mut [u8]) -> Reading {
-    let mut p = 0;
+// The events up to the end or a refusal. There are never more events than bytes: a self-closed tag, which is two, has four.
+fn write_events(out: &mut Output<'_>, doc: &[u8]) -> Result<(), Refusal> {
     let mut c = Cursor::at(0);
     for _ in 0..doc.len() {
         if c.is_at_end(doc) {
-            return finished(p, out.len());
+            return Ok(());
         }
         let read = c.read(doc);
         if let Event::Refused(r) = read.event {
-            return refused(p, r);
+            return Err(r);
         }
-        p = put_event(doc, out, p, read.event);
+        write_event(out, doc, read.event);
         c = read.cursor;
     }
-    finished(p, out.len())
+    Ok(())
+}
+
+// What was written before a refusal counts, but nothing where the output was too short.
+fn read_all(doc: &[u8], out: &mut Output<'_>) -> Reading {
+    if let Err(r) = write_events(out, doc) {
+        return Reading {
+            n: out.at,
+            refusal: Some(r),
+        };
+    }
+    let answer = finished(out);
+    Reading {
+        n: answer.unwrap_or(0),
+        refusal: answer.err(),
+    }
 }
 
 // The events of a document, up to a refusal; 10 before anything is read.
 pub fn events(document: &[u8], output: &mut [u8]) -> Reading {
     let at = texts::ascii_end(document);
     if at < document.len() {
-        return refused(0, Refusal::NotAscii { at });
+        return Reading {
+            n: 0,
+            refusal: Some(Refusal::NotAscii { at }),
+        };
     }
-    read_all(document, output)
+    read_all(document, &mut Output::new(output))
 }

@@ -3,6 +3,24 @@
 // As there, no contract is given beyond safety and termination.
 #![tactic(auto)]
 
+use refusals::Refusal;
+
+// A refusal's three figures, 0 where there is none.
+fn report(refusal: Option<Refusal>, offset: &mut usize, place: &mut usize) -> u32 {
+    match refusal {
+        Some(r) => {
+            *offset = r.offset();
+            *place = r.place();
+            r.number()
+        }
+        None => {
+            *offset = 0;
+            *place = 0;
+            0
+        }
+    }
+}
+
 // The events of a document, up to a refusal, for C.
 #[unsafe(no_mangle)]
 pub extern "C" fn probe_events(
@@ -13,13 +31,11 @@ pub extern "C" fn probe_events(
     n: &mut usize,
 ) -> u32 {
     let reading = probe::events(document, output);
-    *offset = reading.offset;
-    *place = reading.place;
     *n = reading.n;
-    reading.number
+    report(reading.refusal, offset, place)
 }
 
-// The model of a document in the form of model.rt, for C.
+// The model of a document in the form of dump.rt, for C.
 #[unsafe(no_mangle)]
 pub extern "C" fn probe_schema(
     document: &[u8],
@@ -30,9 +46,7 @@ pub extern "C" fn probe_schema(
     place: &mut usize,
     n: &mut usize,
 ) -> u32 {
-    let reading = probe::dump::schema(document, records, text, output);
-    *offset = reading.offset;
-    *place = reading.place;
-    *n = reading.n;
-    reading.number
+    let answer = probe::dump::schema(document, records, text, output);
+    *n = answer.unwrap_or(0);
+    report(answer.err(), offset, place)
 }

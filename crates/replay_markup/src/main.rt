@@ -7,28 +7,21 @@
 // `probe` describes: all of them, or those before the refusal.
 #![tactic(auto)]
 
-use inputs::read_full;
-use probe::Reading;
-use replaying::{put_unhexed, replay_documents, write_hexed, write_numbers};
+use printing::Output;
+use replaying::{print_answer, replay_lines, write_document, written};
 use std::io;
 use texts::part;
 
-fn write_reading(rt: &impl Print, r: Reading) -> io::Result<()> {
-    write_numbers(rt, r.number, r.offset, r.place, r.n)
-}
-
-// Reads the document that `hex` stands for, and writes its events.
-fn replay<R: Print>(rt: &R, hex: &[u8]) -> io::Result<()> {
+// Reads the document of a line, and prints its events.
+fn replay(rt: &HostRuntime, line: &[u8]) -> io::Result<()> {
     let mut document = [0u8; 65536];
     let mut out = [0u8; 65536];
-    let n = put_unhexed(&mut document, 0, hex);
-    let reading = probe::events(part(&document, 0, n), &mut out);
-    write_reading(rt, reading)?;
-    write_hexed(rt, part(&out, 0, reading.n))
+    let mut d = Output::new(&mut document);
+    write_document(&mut d, line);
+    let reading = probe::events(written(&d), &mut out);
+    print_answer(rt, reading.refusal, reading.n, part(&out, 0, reading.n))
 }
 
 fn main(rt: HostRuntime) -> io::Result<()> {
-    let mut input = [0u8; 65536];
-    let n = read_full(&mut rt.stdin(), &mut input)?;
-    replay_documents(&rt, &input[..n], replay)
+    replay_lines(&rt, replay)
 }

@@ -14,12 +14,13 @@
 // also shows what a refusal leaves, and what stands behind the text.
 #![tactic(auto)]
 
-ghost use Rattle.std.specs.Prelude.{◌<◌, IfOk};
-
-use inputs::read_full;
-use printing::put_byte;
+use names::{
+    camel_to_screaming_snake, camel_to_snake, screaming_snake_to_pascal, singular_pascal,
+    snake_to_camel, strip_enum_prefix,
+};
+use printing::Output;
 use refusals::Refusal;
-use replaying::{hex_number, put_unhexed, write_answer, write_hexed};
+use replaying::{hex_number, print_answer, replay_lines, write_unhexed, written};
 use std::io;
 use texts::{byte_at, part};
 
@@ -34,96 +35,88 @@ const ENUM: usize = 17;
 
 const NAMES: usize = 22;
 
-// Fills `out` with `b`, up to `n` bytes, and answers how many there are.
-fn fill(out: &mut [u8], n: usize, b: u8) -> usize {
-    let mut p = 0;
-    for _ in 0..n {
-        p = put_byte(out, p, b);
-    }
-    p
+// What is asked for.
+#[derive(Clone, Copy)]
+enum Conversion {
+    Snake,
+    Camel,
+    Screaming,
+    Pascal,
+    Singular,
+    Stripped,
 }
 
-fn convert(c: u8, value: &[u8], enum_name: &[u8], out: &mut [u8]) -> Result<usize, Refusal> {
-    match c {
-        b'n' => names::camel_to_snake(value, out),
-        b'c' => names::snake_to_camel(value, out),
-        b'u' => names::camel_to_screaming_snake(value, out),
-        b'p' => names::screaming_snake_to_pascal(value, out),
-        b's' => names::singular_pascal(value, out),
-        _ => names::strip_enum_prefix(value, enum_name, out),
+impl Conversion {
+    // The one that a letter stands for.
+    fn of(letter: u8) -> Option<Conversion> {
+        match letter {
+            b'n' => Some(Conversion::Snake),
+            b'c' => Some(Conversion::Camel),
+            b'u' => Some(Conversion::Screaming),
+            b'p' => Some(Conversion::Pascal),
+            b's' => Some(Conversion::Singular),
+            b'x' => Some(Conversion::Stripped),
+            _ => None,
+        }
+    }
+
+    // kept: a `match`, since each entry under test is a function of its own.
+    fn convert(self, value: &[u8], enum_name: &[u8], out: &mut [u8]) -> Result<usize, Refusal> {
+        match self {
+            Conversion::Snake => camel_to_snake(value, out),
+            Conversion::Camel => snake_to_camel(value, out),
+            Conversion::Screaming => camel_to_screaming_snake(value, out),
+            Conversion::Pascal => screaming_snake_to_pascal(value, out),
+            Conversion::Singular => singular_pascal(value, out),
+            Conversion::Stripped => strip_enum_prefix(value, enum_name, out),
+        }
     }
 }
 
-// Converts into an output of the length of `out`, and writes the answer.
+// Converts into an output filled with `#`, of the length of `out`, and prints the answer.
 fn replay(
-    rt: &impl Print,
-    c: u8,
+    rt: &HostRuntime,
+    asked: Conversion,
     value: &[u8],
     enum_name: &[u8],
     out: &mut [u8],
 ) -> io::Result<()> {
-    fill(out, out.len(), b'#');
-    let answer = convert(c, value, enum_name, out);
-    write_answer(rt, answer)?;
-    write_hexed(rt, out)
+    out.fill(b'#');
+    let answer = asked.convert(value, enum_name, out);
+    print_answer(rt, answer.err(), answer.unwrap_or(0), out)
 }
 
-// The same with an output of `room` bytes. No line asks for more than there are.
-fn replay_in(
-    rt: &impl Print,
-    c: u8,
-    value: &[u8],
-    enum_name: &[u8],
-    out: &mut [u8],
-    room: usize,
-) -> io::Result<()> {
-    if room < out.len() {
-        replay(rt, c, value, enum_name, &mut out[..room])?;
+// Writes the value name of a line: its padding, then its further bytes.
+fn write_value(out: &mut Output<'_>, line: &[u8], hex: &[u8]) {
+    for _ in 0..hex_number(part(line, PAD, 4)) {
+        out.byte(b'_');
     }
-    Ok(())
+    write_unhexed(out, hex);
 }
 
-// Makes the names of the line at the beginning of `s`, and replays it.
-fn replay_names(rt: &impl Print, s: &[u8], value_hex: &[u8], enum_hex: &[u8]) -> io::Result<()> {
+// Replays a line. No line asks for more room than there is.
+fn replay_line(rt: &HostRuntime, line: &[u8]) -> io::Result<()> {
+    let Some(asked) = Conversion::of(byte_at(line, 0)) else {
+        return Ok(());
+    };
     let mut value = [0u8; 65536];
     let mut enum_name = [0u8; 65536];
     let mut out = [0u8; 65536];
-    let p = fill(&mut value, hex_number(part(s, PAD, 4)), b'_');
-    let n = put_unhexed(&mut value, p, value_hex);
-    let m = put_unhexed(&mut enum_name, 0, enum_hex);
-    let room = hex_number(part(s, ROOM, 4));
-    replay_in(
+    let v = 2 * hex_number(part(line, VALUE, 4));
+    let e = 2 * hex_number(part(line, ENUM, 4));
+    let mut value_out = Output::new(&mut value);
+    write_value(&mut value_out, line, part(line, NAMES, v));
+    let mut enum_out = Output::new(&mut enum_name);
+    write_unhexed(&mut enum_out, part(line, NAMES + v, e));
+    replay(
         rt,
-        byte_at(s, 0),
-        part(&value, 0, n),
-        part(&enum_name, 0, m),
-        &mut out,
-        room,
+        asked,
+        written(&value_out),
+        written(&enum_out),
+        &mut out[..hex_number(part(line, ROOM, 4))],
     )
 }
 
-// Replays the line at the beginning of `s`, and answers its length.
-fn replay_line(rt: &impl Print, s: &[u8]) -> io::Result<usize>
-    ensures { IfOk result (λ n. (0 < n) × (n < 1048576)) }
-{
-    let v = 2 * hex_number(part(s, VALUE, 4));
-    let e = 2 * hex_number(part(s, ENUM, 4));
-    let from = NAMES + v;
-    let length = from + e + 1;
-    replay_names(rt, s, part(s, NAMES, v), part(s, from, e))?;
-    Ok(length)
-}
-
-fn replay_all(rt: &impl Print, s: &[u8]) -> io::Result<()> {
-    let mut at = 0;
-    while at < s.len() {
-        at += replay_line(rt, part(s, at, s.len()))?;
-    }
-    Ok(())
-}
-
 fn main(rt: HostRuntime) -> io::Result<()> {
-    let mut input = [0u8; 65536];
-    let n = read_full(&mut rt.stdin(), &mut input)?;
-    replay_all(&rt, &input[..n])
+    replay_lines(&rt, replay_line)
 }

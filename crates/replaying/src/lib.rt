@@ -6,7 +6,8 @@
 
 ghost use Rattle.std.specs.Prelude.{◌<◌};
 
-use printing::put_byte;
+use inputs::read_full;
+use printing::Output;
 use refusals::Refusal;
 use std::io;
 use texts::{byte_at, part};
@@ -45,68 +46,90 @@ fn hex_digit(n: u8) -> u8 {
     }
 }
 
-// Puts the bytes that `hex` stands for, two digits each.
-pub fn put_unhexed(out: &mut [u8], at: usize, hex: &[u8]) -> usize {
-    let mut p = at;
+// Writes the bytes that `hex` stands for, two digits each.
+pub fn write_unhexed(out: &mut Output<'_>, hex: &[u8]) {
     for pair in hex.chunks(2) {
-        p = put_byte(out, p, hex_byte(byte_at(pair, 0), byte_at(pair, 1)));
+        out.byte(hex_byte(byte_at(pair, 0), byte_at(pair, 1)));
     }
-    p
 }
 
-// Puts the bytes of `s` in hex.
-fn put_hexed(out: &mut [u8], at: usize, s: &[u8]) -> usize {
-    let mut p = at;
+// Writes the bytes of `s` in hex.
+fn write_hex(out: &mut Output<'_>, s: &[u8]) {
     for b in s {
-        let q = put_byte(out, p, hex_digit(*b / 16));
-        p = put_byte(out, q, hex_digit(*b % 16));
+        out.byte(hex_digit(*b / 16));
+        out.byte(hex_digit(*b % 16));
     }
-    p
 }
 
-pub fn write_numbers(
-    rt: &impl Print,
-    number: u32,
-    offset: usize,
-    place: usize,
-    n: usize,
-) -> io::Result<()> {
-    print!(rt; "{number} {offset} {place} {n} ")
-}
-
-// The four numbers of an answer.
-pub fn write_answer(rt: &impl Print, answer: Result<usize, Refusal>) -> io::Result<()> {
-    match answer {
-        Ok(n) => write_numbers(rt, 0, 0, 0, n),
-        Err(r) => { write_numbers(rt, r.number(), r.offset(), r.place(), 0) }
-    }
+// What was written to an output.
+pub fn written<'a>(out: &'a Output<'_>) -> &'a [u8] {
+    part(out.bytes, 0, out.at)
 }
 
 // The bytes of `s` in hex, and the end of the line: up to 32,767 bytes.
-pub fn write_hexed(rt: &impl Print, s: &[u8]) -> io::Result<()> {
+fn print_hex(rt: &impl Print, s: &[u8]) -> io::Result<()> {
     let mut line = [0u8; 65536];
-    let p = put_hexed(&mut line, 0, s);
-    let n = put_byte(&mut line, p, b'\n');
-    rt.write_all(part(&line, 0, n))
+    let mut out = Output::new(&mut line);
+    write_hex(&mut out, s);
+    out.byte(b'\n');
+    rt.write_all(written(&out))
+}
+
+// An answer: the refusal's three figures, 0 where there is none, n, and the bytes of `s`.
+pub fn print_answer(
+    rt: &impl Print,
+    refusal: Option<Refusal>,
+    n: usize,
+    s: &[u8],
+) -> io::Result<()> {
+    let (number, offset, place) = match refusal {
+        Some(r) => (r.number(), r.offset(), r.place()),
+        None => (0, 0, 0),
+    };
+    print!(rt; "{number} {offset} {place} {n} ")?;
+    print_hex(rt, s)
+}
+
+fn ends_line(b: &u8) -> bool {
+    *b == b'\n'
+}
+
+// Replays each line of the input.
+pub fn replay_lines<F: Fn(&HostRuntime, &[u8]) -> io::Result<()>>(
+    rt: &HostRuntime,
+    replay: F,
+) -> io::Result<()>
+    requires { F.IsAlwaysCallable replay }
+{
+    let mut input = [0u8; 65536];
+    let n = read_full(&mut rt.stdin(), &mut input)?;
+    for line in input[..n].split_inclusive(ends_line) {
+        replay(rt, line)?;
+    }
+    Ok(())
 }
 
 // Where the document stands in a line that has one alone, behind its length in four hex digits and a space.
 const DOCUMENT: usize = 5;
 
-// Replays each line of `s`, which has a document in hex.
-pub fn replay_documents<R: Print, F: Fn(&R, &[u8]) -> io::Result<()>>(
-    rt: &R,
-    s: &[u8],
-    replay: F,
-) -> io::Result<()>
-    requires { F.IsAlwaysCallable replay }
+// Writes the document of a line that has one alone.
+pub fn write_document(out: &mut Output<'_>, line: &[u8]) {
+    write_unhexed(out, part(line, DOCUMENT, 2 * hex_number(line)));
+}
+
+// Prints what `read` answers on the document of a line, and the bytes that it wrote.
+pub fn replay_read<F>(rt: &HostRuntime, line: &[u8], read: F) -> io::Result<()>
+where
+    F: Fn(&[u8], &mut [u32], &mut [u8], &mut [u8]) -> Result<usize, Refusal>,
+    requires { F.IsAlwaysCallable read }
 {
-    let mut at = 0;
-    while at < s.len() {
-        let line = part(s, at, s.len());
-        let digits = 2 * hex_number(line);
-        replay(rt, part(line, DOCUMENT, digits))?;
-        at += DOCUMENT + digits + 1;
-    }
-    Ok(())
+    let mut document = [0u8; 65536];
+    let mut records = [0u32; 16384];
+    let mut text = [0u8; 65536];
+    let mut out = [0u8; 65536];
+    let mut d = Output::new(&mut document);
+    write_document(&mut d, line);
+    let answer = read(written(&d), &mut records, &mut text, &mut out);
+    let n = answer.unwrap_or(0);
+    print_answer(rt, answer.err(), n, part(&out, 0, n))
 }

@@ -12,3 +12,9 @@ use Rattle.saxlite.proofs.Tagged.{known-closes, begun-unnamed, begun-open, begun
 pub ruleset laws = (scan-start, scan-on, scan-stop, scan-end, until-on, until_stop, byte-on, byte-stop, stands_on, stands-fits, prefix-some, prefix-none, lost-within, lost-fits, past-step, past-refused, close-ends, close_open, open-unnamed, open-ends, open-broken, markup-comment, markup-instruction, markup-declaration, markup-close, markup-open, step_end, step-markup, step-text, as-end, as-text, as-refused, as-past, as-close, as-other, as-open, begun-from, begun-lost, begun-fits, begun-unnamed, begun-open, begun-broken, rules)
 
 pub ruleset closing = (closing-fits, closing-next-fits, closing-lost, closing-local-fits, known-closes, rules)
+
+-- of the figures of a close tag
+pub ruleset fitting = (stands-fits, lost-within, lost-fits, rules)
+
+-- of an open tag
+pub ruleset opening = (begun-from, begun-lost, begun-fits, begun-unnamed, begun-open, begun-broken, as-open, as-refused, as-other, open-unnamed, open-ends, open-broken, rules)

@@ -17,6 +17,7 @@ use Rattle.saxlite.specs.declared.step.Step.{Step}
 use Rattle.saxlite.specs.declared.step.Step.TheVariants.{Text, Open, Close, Skipped, End, Refused}
 use Rattle.saxlite.specs.declared.step.NotedStep.{NotedStep}
 use Rattle.saxlite.specs.declared.reader.Cursor.{Cursor}
+use Rattle.saxlite.specs.declared.reader.Owed.{Owed}
 use Rattle.saxlite.specs.declared.reader.Read.{Read}
 use Rattle.saxlite.specs.Step.{past_end, close_at, open_at, step_at}
 use Rattle.saxlite.specs.Reader.{read_step, owed_close}
@@ -84,10 +85,11 @@ in_step doc at End noted n = tt
 in_step doc at (Refused q) noted n = tt
 
 module _ (doc : List ℕ) (c : Cursor) where
-  pub at_owed : c.owed ≡ true → {r : Read} → r ≡ owed_close c → {noted : Notes} → NotedAt doc c (record { read = r; noted = noted })
+  pub at_owed : {o : Owed} → c.owed ≡ Some o → {r : Read} → r ≡ owed_close c.at o → {noted : Notes} → NotedAt doc c (record { read = r; noted = noted })
+  unfolding owed_close
   at_owed t e = record { is = read-owed doc c t e; noted = rw e tt }
 
-  pub at-step : c.owed ≡ false → {s : NotedStep} → NotedAs (step_at doc c.at) doc s → {r : Read} → r ≡ read_step c.at s.step → NotedAt doc c (record { read = r; noted = s.noted })
+  pub at-step : c.owed ≡ None → {s : NotedStep} → NotedAs (step_at doc c.at) doc s → {r : Read} → r ≡ read_step c.at s.step → NotedAt doc c (record { read = r; noted = s.noted })
   at-step t {s} n {r} e = record { is = read-step doc c t n.is e; noted = rw e (in_step doc c.at s.step s.noted n.noted) }
 
 -- what the reader's own proof cites

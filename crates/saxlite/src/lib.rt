@@ -6,9 +6,8 @@
 // `reader::Reader` holds the document and yields one event at a time. `passing` goes past what changes
 // nothing, as comments and text that nobody collects, in one loop.
 //
-// A reader and a cursor require nothing of a caller; what goes on in a loop is lent the classes of bytes. Each promise is one
-// equation with a definition of specs/, on all
-// inputs: specs/Step.antt and specs/Reader.antt, after 01, "Reading markup". What a step means is specs/Event.antt,
+// A reader and a cursor require nothing of a caller. Each promise is one equation with a definition of specs/, on all inputs:
+// specs/Step.antt and specs/Reader.antt, after 01, "Reading markup". What a step means is specs/Event.antt,
 // with texts and values decoded (`entities`). `passing` promises that it passed such steps alone (specs/Passing.antt).
 // Every step moves forward and stays within the document (proofs/Moving.antt).
 #![tactic(auto)]

@@ -1,6 +1,9 @@
 // Past what changes nothing, in one loop: text that nobody collects, comments, instructions, declarations, and closes of no
 // name outside of every element. Each is a step of the reader (specs/Passing.antt), and here a turn of its driver less. This
 // is for speed alone: what is not passed is read. Where markup that is skipped ends, the reader asks here too.
+//
+// kept: whether text is collected, and whether no element is open, are two parameters. The state tells both anew between two turns, and half
+// of what is passed asks for one alone.
 #![tactic(auto, using(crate::proofs::Finding::finding, crate::proofs::Idling::passing))]
 
 ghost use Rattle.std.specs.Prelude.{true, false, List, ℕ, ◌+◌, ◌≤◌, ◌<◌, length};
@@ -19,43 +22,31 @@ fn found(doc: &[u8], from: usize, needle: &[u8]) -> usize
     find(doc, from, needle).unwrap_or(doc.len())
 }
 
-// The same of a needle that most likely stands at `from`, and that has these numbers.
-fn found_by(doc: &[u8], from: usize, needle: &[u8], modulus: u64, front: u64) -> usize
-    requires { (8 ≤ length doc.now) × (0 < length needle.now) × ShortText needle.now modulus front }
+// Where `needle`, which has these numbers, first stands from `from` on, by words.
+fn found_far<const N: usize>(
+    doc: &[u8],
+    from: usize,
+    needle: &[u8; N],
+    modulus: u64,
+    front: u64,
+) -> usize
+    requires { (0 < length needle.now) × ShortText needle.now modulus front }
     ensures { FoundAt needle.now doc.now from result }
 {
-    if from <= doc.len() - 8 {
-        if stands_short(doc, from, modulus, front) {
-            return from;
+    if doc.len() < 8 {
+        return found(doc, from, needle);
+    }
+    let near = text_from(doc, from, needle);
+    if near <= doc.len() - 8 {
+        if stands_short(doc, near, modulus, front) {
+            return near;
         }
     }
-    found(doc, from, needle)
-}
-
-// Where the comment that is open at `from` ends, by words.
-pub fn comment_far(doc: &[u8], from: usize) -> usize
-    ensures { FoundAt (ascii "-->") doc.now from result }
-{
-    if doc.len() < 8 {
-        return found(doc, from, b"-->");
-    }
-    let near = text_from(doc, from, b"-->");
-    found_by(doc, near, b"-->", 0x100_0000, 0x3e_2d2d)
-}
-
-// The same of an instruction.
-pub fn instruction_far(doc: &[u8], from: usize) -> usize
-    ensures { FoundAt (ascii "?>") doc.now from result }
-{
-    if doc.len() < 8 {
-        return found(doc, from, b"?>");
-    }
-    let near = text_from(doc, from, b"?>");
-    found_by(doc, near, b"?>", 0x1_0000, 0x3e3f)
+    found(doc, near, needle)
 }
 
 // What ends markup that is passed over.
-trait MarkupEnd {
+pub trait MarkupEnd {
     ghost needle: { List ℕ };
 
     // Whether it stands at `i`.
@@ -68,7 +59,7 @@ trait MarkupEnd {
         ensures { FoundAt needle doc.now from result };
 }
 
-struct CommentEnd;
+pub struct CommentEnd;
 
 impl MarkupEnd for CommentEnd {
     ghost needle = { ascii "-->" };
@@ -78,11 +69,11 @@ impl MarkupEnd for CommentEnd {
     }
 
     fn far(doc: &[u8], from: usize) -> usize {
-        comment_far(doc, from)
+        found_far(doc, from, b"-->", 0x100_0000, 0x3e_2d2d)
     }
 }
 
-struct InstructionEnd;
+pub struct InstructionEnd;
 
 impl MarkupEnd for InstructionEnd {
     ghost needle = { ascii "?>" };
@@ -92,11 +83,11 @@ impl MarkupEnd for InstructionEnd {
     }
 
     fn far(doc: &[u8], from: usize) -> usize {
-        instruction_far(doc, from)
+        found_far(doc, from, b"?>", 0x1_0000, 0x3e3f)
     }
 }
 
-struct DeclarationEnd;
+pub struct DeclarationEnd;
 
 impl MarkupEnd for DeclarationEnd {
     ghost needle = { ascii ">" };
@@ -112,7 +103,7 @@ impl MarkupEnd for DeclarationEnd {
 
 // Where the markup that is open at `from` ends: the first sixteen places one by one, as comments are often short, and then by
 // words. A search by words, whose answers wait for each other, costs as much as a dozen places one by one, which the processor
-// predicts. The reader, which meets one only where the loop below has not passed it, asks `comment_far` and `instruction_far`.
+// predicts. The reader, which meets one only where the loop below has not passed it, asks by words at once.
 fn markup_end<E: MarkupEnd>(doc: &[u8], from: usize) -> usize
     requires { from ≤ length doc.now }
     ensures { FoundAt E.needle doc.now from result }
@@ -122,6 +113,7 @@ fn markup_end<E: MarkupEnd>(doc: &[u8], from: usize) -> usize
     }
     let stop = from + 16;
     let mut i = from;
+    // kept: a `while`, since its steps are of four places.
     while i < stop {
         if E::stands(doc, i) {
             return i;
@@ -207,6 +199,7 @@ pub fn past_idle(doc: &[u8], at: usize, collecting: bool, outside: bool) -> usiz
     }
     let last = doc.len() - 8;
     let mut i = at;
+    // kept: a `while`, since its steps are pieces of markup and text.
     while i <= last {
         let next = past_one(doc, i, collecting, outside);
         if next == i {

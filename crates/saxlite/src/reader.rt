@@ -7,7 +7,6 @@ ghost use Rattle.saxlite.specs.Reader.{read_at, read_step, owed_close, at_end, c
 ghost use Rattle.saxlite.specs.Noting.{NotedAt, NotedIn};
 
 use crate::step::{NotedStep, Step, step_at, step_noting};
-use classes::Classes;
 use refusals::Refusal;
 use tags::tag::{Notes, nothing};
 
@@ -34,14 +33,19 @@ pub enum Event {
     Refused(Refusal),
 }
 
-// Where the reader stands; `owed` says that the self-closed tag at `place` still owes its close.
+// The close that the self-closed tag at `place` owes.
 #[derive(Clone, Copy)]
-pub struct Cursor {
-    pub at: usize,
-    pub owed: bool,
+pub struct Owed {
     pub place: usize,
     pub name: usize,
     pub len: usize,
+}
+
+// Where the reader stands, and the close that it yields before it goes on there.
+#[derive(Clone, Copy)]
+pub struct Cursor {
+    pub at: usize,
+    pub owed: Option<Owed>,
 }
 
 // An event, the place of its '<' or of its first byte, and where the reader goes on.
@@ -59,23 +63,11 @@ pub struct ReadNoted {
     pub noted: Notes,
 }
 
-impl Cursor {
-    // At a place, with no close owed.
-    pub fn at(at: usize) -> Cursor
-        ensures { result ≡ cursor_at at }
-    {
-        Cursor {
-            at,
-            owed: false,
-            place: 0,
-            name: 0,
-            len: 0,
-        }
-    }
-
-    // The close that is owed, where one is.
-    fn owed_close(self) -> Read
-        ensures { result ≡ owed_close self }
+impl Owed {
+    // The close, after which the reader goes on at `at`.
+    #[tactic(auto, unfolding(crate::specs::Reader::owed_close))]
+    fn close(self, at: usize) -> Read
+        ensures { result ≡ owed_close at self }
     {
         Read {
             event: Event::Close {
@@ -83,24 +75,35 @@ impl Cursor {
                 name_len: self.len,
             },
             place: self.place,
-            cursor: Cursor::at(self.at),
+            cursor: Cursor::at(at),
         }
+    }
+}
+
+impl Cursor {
+    // At a place, with no close owed.
+    pub fn at(at: usize) -> Cursor
+        ensures { result ≡ cursor_at at }
+    {
+        Cursor { at, owed: None }
     }
 
     // What stands here, and what is noted of the tag that is opened here.
-    pub fn read_noting(self, doc: &[u8], t: &Classes) -> ReadNoted
+    pub fn read_noting(self, doc: &[u8]) -> ReadNoted
         ensures { NotedAt doc.now self result }
     {
-        if self.owed {
-            return ReadNoted {
-                read: self.owed_close(),
+        match self.owed {
+            Some(owed) => ReadNoted {
+                read: owed.close(self.at),
                 noted: nothing(),
-            };
-        }
-        let NotedStep { step, noted } = step_noting(doc, self.at, t);
-        ReadNoted {
-            read: read_step(self.at, step),
-            noted,
+            },
+            None => {
+                let NotedStep { step, noted } = step_noting(doc, self.at);
+                ReadNoted {
+                    read: read_step(self.at, step),
+                    noted,
+                }
+            }
         }
     }
 
@@ -108,17 +111,20 @@ impl Cursor {
     pub fn read(self, doc: &[u8]) -> Read
         ensures { result ≡ read_at doc.now self }
     {
-        if self.owed {
-            return self.owed_close();
+        match self.owed {
+            Some(owed) => owed.close(self.at),
+            None => read_step(self.at, step_at(doc, self.at)),
         }
-        read_step(self.at, step_at(doc, self.at))
     }
 
     // Whether nothing is left to read.
     pub fn is_at_end(self, doc: &[u8]) -> bool
         ensures { result ≡ at_end doc.now self }
     {
-        !self.owed && doc.len() <= self.at
+        match self.owed {
+            Some(_) => false,
+            None => doc.len() <= self.at,
+        }
     }
 }
 
@@ -147,10 +153,15 @@ fn read_step(at: usize, step: Step) -> Read
             place: at,
             cursor: Cursor {
                 at: next,
-                owed: self_closed,
-                place: at,
-                name,
-                len: name_len,
+                owed: if self_closed {
+                    Some(Owed {
+                        place: at,
+                        name,
+                        len: name_len,
+                    })
+                } else {
+                    None
+                },
             },
         },
         Step::Close {
@@ -195,11 +206,18 @@ impl<'a> Reader<'a> {
         self.cursor.read(self.doc)
     }
 
+    // Whether nothing is left to read.
+    pub fn is_at_end(self) -> bool
+        ensures { result ≡ at_end self.entry.doc.now self.entry.cursor }
+    {
+        self.cursor.is_at_end(self.doc)
+    }
+
     // The next event; the reader has moved on.
-    pub fn next(&mut self, t: &Classes) -> ReadNoted
+    pub fn next(&mut self) -> ReadNoted
         ensures { (self.new.doc ≡ self.old.doc) × (result.read.cursor ≡ self.new.cursor) × (record { event = result.read.event; place = result.read.place; cursor = self.new.cursor } ≡ read_at self.old.doc.now self.old.cursor) × NotedIn self.old.doc.now result.read.event result.noted }
     {
-        let told = self.cursor.read_noting(self.doc, t);
+        let told = self.cursor.read_noting(self.doc);
         self.cursor = told.read.cursor;
         told
     }

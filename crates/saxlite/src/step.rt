@@ -6,8 +6,7 @@ ghost use Rattle.saxlite.specs.Step.{step_at, markup_at, close_at, open_at};
 ghost use Rattle.saxlite.specs.Passing.{StepPast};
 ghost use Rattle.saxlite.specs.Noting.{NotedAs};
 
-use crate::passing::{comment_far, instruction_far};
-use classes::Classes;
+use crate::passing::{CommentEnd, DeclarationEnd, InstructionEnd, MarkupEnd};
 use refusals::Refusal;
 use tags::beginning::{begin_at, closing_at};
 use tags::scan::{byte_from, prefix_len, skip_space, tag_name_end};
@@ -74,13 +73,13 @@ fn skip_past(doc: &[u8], end: usize, n: usize, refusal: Refusal) -> Step
 }
 
 // The close tag at `at`, of any name.
-fn close_any(doc: &[u8], at: usize, t: &Classes) -> Step
+fn close_any(doc: &[u8], at: usize) -> Step
     requires { at + 2 ≤ length doc.now }
     ensures { result ≡ close_at doc.now at }
 {
     let name = at + 2;
-    let end = tag_name_end(doc, name, t);
-    let due = skip_space(doc, end, t);
+    let end = tag_name_end(doc, name);
+    let due = skip_space(doc, end);
     if texts::starts_with(doc, due, b">") {
         let next = due + 1;
         let n = end - name;
@@ -100,7 +99,7 @@ fn close_any(doc: &[u8], at: usize, t: &Classes) -> Step
 }
 
 // The close tag at `at`: at once, where its name is known.
-fn close_at(doc: &[u8], at: usize, t: &Classes) -> Step
+fn close_at(doc: &[u8], at: usize) -> Step
     requires { at + 2 ≤ length doc.now }
     ensures { result ≡ close_at doc.now at }
 {
@@ -112,16 +111,17 @@ fn close_at(doc: &[u8], at: usize, t: &Classes) -> Step
             next: name + known.len + 1,
         };
     }
-    close_any(doc, at, t)
+    close_any(doc, at)
 }
 
 // The open tag at `at`.
-fn open_at(doc: &[u8], at: usize, t: &Classes) -> NotedStep
+#[tactic(auto, using(crate::proofs::Laws::opening))]
+fn open_at(doc: &[u8], at: usize) -> NotedStep
     requires { at + 1 ≤ length doc.now }
     ensures { NotedAs (open_at doc.now at) doc.now result }
 {
     let name = at + 1;
-    let begun = begin_at(doc, name, t);
+    let begun = begin_at(doc, name);
     let end = begun.end;
     if end == name {
         return bare(Step::Refused(Refusal::NoTagName {
@@ -133,7 +133,7 @@ fn open_at(doc: &[u8], at: usize, t: &Classes) -> NotedStep
     let n = end - name;
     let local = name + lost;
     let name_len = n - lost;
-    let tag = tag_noting(doc, end, at, begun.kind, t);
+    let tag = tag_noting(doc, end, at, begun.kind);
     match tag.ending {
         Ok(ending) => NotedStep {
             step: Step::Open {
@@ -150,40 +150,40 @@ fn open_at(doc: &[u8], at: usize, t: &Classes) -> NotedStep
 }
 
 // What the '<' at `at` begins.
-fn markup_at(doc: &[u8], at: usize, t: &Classes) -> NotedStep
+fn markup_at(doc: &[u8], at: usize) -> NotedStep
     requires { at < length doc.now }
     ensures { NotedAs (markup_at doc.now at) doc.now result }
 {
     if texts::starts_with(doc, at, b"<!--") {
         let from = at + 4;
-        let end = comment_far(doc, from);
+        let end = CommentEnd::far(doc, from);
         return bare(skip_past(doc, end, 3, Refusal::OpenComment { at }));
     }
     if texts::starts_with(doc, at, b"<?") {
         let from = at + 2;
-        let end = instruction_far(doc, from);
+        let end = InstructionEnd::far(doc, from);
         return bare(skip_past(doc, end, 2, Refusal::OpenInstruction { at }));
     }
     if texts::starts_with(doc, at, b"<!") {
         let from = at + 2;
-        let end = byte_from(doc, from, b'>');
+        let end = DeclarationEnd::far(doc, from);
         return bare(skip_past(doc, end, 1, Refusal::OpenDeclaration { at }));
     }
     if texts::starts_with(doc, at, b"</") {
-        return bare(close_at(doc, at, t));
+        return bare(close_at(doc, at));
     }
-    open_at(doc, at, t)
+    open_at(doc, at)
 }
 
 // The step of the reader at `at`, and what is noted of the tag that it opens.
-pub fn step_noting(doc: &[u8], at: usize, t: &Classes) -> NotedStep
+pub fn step_noting(doc: &[u8], at: usize) -> NotedStep
     ensures { NotedAs (step_at doc.now at) doc.now result }
 {
     if doc.len() <= at {
         return bare(Step::End);
     }
     if texts::starts_with(doc, at, b"<") {
-        return markup_at(doc, at, t);
+        return markup_at(doc, at);
     }
     let end = byte_from(doc, at, b'<');
     let len = end - at;
@@ -198,5 +198,5 @@ pub fn step_noting(doc: &[u8], at: usize, t: &Classes) -> NotedStep
 pub fn step_at(doc: &[u8], at: usize) -> Step
     ensures { result ≡ step_at doc.now at }
 {
-    step_noting(doc, at, &Classes::new()).step
+    step_noting(doc, at).step
 }

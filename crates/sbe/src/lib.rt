@@ -2,7 +2,9 @@
 //
 // Every function answers the refusal's number, 0 for accepted, and always sets offset, place and n.
 // Its contract gives these four numbers and every byte of the output, on all inputs.
-#![tactic(auto)]
+//
+// kept: buffers, offset, place and n are the parameters that C hands over.
+#![tactic(auto, using(crate::proofs::Reporting::laws))]
 
 ghost use Rattle.std.specs.Prelude.{◌≡◌, length};
 ghost use Rattle.conversions.specs.Conversions.{camel_to_snake, snake_to_camel, camel_to_screaming_snake, screaming_snake_to_pascal, strip_enum_prefix, singular_pascal};
@@ -54,6 +56,7 @@ pub extern "C" fn sbe_xml_to_proto(
     report(converted, offset, place, n)
 }
 
+// kept: a function for each conversion, as C calls them.
 #[unsafe(no_mangle)]
 pub extern "C" fn sbe_camel_to_snake(
     name: &[u8],

@@ -1,6 +1,8 @@
 // Where a tag begins: its raw name, and what that says. Nearly every tag of a schema is of one of eleven names, written with a
 // space behind it, or with '>' where it closes: that is told by one comparison, with no walk for the name's end, a colon or the
 // names that matter.
+//
+// kept: the numbers of a text are parameters, and the room for two words is asked of the caller, as in `known`.
 #![tactic(auto, using(crate::proofs::Laws::beginning))]
 
 ghost use Rattle.std.specs.Prelude.{◌≡◌, ◌+◌, ◌≤◌, length};
@@ -9,7 +11,6 @@ ghost use Rattle.tags.specs.Beginning.{tagged_text, KnownBeginning, KnownShort, 
 use crate::scan::raw_name;
 use crate::tag::TagKind::{Enum, Other, Schema, Type};
 use crate::tag::{TagKind, kind_of};
-use classes::Classes;
 use words::{stands_long, stands_short};
 
 // A beginning that is known: the number of its raw name (specs/Beginning.antt), which names matter there, and the lengths of
@@ -187,7 +188,7 @@ fn opening_at(doc: &[u8], at: usize) -> Option<Opening>
 }
 
 // The beginning of the tag whose raw name is due at `name`.
-pub fn begin_at(doc: &[u8], name: usize, t: &Classes) -> Beginning
+pub fn begin_at(doc: &[u8], name: usize) -> Beginning
     requires { name ≤ length doc.now }
     ensures { BeginsAt doc.now name result }
 {
@@ -217,7 +218,7 @@ pub fn begin_at(doc: &[u8], name: usize, t: &Classes) -> Beginning
             };
         }
     }
-    let raw = raw_name(doc, name, t);
+    let raw = raw_name(doc, name);
     let n = raw.end - name;
     let local = texts::part(doc, name + raw.lost, n - raw.lost);
     Beginning {
@@ -285,6 +286,7 @@ fn closing_by(doc: &[u8], at: usize) -> Option<Opening>
 }
 
 // The same; none is looked for in the last 15 bytes.
+// kept: one function for both beginnings takes 3 % more instructions, as it then has two callers.
 pub fn closing_at(doc: &[u8], at: usize) -> Option<Opening>
     ensures { KnownBeginning 62 doc.now at result }
 {

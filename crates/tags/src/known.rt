@@ -1,5 +1,8 @@
 // Attributes whose names are known beforehand. Nearly every attribute of a schema is one of these, written `name="`:
 // it is told by one comparison, with no walk for the name's end, a colon or the names that matter.
+//
+// kept: the numbers of a text (`modulus`, `front`, `back`) and of its name (`code`, `skip`) are parameters, constants at each call. A struct
+// of them would be written out at each call as well; and the room for two words is asked of the caller, who tests it once for all.
 #![tactic(auto, using(crate::proofs::Laws::telling))]
 
 ghost use Rattle.std.specs.Prelude.{◌≡◌, ◌+◌, ◌≤◌, length};

@@ -5,9 +5,12 @@
 // its element looks up. `known` and `beginning` tell the names that nearly every tag of a schema has by a word or two; the
 // general way answers for all others.
 //
-// `tag_part` and `attribute` require nothing of a caller; what the reader calls is lent the classes of bytes. Each promise is with a definition of specs/, on all inputs: specs/Find.antt, specs/Names.antt and
-// specs/Attributes.antt, after 01, "Reading markup". What is noted is specs/Noting.antt. A tag's values lie within the tag,
+// `tag_part` and `attribute` require nothing of a caller. Each promise is with a definition of specs/, on all inputs:
+// specs/Find.antt, specs/Names.antt and specs/Attributes.antt, after 01, "Reading markup". What is noted is specs/Noting.antt. A tag's values lie within the tag,
 // without overlap (proofs/Ranges.antt).
+//
+// kept: a document and a place in it are two parameters, here and in saxlite, elements and numbers. A place is what a caller goes on
+// from; a struct of both would be made at each call and taken apart at once. The reader, which goes on by itself, is one.
 #![tactic(auto)]
 
 pub mod beginning;

@@ -9,86 +9,86 @@ ghost use Rattle.classes.specs.Class.{is_space, is_tag_name_end, is_attribute_na
 ghost use Rattle.tags.specs.Find.{find_from};
 ghost use Rattle.tags.specs.Names.{prefix_length, is_xmlns};
 
-use classes::Classes;
+use classes::{is_attribute_name_end, is_name_stop, is_space, is_tag_name_end};
 use texts::scan::{ByteTest, scan_fours};
 use words::stands_short;
 
 #[derive(Clone, Copy)]
-struct Spaces<'a>(&'a Classes);
+struct Spaces;
 
-impl<'a> ByteTest for Spaces<'a> {
+impl ByteTest for Spaces {
     ghost test = { is_space };
 
     fn passes(&self, b: u8) -> bool {
-        self.0.is_space(b)
+        is_space(b)
     }
 }
 
 #[derive(Clone, Copy)]
-struct TagNames<'a>(&'a Classes);
+struct TagNames;
 
-impl<'a> ByteTest for TagNames<'a> {
+impl ByteTest for TagNames {
     ghost test = { until is_tag_name_end };
 
     fn passes(&self, b: u8) -> bool {
-        !self.0.is_tag_name_end(b)
+        !is_tag_name_end(b)
     }
 }
 
 // The bytes of a raw name that are no colon.
 #[derive(Clone, Copy)]
-struct NameParts<'a>(&'a Classes);
+struct NameParts;
 
-impl<'a> ByteTest for NameParts<'a> {
+impl ByteTest for NameParts {
     ghost test = { until is_name_stop };
 
     fn passes(&self, b: u8) -> bool {
-        !self.0.is_name_stop(b)
+        !is_name_stop(b)
     }
 }
 
 #[derive(Clone, Copy)]
-struct AttributeNames<'a>(&'a Classes);
+struct AttributeNames;
 
-impl<'a> ByteTest for AttributeNames<'a> {
+impl ByteTest for AttributeNames {
     ghost test = { until is_attribute_name_end };
 
     fn passes(&self, b: u8) -> bool {
-        !self.0.is_attribute_name_end(b)
+        !is_attribute_name_end(b)
     }
 }
 
 // Past the spaces at `at`: where a tag has none, as mostly, one byte tells it, and where it has one, two.
-pub fn skip_space(doc: &[u8], at: usize, t: &Classes) -> usize
+pub fn skip_space(doc: &[u8], at: usize) -> usize
     ensures { result ≡ scan is_space doc.now at }
 {
     if doc.len() <= at {
         return at;
     }
-    if t.is_space(doc[at]) {
+    if is_space(doc[at]) {
         let i = at + 1;
         if i < doc.len() {
-            if !t.is_space(doc[i]) {
+            if !is_space(doc[i]) {
                 return i;
             }
         }
-        return scan_fours(doc, i, &Spaces(t));
+        return scan_fours(doc, i, &Spaces);
     }
     at
 }
 
 // Where the tag name at `at` ends.
-pub fn tag_name_end(doc: &[u8], at: usize, t: &Classes) -> usize
+pub fn tag_name_end(doc: &[u8], at: usize) -> usize
     ensures { result ≡ scan (until is_tag_name_end) doc.now at }
 {
-    scan_fours(doc, at, &TagNames(t))
+    scan_fours(doc, at, &TagNames)
 }
 
 // Where the raw name at `at` ends or first has a colon.
-fn name_stop(doc: &[u8], at: usize, t: &Classes) -> usize
+fn name_stop(doc: &[u8], at: usize) -> usize
     ensures { result ≡ scan (until is_name_stop) doc.now at }
 {
-    scan_fours(doc, at, &NameParts(t))
+    scan_fours(doc, at, &NameParts)
 }
 
 // A raw name: where it ends, and how many bytes it loses.
@@ -99,14 +99,15 @@ pub struct Raw {
 }
 
 // The raw name at `at`, in one walk: a name that takes the whole document is not walked again for its colon.
-pub fn raw_name(doc: &[u8], at: usize, t: &Classes) -> Raw
+#[tactic(auto, using(crate::proofs::Laws::stopping))]
+pub fn raw_name(doc: &[u8], at: usize) -> Raw
     requires { at ≤ length doc.now }
     ensures { (result.end ≡ scan (until is_tag_name_end) doc.now at) × (result.lost ≡ prefix_length (piece doc.now at (result.end - at))) }
 {
-    let stop = name_stop(doc, at, t);
+    let stop = name_stop(doc, at);
     if stop < doc.len() {
         if doc[stop] == b':' {
-            let end = tag_name_end(doc, stop, t);
+            let end = tag_name_end(doc, stop);
             let lost = stop - at + 1;
             return Raw { end, lost };
         }
@@ -116,19 +117,20 @@ pub fn raw_name(doc: &[u8], at: usize, t: &Classes) -> Raw
 
 // Where the attribute name at `at` ends. "xmlns" is told by a word: with '=' behind it, at once. Each way has a return of its own,
 // so that the processor guesses the way, and waits for no choice between two places.
-pub fn attribute_name_end(doc: &[u8], at: usize, t: &Classes) -> usize
+#[tactic(auto, using(crate::proofs::Declaring::declaring))]
+pub fn attribute_name_end(doc: &[u8], at: usize) -> usize
     ensures { result ≡ scan (until is_attribute_name_end) doc.now at }
 {
     if doc.len() < 8 || doc.len() - 8 < at {
-        return scan_fours(doc, at, &AttributeNames(t));
+        return scan_fours(doc, at, &AttributeNames);
     }
     if stands_short(doc, at, 0x100_0000_0000, 0x73_6e6c_6d78) {
         if doc[at + 5] == b'=' {
             return at + 5;
         }
-        return scan_fours(doc, at + 5, &AttributeNames(t));
+        return scan_fours(doc, at + 5, &AttributeNames);
     }
-    scan_fours(doc, at, &AttributeNames(t))
+    scan_fours(doc, at, &AttributeNames)
 }
 
 // Where the first `b` from `at` on stands, or the end.
@@ -174,6 +176,7 @@ pub fn is_xmlns(name: &[u8]) -> bool
 }
 
 // Whether the raw name of `n` bytes at `raw` declares a namespace, by a word where there is room for one.
+#[tactic(auto, using(crate::proofs::Declaring::declaring))]
 pub fn is_xmlns_at(doc: &[u8], raw: usize, n: usize) -> bool
     ensures { result ≡ is_xmlns (piece doc.now raw n) }
 {

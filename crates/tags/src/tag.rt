@@ -11,11 +11,11 @@ ghost use Rattle.tags.specs.Known.{known_name, kind_by, keys_by, CodesOf, QuickA
 
 use crate::known::{Codes, codes_of, known_at};
 use crate::scan::{attribute_name_end, byte_from, is_xmlns_at, prefix_len, skip_space};
-use classes::Classes;
 use refusals::Refusal;
 use texts::Range;
 
 // One part of a tag: an attribute with the ranges of its raw name and raw value, or the tag's end.
+// kept: no `Result`, as neither is an error; a refusal is the `Err` around it.
 #[derive(Clone, Copy)]
 pub enum TagPart {
     Attribute {
@@ -167,29 +167,29 @@ fn value_part(
 }
 
 // The attribute that is due at `at`.
-fn attribute_part(doc: &[u8], at: usize, place: usize, t: &Classes) -> Result<TagPart, Refusal>
+fn attribute_part(doc: &[u8], at: usize, place: usize) -> Result<TagPart, Refusal>
     ensures { result ≡ attribute_part_at doc.now at place }
 {
-    let end = attribute_name_end(doc, at, t);
+    let end = attribute_name_end(doc, at);
     if end == at {
         return Err(Refusal::NoAttributeName { offset: at, place });
     }
-    let equals = skip_space(doc, end, t);
+    let equals = skip_space(doc, end);
     if !texts::starts_with(doc, equals, b"=") {
         return Err(Refusal::NoEquals {
             offset: equals,
             place,
         });
     }
-    let value = skip_space(doc, equals + 1, t);
+    let value = skip_space(doc, equals + 1);
     value_part(doc, at, end - at, value, place)
 }
 
-// The part of a tag at `at`; `place` is the tag's '<'. The table of classes is lent, so that a loop makes it once.
-pub fn tag_part_in(doc: &[u8], at: usize, place: usize, t: &Classes) -> Result<TagPart, Refusal>
+// The part of a tag at `at`; `place` is the tag's '<'.
+pub fn tag_part(doc: &[u8], at: usize, place: usize) -> Result<TagPart, Refusal>
     ensures { result ≡ tag_part_at doc.now at place }
 {
-    let i = skip_space(doc, at, t);
+    let i = skip_space(doc, at);
     if doc.len() <= i {
         return Err(Refusal::OpenTag { offset: i, place });
     }
@@ -205,14 +205,7 @@ pub fn tag_part_in(doc: &[u8], at: usize, place: usize, t: &Classes) -> Result<T
             self_closed: true,
         }));
     }
-    attribute_part(doc, i, place, t)
-}
-
-// The same with a table of its own.
-pub fn tag_part(doc: &[u8], at: usize, place: usize) -> Result<TagPart, Refusal>
-    ensures { result ≡ tag_part_at doc.now at place }
-{
-    tag_part_in(doc, at, place, &Classes::new())
+    attribute_part(doc, i, place)
 }
 
 // A part of a tag, and the number of the attribute's name where that is known (specs/Known.antt).
@@ -223,7 +216,7 @@ pub struct Quick {
 }
 
 // The part of a tag at `at`: at once, where it is a known attribute behind one space.
-fn quick_part(doc: &[u8], at: usize, place: usize, t: &Classes) -> Quick
+fn quick_part(doc: &[u8], at: usize, place: usize) -> Quick
     ensures { QuickAt doc.now at place result }
 {
     if texts::starts_with(doc, at, b" ") {
@@ -238,7 +231,7 @@ fn quick_part(doc: &[u8], at: usize, place: usize, t: &Classes) -> Quick
     }
     Quick {
         code: None,
-        part: tag_part_in(doc, at, place, t),
+        part: tag_part(doc, at, place),
     }
 }
 
@@ -405,14 +398,15 @@ pub fn noted_of(notes: Notes) -> Noted
 }
 
 // The tag whose attributes begin at `at`: how it ends, and the raw values of the last attributes of four names.
-pub fn tag_noting(doc: &[u8], at: usize, place: usize, kind: TagKind, t: &Classes) -> Whole
+pub fn tag_noting(doc: &[u8], at: usize, place: usize, kind: TagKind) -> Whole
     ensures { (result.ending ≡ (tag_at doc.now at place).ending) × NotedBy (keys_by kind) doc.now at result.noted }
 {
     let codes = codes_of(kind);
     let mut i = at;
     let mut noted = nothing();
+    // kept: a `loop` over the parts of a tag, which the part that ends it answers.
     loop {
-        let Quick { code, part } = quick_part(doc, i, place, t);
+        let Quick { code, part } = quick_part(doc, i, place);
         match part {
             Ok(
                 TagPart::Attribute {
@@ -453,6 +447,7 @@ pub fn tag_noting(doc: &[u8], at: usize, place: usize, kind: TagKind, t: &Classe
 }
 
 // Which names matter in a tag of the element `name`.
+// kept: text by text; three names with three answers are no shorter as a list.
 pub fn kind_of(name: &[u8]) -> TagKind
     ensures { keys_by result ≡ keys_of name.now }
 {
@@ -471,12 +466,12 @@ pub fn kind_of(name: &[u8]) -> TagKind
 pub fn attribute(doc: &[u8], at: usize, name: &[u8]) -> Option<Range>
     ensures { result ≡ attribute_at doc.now at name.now }
 {
-    let t = Classes::new();
     let mut i = at;
     let mut noted = nothing();
+    // kept: a `loop` over the parts of a tag, which the part that ends it answers.
     loop {
         // The place matters to refusals alone, and none is told here.
-        match tag_part_in(doc, i, 0, &t) {
+        match tag_part(doc, i, 0) {
             Ok(
                 TagPart::Attribute {
                     name: raw,

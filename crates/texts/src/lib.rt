@@ -51,6 +51,7 @@ pub fn equal(a: &[u8], b: &[u8]) -> bool
 }
 
 // Whether `needle` stands at `at`.
+// kept: a place beside the text, since it may lie past the end.
 pub fn starts_with(s: &[u8], at: usize, needle: &[u8]) -> bool
     ensures { result ≡ starts_with needle.now (drop at s.now) }
 {
@@ -86,6 +87,7 @@ fn bits<const N: usize>(s: &[u8], i: usize) -> u8
 }
 
 // From `from` on past blocks of `N` bytes that are ASCII.
+// kept: a place beside the text, since the next walk goes on from the place that is found.
 fn past_blocks<const N: usize>(s: &[u8], from: usize) -> usize
     requires some { 0 < N }
     requires within { from ≤ length s.now }
@@ -93,6 +95,7 @@ fn past_blocks<const N: usize>(s: &[u8], from: usize) -> usize
     ensures same { scan is_ascii s.now result ≡ scan is_ascii s.now from }
 {
     let mut i = from;
+    // kept: a `while`, since its steps are blocks.
     while N <= s.len() - i {
         if 128 <= bits::<N>(s, i) {
             return i;
@@ -114,6 +117,7 @@ pub fn ascii_end(s: &[u8]) -> usize
 // ---- trimming
 
 // Bytes 9 to 13 and 32.
+#[tactic(auto, using(crate::proofs::Laws::laws))]
 fn is_blank(b: u8) -> bool
     ensures { result ≡ is_blank b }
 {
@@ -137,6 +141,7 @@ impl ByteTest for Blank {
 }
 
 // How many bytes are left when those at the back that are blank are dropped.
+#[tactic(auto, using(crate::proofs::Laws::laws))]
 fn kept(s: &[u8]) -> usize
     ensures { KeptTo s.now result }
 {
@@ -158,6 +163,7 @@ pub fn trim(s: &[u8]) -> &[u8]
 }
 
 // Where a piece of a text lies when it is trimmed.
+// kept: a place beside the text, since the range that is answered is of the whole text.
 pub fn trim_range(s: &[u8], from: usize, len: usize) -> Range
     ensures { TrimmedTo s.now from len result }
 {

@@ -12,6 +12,7 @@ pub trait ByteTest {
 }
 
 // Where the first byte from `from` on stands that fails the test, or the end; `from` itself where it is past the end.
+// kept, here and below: a place beside the text, since what is found is a place of the whole text.
 pub fn scan_each<T: ByteTest>(s: &[u8], from: usize, by: &T) -> usize
     ensures { result ≡ scan T.test s.now from }
 {
@@ -33,6 +34,7 @@ pub fn scan_fours<T: ByteTest>(s: &[u8], from: usize, by: &T) -> usize
     }
     let last = s.len() - 4;
     let mut i = from;
+    // kept: a `while`, since its steps are of four bytes.
     while i <= last {
         if !by.passes(s[i]) {
             return i;

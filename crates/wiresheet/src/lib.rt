@@ -4,6 +4,8 @@
 // `same_source` converts two documents and tells whether the two sources are the same bytes. Its
 // contract `Decides` (specs/Demand.antt) is demand 3: where both schemas are plain
 // (specs/Plain.antt), accepted and printed, it answers true exactly when their wire sheets are equal.
+//
+// kept: an output, a view and an item's position are parameters, as in xmltoproto.
 #![tactic(auto)]
 
 pub mod sheet;

@@ -1,19 +1,18 @@
 // The wire sheet of a schema, printed as lines from the model (specs/Sheet.antt).
 #![tactic(auto, using(printing::proofs::Writing::writing))]
 
-ghost use Rattle.std.specs.Prelude.{[]};
+ghost use Rattle.std.specs.Prelude.{List, [], ℕ};
 ghost use Rattle.texts.specs.Choice.{pick};
 ghost use Rattle.texts.specs.Lists.{each};
 ghost use Rattle.printing.specs.Written.{Wrote};
-ghost use Rattle.model.specs.Schema.{item_at, under, all_of, a_member, a_ref, an_enum, a_value, a_message, a_group, a_field};
+ghost use Rattle.model.specs.Schema.{Schema, item_at, under, all_of};
 ghost use Rattle.xmltoproto.specs.Types.{form_of, meaning};
-ghost use Rattle.xmltoproto.specs.Composites.{is_printed, printed_composites};
+ghost use Rattle.xmltoproto.specs.Composites.{is_printed};
 ghost use Rattle.xmltoproto.specs.Shapes.{form};
 ghost use Rattle.wiresheet.specs.Sheet.{named, kind_of, kind_by, value_of, enum_of, member_of, ref_of, composite_of, field_of, group_of, message_of, sheet, kind_shown, enum_shown, composite_shown, field_shown, group_shown, message_shown, sheet_lines};
 ghost use Rattle.wiresheet.specs.SheetLines.{value_shown, part_shown, group_line, schema_line};
 
 use charsets::is_compatible;
-use classes::Classes;
 use conversions::convert::{write_screaming, write_singular, write_snake};
 use index::seen::declaration_in;
 use model::view::View;
@@ -73,175 +72,173 @@ fn write_kind_of(out: &mut Output<'_>, v: &View<'_>, name: &[u8])
     }
 }
 
-// ---- enums
+// ---- the lines of items
 
-fn write_value_line(out: &mut Output<'_>, classes: &Classes, v: &View<'_>, i: u32)
-    ensures { Wrote out.old out.new (value_shown (value_of (item_at v.now i))) }
-{
-    out.text(b"value\t");
-    write_screaming(out, classes, v.name(i));
-    out.text(b"\t");
-    out.text(v.second(i));
-    out.text(b"\n");
+// What is written of an item, by the schema that it is in.
+// kept: `walk` of xmltoproto goes by an index, which a sheet has none of, so this one goes by the view.
+trait Lines {
+    ghost text: { Schema → ℕ → List ℕ };
+
+    fn write(&self, out: &mut Output<'_>, v: &View<'_>, i: u32)
+        ensures { Wrote out.old out.new (text v.now i) };
 }
 
-fn write_value_lines(out: &mut Output<'_>, classes: &Classes, v: &View<'_>, e: u32)
-    ensures { Wrote out.old out.new (each (λ x. value_shown (value_of (item_at v.now x))) (under a_value e v.now)) }
+// Of each item of a kind under an owner.
+fn write_under<T: Lines>(out: &mut Output<'_>, v: &View<'_>, kind: u32, owner: u32, by: &T)
+    ensures { Wrote out.old out.new (each (T.text v.now) (under kind owner v.now)) }
 {
-    for i in v.under(VALUE, e) {
-        write_value_line(out, classes, v, i);
+    for i in v.under(kind, owner) {
+        by.write(out, v, i);
     }
 }
 
-fn write_enum_lines(out: &mut Output<'_>, classes: &Classes, v: &View<'_>, i: u32)
-    ensures { Wrote out.old out.new (enum_shown (enum_of v.now i)) }
+// Of each item of a kind.
+fn write_all<T: Lines>(out: &mut Output<'_>, v: &View<'_>, kind: u32, by: &T)
+    ensures { Wrote out.old out.new (each (T.text v.now) (all_of kind v.now)) }
 {
-    out.text(b"enum\t");
-    out.text(v.name(i));
-    out.text(b"\n");
-    write_value_lines(out, classes, v, i);
+    for i in v.all_of(kind) {
+        by.write(out, v, i);
+    }
 }
 
-fn write_all_enum_lines(out: &mut Output<'_>, classes: &Classes, v: &View<'_>)
-    ensures { Wrote out.old out.new (each (λ e. enum_shown (enum_of v.now e)) (all_of an_enum v.now)) }
-{
-    for i in v.all_of(ENUM) {
-        write_enum_lines(out, classes, v, i);
+// ---- enums
+
+struct ValueLine;
+
+impl Lines for ValueLine {
+    ghost text = { λ s i. value_shown (value_of (item_at s i)) };
+
+    fn write(&self, out: &mut Output<'_>, v: &View<'_>, i: u32) {
+        out.text(b"value\t");
+        write_screaming(out, v.name(i));
+        out.text(b"\t");
+        out.text(v.second(i));
+        out.text(b"\n");
+    }
+}
+
+struct EnumLines;
+
+impl Lines for EnumLines {
+    ghost text = { λ s i. enum_shown (enum_of s i) };
+
+    fn write(&self, out: &mut Output<'_>, v: &View<'_>, i: u32) {
+        out.text(b"enum\t");
+        out.text(v.name(i));
+        out.text(b"\n");
+        write_under(out, v, VALUE, i, &ValueLine);
     }
 }
 
 // ---- composites
 
-fn write_member_line(out: &mut Output<'_>, classes: &Classes, v: &View<'_>, i: u32)
-    ensures { Wrote out.old out.new (part_shown (member_of (item_at v.now i))) }
-{
-    out.text(b"part\t");
-    write_kind_at(out, v, i);
-    out.text(b"\t");
-    write_snake(out, classes, v.name(i));
-    out.text(b"\n");
-}
+struct MemberLine;
 
-fn write_ref_line(out: &mut Output<'_>, classes: &Classes, v: &View<'_>, i: u32)
-    ensures { Wrote out.old out.new (part_shown (ref_of (item_at v.now i))) }
-{
-    out.text(b"part\t");
-    write_named(out, v.second(i));
-    out.text(b"\t");
-    write_snake(out, classes, v.name(i));
-    out.text(b"\n");
-}
+impl Lines for MemberLine {
+    ghost text = { λ s i. part_shown (member_of (item_at s i)) };
 
-fn write_member_lines(out: &mut Output<'_>, classes: &Classes, v: &View<'_>, c: u32)
-    ensures { Wrote out.old out.new (each (λ x. part_shown (member_of (item_at v.now x))) (under a_member c v.now)) }
-{
-    for i in v.under(MEMBER, c) {
-        write_member_line(out, classes, v, i);
+    fn write(&self, out: &mut Output<'_>, v: &View<'_>, i: u32) {
+        out.text(b"part\t");
+        write_kind_at(out, v, i);
+        out.text(b"\t");
+        write_snake(out, v.name(i));
+        out.text(b"\n");
     }
 }
 
-fn write_ref_lines(out: &mut Output<'_>, classes: &Classes, v: &View<'_>, c: u32)
-    ensures { Wrote out.old out.new (each (λ x. part_shown (ref_of (item_at v.now x))) (under a_ref c v.now)) }
-{
-    for i in v.under(REF, c) {
-        write_ref_line(out, classes, v, i);
+struct RefLine;
+
+impl Lines for RefLine {
+    ghost text = { λ s i. part_shown (ref_of (item_at s i)) };
+
+    fn write(&self, out: &mut Output<'_>, v: &View<'_>, i: u32) {
+        out.text(b"part\t");
+        write_named(out, v.second(i));
+        out.text(b"\t");
+        write_snake(out, v.name(i));
+        out.text(b"\n");
     }
 }
 
-fn write_composite_lines(out: &mut Output<'_>, classes: &Classes, v: &View<'_>, i: u32)
+fn write_composite(out: &mut Output<'_>, v: &View<'_>, i: u32)
     ensures { Wrote out.old out.new (composite_shown (composite_of v.now i)) }
 {
     out.text(b"composite\t");
     out.text(v.name(i));
     out.text(b"\n");
-    write_member_lines(out, classes, v, i);
-    write_ref_lines(out, classes, v, i);
+    write_under(out, v, MEMBER, i, &MemberLine);
+    write_under(out, v, REF, i, &RefLine);
 }
 
-fn write_composite_lines_if_printed(out: &mut Output<'_>, classes: &Classes, v: &View<'_>, i: u32)
-    ensures { Wrote out.old out.new (pick (is_printed (item_at v.now i)) (composite_shown (composite_of v.now i)) []) }
-{
-    if is_printed(v, i) {
-        write_composite_lines(out, classes, v, i);
-    }
-}
+// Of a composite that is printed.
+struct CompositeLines;
 
-fn write_all_composite_lines(out: &mut Output<'_>, classes: &Classes, v: &View<'_>)
-    ensures { Wrote out.old out.new (each (λ c. composite_shown (composite_of v.now c)) (printed_composites v.now)) }
-{
-    for i in v.all_of(COMPOSITE) {
-        write_composite_lines_if_printed(out, classes, v, i);
+impl Lines for CompositeLines {
+    ghost text = { λ s i. pick (is_printed (item_at s i)) (composite_shown (composite_of s i)) [] };
+
+    fn write(&self, out: &mut Output<'_>, v: &View<'_>, i: u32) {
+        if is_printed(v, i) {
+            write_composite(out, v, i);
+        }
     }
 }
 
 // ---- messages
 
-fn write_field_line(out: &mut Output<'_>, classes: &Classes, v: &View<'_>, i: u32)
-    ensures { Wrote out.old out.new (field_shown (field_of v.now (item_at v.now i))) }
-{
-    out.text(b"field\t");
-    write_kind_of(out, v, v.second(i));
-    out.text(b"\t");
-    write_snake(out, classes, v.name(i));
-    out.text(b"\t");
-    out.decimal(v.number(i));
-    out.text(b"\n");
-}
+struct FieldLine;
 
-fn write_field_lines(out: &mut Output<'_>, classes: &Classes, v: &View<'_>, owner: u32)
-    ensures { Wrote out.old out.new (each (λ f. field_shown (field_of v.now (item_at v.now f))) (under a_field owner v.now)) }
-{
-    for i in v.under(FIELD, owner) {
-        write_field_line(out, classes, v, i);
+impl Lines for FieldLine {
+    ghost text = { λ s i. field_shown (field_of s (item_at s i)) };
+
+    fn write(&self, out: &mut Output<'_>, v: &View<'_>, i: u32) {
+        out.text(b"field\t");
+        write_kind_of(out, v, v.second(i));
+        out.text(b"\t");
+        write_snake(out, v.name(i));
+        out.text(b"\t");
+        out.decimal(v.number(i));
+        out.text(b"\n");
     }
 }
 
-fn write_group_line(out: &mut Output<'_>, classes: &Classes, v: &View<'_>, i: u32)
+fn write_group_line(out: &mut Output<'_>, v: &View<'_>, i: u32)
     ensures { Wrote out.old out.new (group_line v.now i) }
 {
     let name = v.name(i);
     out.text(b"group\t");
-    write_snake(out, classes, name);
+    write_snake(out, name);
     out.text(b"\t");
-    write_singular(out, classes, name);
+    write_singular(out, name);
     out.text(b"\t");
     out.decimal(v.number(i));
     out.text(b"\n");
 }
 
-fn write_group_lines(out: &mut Output<'_>, classes: &Classes, v: &View<'_>, i: u32)
-    ensures { Wrote out.old out.new (group_shown (group_of v.now i)) }
-{
-    write_group_line(out, classes, v, i);
-    write_field_lines(out, classes, v, i);
-    out.text(b"end\n");
-}
+struct GroupLines;
 
-fn write_all_group_lines(out: &mut Output<'_>, classes: &Classes, v: &View<'_>, owner: u32)
-    ensures { Wrote out.old out.new (each (λ g. group_shown (group_of v.now g)) (under a_group owner v.now)) }
-{
-    for i in v.under(GROUP, owner) {
-        write_group_lines(out, classes, v, i);
+impl Lines for GroupLines {
+    ghost text = { λ s i. group_shown (group_of s i) };
+
+    fn write(&self, out: &mut Output<'_>, v: &View<'_>, i: u32) {
+        write_group_line(out, v, i);
+        write_under(out, v, FIELD, i, &FieldLine);
+        out.text(b"end\n");
     }
 }
 
-fn write_message_lines(out: &mut Output<'_>, classes: &Classes, v: &View<'_>, i: u32)
-    ensures { Wrote out.old out.new (message_shown (message_of v.now i)) }
-{
-    out.text(b"message\t");
-    out.text(v.name(i));
-    out.text(b"\t");
-    out.decimal(v.number(i));
-    out.text(b"\n");
-    write_field_lines(out, classes, v, i);
-    write_all_group_lines(out, classes, v, i);
-}
+struct MessageLines;
 
-fn write_all_message_lines(out: &mut Output<'_>, classes: &Classes, v: &View<'_>)
-    ensures { Wrote out.old out.new (each (λ i. message_shown (message_of v.now i)) (all_of a_message v.now)) }
-{
-    for i in v.all_of(MESSAGE) {
-        write_message_lines(out, classes, v, i);
+impl Lines for MessageLines {
+    ghost text = { λ s i. message_shown (message_of s i) };
+
+    fn write(&self, out: &mut Output<'_>, v: &View<'_>, i: u32) {
+        out.text(b"message\t");
+        out.text(v.name(i));
+        out.text(b"\t");
+        out.decimal(v.number(i));
+        out.text(b"\n");
+        write_under(out, v, FIELD, i, &FieldLine);
+        write_under(out, v, GROUP, i, &GroupLines);
     }
 }
 
@@ -259,12 +256,12 @@ fn write_schema_line(out: &mut Output<'_>, v: &View<'_>)
     out.text(b"\n");
 }
 
+// kept: alike `write_source` in form alone; what it writes is of its own trait.
 pub fn write_sheet(out: &mut Output<'_>, v: &View<'_>)
     ensures { Wrote out.old out.new (sheet_lines (sheet v.now)) }
 {
-    let classes = Classes::new();
     write_schema_line(out, v);
-    write_all_enum_lines(out, &classes, v);
-    write_all_composite_lines(out, &classes, v);
-    write_all_message_lines(out, &classes, v);
+    write_all(out, v, ENUM, &EnumLines);
+    write_all(out, v, COMPOSITE, &CompositeLines);
+    write_all(out, v, MESSAGE, &MessageLines);
 }

@@ -9,9 +9,9 @@ use native.Mathlib.Omega.{arith}
 use lib.Arith.{digits_div, digits_mod, mod-mul}
 use lib.Dec.{T, eqb, ltb, lit<}
 use lib.Ieee.Fits.{and_l, and_r}
-use lib.ListN.{length, take, drop, get_or, set}
+use lib.ListN.{length, take, drop, get_or}
 use lib.Pow.{are_bytes}
-use lib.Seq.{drop-cons, length-take-le, take_all, take-take, sets}
+use lib.Seq.{drop-cons, length-take-le, take_all, take-take}
 use borrow.Author.Tests.{eq-eqb, ne_eqb, eqb-true}
 use Rattle.texts.specs.Lists.{Every}
 use Rattle.texts.specs.Text.{piece, starts_with}
@@ -132,14 +132,6 @@ module _ (s : List ℕ) (i : ℕ) (room : i + 8 ≤ length s) where
         bytes = (pa.1, (pb.1, (pc.1, (pd.1, (pe.1, (pf.1, (pg.1, (ph.1, tt))))))));
       })
 
-  -- and written by itself
-  pub word-written : (d : List ℕ) (at : ℕ)
-      → set (set (set (set (set (set (set (set d at (get_or s i 0)) (at + 1) (get_or s (i + 1) 0)) (at + 2) (get_or s (i + 2) 0)) (at + 3) (get_or s (i + 3) 0)) (at + 4) (get_or s (i + 4) 0)) (at + 5) (get_or s (i + 5) 0)) (at + 6) (get_or s (i + 6) 0)) (at + 7) (get_or s (i + 7) 0)
-      ≡ sets d at (piece s i 8)
-  word-written d at =
-      let z : (k : ℕ) → at + suc k ≡ suc (at + k) = λ k. omega arith in
-      rw (eight-bytes, z 6, z 5, z 4, z 3, z 2, z 1, add-one)
-
 -- ---- four bytes of a text
 
 module _ (s : List ℕ) (i : ℕ) (room : i + 4 ≤ length s) where
@@ -163,9 +155,3 @@ module _ (s : List ℕ) (i : ℕ) (room : i + 4 ≤ length s) where
         bytes = (pa.1, (pb.1, (pc.1, (pd.1, tt))));
         small = omega (arith, pa.0, pb.0, pc.0, pd.0, pa.1, pb.1, pc.1, pd.1);
       })
-
-  pub half-written : (d : List ℕ) (at : ℕ)
-      → set (set (set (set d at (get_or s i 0)) (at + 1) (get_or s (i + 1) 0)) (at + 2) (get_or s (i + 2) 0)) (at + 3) (get_or s (i + 3) 0) ≡ sets d at (piece s i 4)
-  half-written d at =
-      let z : (k : ℕ) → at + suc k ≡ suc (at + k) = λ k. omega arith in
-      rw (four_bytes, z 2, z 1, add-one)

@@ -1,5 +1,6 @@
 -- Laws of words: what this crate's proofs cite, and what the crates above need.
 pub mod Digits
+pub mod Copying
 pub mod Lanes
 pub mod Finding
 pub mod Standing

@@ -155,6 +155,3 @@ module _ {text s : List ℕ} {at i m : ℕ} (inv : Lacks text s at i) (e : Flagg
 
   pub text-stop : Lacks text s at (i + count_trailing_zeros 64 m / 8)
   text-stop = flagged-stop inv e
-
-pub zeros_few : (m : ℕ) → count_trailing_zeros 64 m / 8 ≤ 8
-zeros_few m = omega (arith, trailing_le 64 m)

@@ -3,9 +3,12 @@
 // `word_at` gives the number of the eight bytes at a place, the first one lowest (specs/Word.antt); a word tells its
 // bytes (proofs/Digits.antt). By words `byte_from` finds where a byte first stands, whatever the bytes are, and `text_from`
 // does so for a short text, all but near the end. `lacks` and `both_lack` tell that a byte is not among a few, how many is a
-// const; `copy_word` copies eight. `stands_short` and `stands_long` compare with a text that is given by its numbers, and
+// const; `copy_few` copies a few. `stands_short` and `stands_long` compare with a text that is given by its numbers, and
 // `same_name` compares two names. What works on one word asks that eight bytes are there, and no more. A half is four bytes.
-#![tactic(auto)]
+//
+// kept: a text and a place in it are two parameters, as in tags, and so are the numbers of a short text, constants at each call. That a
+// word is there is asked of the caller, who tests it once for a loop; a slice of eight bytes would be tested again.
+#![tactic(auto, using(crate::proofs::Laws::laws))]
 
 ghost use Rattle.std.specs.Prelude.{◌≡◌, true, false, [], ◌∷◌, ◌+◌, ◌≤◌, ◌<◌, length};
 ghost use Rattle.std.proofs.lemmas.List.Edits.{sets};
@@ -38,6 +41,7 @@ pub fn word_at(s: &[u8], i: usize) -> u64
 }
 
 // The number of the 4 bytes from `i` on, the first one lowest.
+// kept: a sum of its own, since a loop over a const for both would have to show that each partial sum fits.
 pub fn half_at(s: &[u8], i: usize) -> u64
     requires { i + 4 ≤ length s.now }
     ensures { IsHalf (piece s.now i 4) result }
@@ -96,46 +100,24 @@ pub fn both_lack<const N: usize>(s: &[u8], i: usize, j: usize, x: u8) -> bool
     lacks::<N>(s, i, x) & lacks::<N>(s, j, x)
 }
 
-// Copies the 8 bytes from `i` on to `at`. All are read before the first is written: it is one load and one store. Kept, and the
-// next one, beside one function for both sizes: by `copy_from_slice` each byte is some ten instructions.
-pub fn copy_word(s: &[u8], i: usize, dst: &mut [u8], at: usize)
-    requires { (i + 8 ≤ length s.now) × (at + 8 ≤ length dst.old) }
-    ensures { dst.new ≡ sets dst.old at (piece s.now i 8) }
+// Copies the `N` bytes from `i` on to `at`. All are read before the first is written: it is one load and one store.
+// kept: a place beside each slice, since callers copy from and into the middle of theirs.
+pub fn copy_few<const N: usize>(s: &[u8], i: usize, dst: &mut [u8], at: usize)
+    requires from { i + N ≤ length s.now }
+    requires to { at + N ≤ length dst.old }
+    ensures { dst.new ≡ sets dst.old at (piece s.now i N) }
 {
-    let a = s[i];
-    let b = s[i + 1];
-    let c = s[i + 2];
-    let d = s[i + 3];
-    let e = s[i + 4];
-    let f = s[i + 5];
-    let g = s[i + 6];
-    let h = s[i + 7];
-    dst[at] = a;
-    dst[at + 1] = b;
-    dst[at + 2] = c;
-    dst[at + 3] = d;
-    dst[at + 4] = e;
-    dst[at + 5] = f;
-    dst[at + 6] = g;
-    dst[at + 7] = h;
-}
-
-// Copies the 4 bytes from `i` on to `at`.
-pub fn copy_half(s: &[u8], i: usize, dst: &mut [u8], at: usize)
-    requires { (i + 4 ≤ length s.now) × (at + 4 ≤ length dst.old) }
-    ensures { dst.new ≡ sets dst.old at (piece s.now i 4) }
-{
-    let a = s[i];
-    let b = s[i + 1];
-    let c = s[i + 2];
-    let d = s[i + 3];
-    dst[at] = a;
-    dst[at + 1] = b;
-    dst[at + 2] = c;
-    dst[at + 3] = d;
+    let mut few = [0u8; N];
+    for k in 0..N {
+        few[k] = s[i + k];
+    }
+    for j in 0..N {
+        dst[at + j] = few[j];
+    }
 }
 
 // Where the first `x` from `at` on stands, or the end, byte by byte.
+// kept: this and the next two take a place beside the text, since what they find is a place of the whole text.
 fn byte_each(s: &[u8], at: usize, x: u8) -> usize
     ensures { result ≡ scan (until (is x)) s.now at }
 {
@@ -156,6 +138,7 @@ pub fn byte_from(s: &[u8], at: usize, x: u8) -> usize
     }
     let last = s.len() - 8;
     let mut i = at;
+    // kept: a `while`, since its steps are words.
     while i <= last {
         let m = quick_marks(s, i, x);
         if m != 0 {
@@ -187,6 +170,7 @@ pub fn text_from<const N: usize>(s: &[u8], at: usize, text: &[u8; N]) -> usize
     }
     let room = s.len() - N;
     let mut i = at;
+    // kept: a `while`, since its steps are words.
     while i < room && 7 <= room - i {
         let m = marks_of(s, i, text);
         if m != 0 {
@@ -237,6 +221,7 @@ fn same_long(a: &[u8], b: &[u8]) -> bool
     ensures { result ≡ same a.now b.now }
 {
     let mut k = 0;
+    // kept: a `while`, since its steps are words.
     while k + 8 < a.len() {
         if word_at(a, k) != word_at(b, k) {
             return false;

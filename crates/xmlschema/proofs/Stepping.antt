@@ -1,38 +1,57 @@
 -- Laws of one step: by the event.
 use mathlib.Core.Path.{◌≡◌, refl}
+use native.Mathlib.Omega.{arith}
 use mathlib.Core.List.{List}
 use Prim.Native.Nat.{ℕ, ◌-◌}
+use Rattle.std.specs.Prelude.{Result, Ok, Err}
 use Rattle.texts.specs.Text.{piece}
 use Rattle.refusals.specs.declared.Refusal.{Refusal}
 use Rattle.saxlite.specs.declared.reader.Event.{Event}
 use Rattle.saxlite.specs.declared.reader.Event.TheVariants.{Text, Open, Close, Skipped, End, Refused}
+use Rattle.saxlite.specs.Noting.{NotedIn}
+use Rattle.tags.specs.declared.tag.Notes.{Notes}
 use Rattle.entities.specs.Entities.{decoded}
 use Rattle.builder.specs.Builder.{Builder, on, opened, closed, collect, attributes_in}
-use Rattle.xmlschema.specs.Whole.{step}
-use Rattle.builder.specs.Layout.{builder_of, Kept, After}
-use Rattle.xmlschema.specs.Driving.{takes}
-use Rattle.builder.specs.declared.state.Limits.{Limits}
+use Rattle.builder.specs.Layout.{builder_in, Ready, IsTag, Same, After}
 use Rattle.builder.specs.declared.state.State.{State}
-use Rattle.builder.specs.declared.state.Stepped.{Stepped}
-use Rattle.builder.specs.declared.state.Verdict.TheVariants as verdict
-use Rattle.builder.proofs.Adding.{after-refused, after_same}
+use Rattle.builder.specs.declared.work.Work.{Work}
+use Rattle.xmlschema.specs.Whole.{step}
+use Rattle.xmlschema.specs.Driving.{takes, Inside}
 
-module _ (l : Limits) (doc : List ℕ) (place : ℕ) (ev : Event) (b : Builder) {s : State} {rec text : List ℕ} {r : Stepped} where
-  pub step-text : {from len : ℕ} → ev ≡ Text from len → After (on (collect (decoded (piece doc from len)) b)) s len doc r rec text → After (step l doc place ev b) s (takes ev) doc r rec text
+module _ (w : Work) (place : ℕ) (ev : Event) {s : State} (b : Builder) {w' : Work} {r : Result State Refusal} where
+  pub step-text : {from len : ℕ} → ev ≡ Text from len → After (on (collect (decoded (piece w.doc.now from len)) b)) w s len w' r → After (step w.limits w.doc.now place ev b) w s (takes ev) w' r
   step-text e a = rw e a
 
-  pub step-open : {name n attributes next : ℕ} → ev ≡ Open name n attributes next → After (opened l place (piece doc name n) (attributes_in doc attributes) b) s (next - attributes) doc r rec text → After (step l doc place ev b) s (takes ev) doc r rec text
+  pub step-open :
+      {name n attributes next : ℕ} → ev ≡ Open name n attributes next
+      → After (opened w.limits place (piece w.doc.now name n) (attributes_in w.doc.now attributes) b) w s (next - attributes) w' r → After (step w.limits w.doc.now place ev b) w s (takes ev) w' r
   step-open e a = rw e a
 
-  pub step-close : {name n : ℕ} → ev ≡ Close name n → After (closed place (piece doc name n) b) s 0 doc r rec text → After (step l doc place ev b) s (takes ev) doc r rec text
+  pub step-close : {name n : ℕ} → ev ≡ Close name n → After (closed place (piece w.doc.now name n) b) w s 0 w' r → After (step w.limits w.doc.now place ev b) w s (takes ev) w' r
   step-close e a = rw e a
 
-module _ (l : Limits) (doc : List ℕ) (place : ℕ) (ev : Event) (s : State) (rec text : List ℕ) (k : Kept s rec text) {a : Stepped} where
-  pub step-skipped : ev ≡ Skipped → a ≡ record { state = s; verdict = verdict.Fine } → After (step l doc place ev (builder_of s doc rec text)) s (takes ev) doc a rec text
-  step-skipped e ea = rw e (after_same s 0 doc rec text ea refl k)
+module _ (w : Work) (place : ℕ) (ev : Event) (s : State) (k : Ready w s (takes ev)) where
+  pub text-ready : {from len : ℕ} → ev ≡ Text from len → Ready w s len
+  text-ready e = rw e at k
 
-  pub step_end : ev ≡ End → a ≡ record { state = s; verdict = verdict.Fine } → After (step l doc place ev (builder_of s doc rec text)) s (takes ev) doc a rec text
-  step_end e ea = rw e (after_same s 0 doc rec text ea refl k)
+  pub tag-ready : {name n attributes next : ℕ} → ev ≡ Open name n attributes next → Ready w s (next - attributes)
+  tag-ready e = rw e at k
 
-pub step-refused : (l : Limits) (doc : List ℕ) (place : ℕ) (ev : Event) (s : State) (rec text : List ℕ) {q : Refusal} → ev ≡ Refused q → After (step l doc place ev (builder_of s doc rec text)) s (takes ev) doc (record { state = s; verdict = verdict.Refused q }) rec text
-step-refused l doc place ev s rec text {q} e = rw e (after-refused s 0 doc rec text q refl refl)
+  same : Same w w
+  same = record { limits = refl; doc = refl; records = refl; text = refl }
+
+  pub step-skipped : ev ≡ Skipped → After (step w.limits w.doc.now place ev (builder_in w s)) w s (takes ev) w (Ok s)
+  step-skipped e = rw e (record { is = refl; kept = k.kept; used = omega arith; same = same })
+
+  pub step_end : ev ≡ End → After (step w.limits w.doc.now place ev (builder_in w s)) w s (takes ev) w (Ok s)
+  step_end e = rw e (record { is = refl; kept = k.kept; used = omega arith; same = same })
+
+  pub step-refused : {q : Refusal} → ev ≡ Refused q → After (step w.limits w.doc.now place ev (builder_in w s)) w s (takes ev) w (Err q)
+  step-refused e = rw e (record { is = refl; kept = tt; used = tt; same = same })
+
+pub tag-is :
+    (doc : List ℕ) (place : ℕ) (ev : Event) {name n attributes next : ℕ} → ev ≡ Open name n attributes next → Inside doc ev → {noted : Notes} → NotedIn doc ev noted
+    → IsTag doc (record { place = place; name = name; len = n; attributes = attributes; next = next; noted = noted })
+tag-is doc place ev e i {noted} m =
+    let a = rw e at i in
+    record { tagged = a.0; noted = rw e at m; inside = a.1 }

@@ -1,20 +1,20 @@
--- What one event takes and where it lies, and what reading a document shows. Internal.
-use Rattle.std.specs.Prelude.{◌≡◌, Bool, true, false, List, ◌⊎◌, ℕ, ◌+◌, ◌-◌, ◌≤◌, ◌<◌, eqb, length, Result, Ok, Err}
+-- What one event takes and where it lies, what the driver keeps from turn to turn, and what reading a document shows. Internal.
+use Rattle.std.specs.Prelude.{◌≡◌, List, ◌⊎◌, ℕ, ◌+◌, ◌*◌, ◌-◌, ◌≤◌, ◌<◌, eqb, length, Option, Some, None, Result, Ok, Err}
+use Rattle.std.specs.Result.{IfOk, IfErr}
 use Rattle.refusals.specs.declared.Refusal.{Refusal}
 use Rattle.saxlite.specs.declared.reader.Event.{Event}
 use Rattle.saxlite.specs.declared.reader.Event.TheVariants.{Text, Open, Close, Skipped, End, Refused}
+use Rattle.saxlite.specs.declared.reader.Owed.{Owed}
 use Rattle.saxlite.specs.declared.reader.Cursor.{Cursor}
+use Rattle.saxlite.specs.declared.reader.Reader.{Reader}
+use Rattle.saxlite.specs.Reader.{cursor_at}
 use Rattle.saxlite.specs.Passing.{Idle}
 use Rattle.model.specs.Store.{schema_of}
 use Rattle.model.specs.declared.Model.{Model}
-use Rattle.xmlschema.specs.Whole.{Whole, accepted, refused_by, answer_of}
-use Rattle.texts.specs.Text.{piece, same}
-use Rattle.elements.specs.Leaf.{IsLeaf}
-use Rattle.builder.specs.Builder.{top}
-use Rattle.builder.specs.Layout.{Tagged, stack_of, higher}
+use Rattle.builder.specs.Layout.{builder_in, used_by, Kept, Tagged, Same}
 use Rattle.builder.specs.declared.state.State.{State}
-use Rattle.xmlschema.specs.declared.build.Mark.{Mark}
-use Rattle.xmlschema.specs.declared.build.Reached.{Reached}
+use Rattle.builder.specs.declared.work.Work.{Work}
+use Rattle.xmlschema.specs.Whole.{Whole, accepted, refused_by, run, reading, answer_of}
 
 -- the bytes of text that an event may take
 abbrev pub takes : Event → ℕ
@@ -34,35 +34,50 @@ Inside doc Skipped = Unit {0}
 Inside doc End = Unit {0}
 Inside doc (Refused refusal) = Unit {0}
 
--- the state before the first event
-abbrev pub first : State
-first =
-    record {
-      place = record { depth = 0; count = 0; low = 0; high = 65536; start = 0 };
-      current = record { flag = false; composite = 0; enumer = 0; message = 0; group = 0 };
-      head = record { name = 0; len = 0; id = 0; version = 0 };
-    }
+-- a step that changed the state in place, as one by value
+abbrev pub with_state : State → Result (Unit {0}) Refusal → Result State Refusal
+with_state s (Ok u) = Ok s
+with_state s (Err refusal) = Err refusal
 
--- a cursor that goes from turn to turn in whole words
-abbrev pub cursor_of : Mark → Cursor
-cursor_of m = record { at = m.at; owed = eqb m.owed 1; place = m.place; name = m.name; len = m.len }
+-- the events that can still be read from a cursor on
+abbrev pub owing : Option Owed → ℕ
+owing None = 0
+owing (Some o) = 1
 
--- from a mark, where no close is owed, to one past what changes nothing; or the mark itself
-pub record Passes (doc : List ℕ) (collecting : Bool) (depth : ℕ) (m r : Mark) : Type 0 where
+abbrev pub left : List ℕ → Cursor → ℕ
+left doc c = 2 * (length doc - c.at) + owing c.owed
+
+-- what the state and the rest of the document make is what the whole document makes
+pub record Reading (c : Cursor) (w : Work) (s : State) : Type 0 where
+  pub kept : Kept w s
+  pub used : used_by s ≤ c.at
+  pub within : c.at ≤ length w.doc.now
+  pub same : run (left w.doc.now c + 1) w.limits w.doc.now c (builder_in w s) ≡ reading w.limits w.doc.now
+
+-- the same of a reader over that document
+pub record Turning (r : Reader) (w : Work) (s : State) : Type 0 where
+  pub doc : r.doc.now ≡ w.doc.now
+  pub on : Reading r.cursor w s
+
+-- a turn goes on with less to read, or refuses as the document is refused
+pub record Turned (r : Reader) (w : Work) (r' : Reader) (w' : Work) (s' : State) (result : Result (Unit {0}) Refusal) : Type 0 where
+  pub same : Same w w'
+  pub on : IfOk result (λ u. Turning r' w' s' × (left r'.doc.now r'.cursor < left r.doc.now r.cursor))
+  pub refused : IfErr result (λ refusal. refused_by refusal ≡ reading w.limits w.doc.now)
+
+-- what was passed changes nothing
+pub record Passed (r : Reader) (w : Work) (r' : Reader) (s' : State) : Type 0 where
+  pub on : Turning r' w s'
+  pub least : left r'.doc.now r'.cursor ≤ left r.doc.now r.cursor
+
+-- from a cursor to one past text that nobody collects and the like, where no close is owed
+pub record Passes (r : Reader) (s : State) (r' : Reader) : Type 0 where
+  pub doc : r'.doc ≡ r.doc
   pub is :
-      (r ≡ m)
-      ⊎ ((m.owed ≡ 1 → ⊥)
-      × Idle doc collecting (eqb depth 0) m.at r.at
-      × (r ≡ record { at = r.at; owed = 0; place = 0; name = 0; len = 0 }))
-
--- from a mark and a state to those past the close that is owed there, where it only pops the name
-pub record Shuts (doc rec : List ℕ) (s : State) (m : Mark) (r : Reached) : Type 0 where
-  pub is :
-      (r ≡ record { state = s; mark = m })
-      ⊎ ((m.owed ≡ 1)
-      × (same (piece doc m.name m.len) (top (stack_of s.place.depth rec doc)) ≡ true)
-      × IsLeaf (piece doc m.name m.len) true
-      × (r ≡ record { state = higher s; mark = record { at = m.at; owed = 0; place = 0; name = 0; len = 0 } }))
+      (r'.cursor ≡ r.cursor)
+      ⊎ ((r.cursor.owed ≡ None)
+      × Idle r.doc.now s.current.collecting (eqb s.place.depth 0) r.cursor.at r'.cursor.at
+      × (r'.cursor ≡ cursor_at r'.cursor.at))
 
 -- what an answer says, with the records and the text as they are then
 abbrev pub shown : Result Model Refusal → List ℕ → List ℕ → Whole

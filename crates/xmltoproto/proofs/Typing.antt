@@ -1,22 +1,24 @@
 -- Laws of how a type prints and of what a type name stands for.
 use mathlib.Core.Path.{◌≡◌, refl, sym, ap, ◌∙◌}
 use mathlib.Core.Bool.{Bool, true, false, not}
-use mathlib.Core.List.{List, [], ◌∷◌, ◌++◌}
-use Rattle.std.specs.Prelude.{Option, Some, None, is_some}
-use Prim.Native.Nat.{ℕ, ◌≤◌, ◌<◌}
+use mathlib.Core.List.{List, [], ◌∷◌}
+use Rattle.std.specs.Prelude.{Option, Some, None, is_some, map}
+use Rattle.std.proofs.Common.{Bor}
+use lib.ListN.{length, drop, get_or, drop_of_length-le}
+use lib.Seq.{drop-cons}
+use native.Mathlib.Numerals.{add-one}
+use Prim.Native.Nat.{ℕ, suc, ◌+◌, ◌≤◌, ◌<◌}
 use borrow.Author.Tests.{lt-ltb, le-ltb}
 use Rattle.texts.specs.Choice.{pick, ◌or◌}
 use Rattle.texts.specs.Text.{ascii, same}
 use Rattle.texts.specs.Lists.{among}
 use Rattle.texts.proofs.Comparing.{same-equal}
-use Rattle.texts.proofs.Among.{among-append}
 use Rattle.charsets.specs.Charset.{compatible}
 use Rattle.model.specs.Schema.{Schema, item_at, last_named, a_type, a_composite, an_enum}
 use Rattle.index.specs.Declarations.{declared_by, declaration_of}
 use Rattle.index.specs.declared.seen.Declaration.{Declaration}
 use Rattle.index.specs.declared.seen.Declaration.TheVariants.{Named, Typed}
 use Rattle.xmltoproto.specs.Types.{built_ins, built_in, chars, is_char, is_byte, is_raw, is_array, as_named, of_length, narrow, as_primitive, proto_of, Meaning, declared, typed, form_of, is_declared, type_or, meaning}
-use Rattle.xmltoproto.specs.Names.{signed_names, unsigned_names, other_primitives}
 use Rattle.xmltoproto.specs.Shapes.{form, proto_in, meaning_in}
 use Rattle.xmltoproto.specs.declared.types.Shape.{Shape}
 use Rattle.xmltoproto.specs.declared.types.Shape.TheVariants as shape
@@ -60,31 +62,43 @@ module _ (p : List ℕ) (n : ℕ) where
       unfolding is_array is_char is_byte
       array-other t e = rw (lt-ltb 1 n h, ← ea, t, ← e)
 
+-- ---- a word among the texts of a slice: a loop over it stands at i
+
+abbrev pub texts : List (Bor (List ℕ)) → List (List ℕ)
+texts names = map (λ r. r.now) names
+
+module _ (w : List ℕ) (names : List (Bor (List ℕ))) (i : ℕ) (inv : among w (texts (drop i names)) ≡ among w (texts names)) where
+  module _ (h : i < length names) (d : Bor (List ℕ)) {b : Bool} (e : b ≡ same w (get_or names i d).now) where
+    split : among w (texts (get_or names i d ∷ drop (suc i) names)) ≡ among w (texts names)
+    split = ap (λ l. among w (texts l)) (sym (drop-cons names i d h)) ∙ inv
+
+    pub listed-here : b ≡ true → true ≡ among w (texts names)
+    unfolding among
+    listed-here t = rw (sym e ∙ t) at split
+
+    pub listed-on : b ≡ false → among w (texts (drop (i + 1) names)) ≡ among w (texts names)
+    unfolding among
+    listed-on t = rw add-one (rw (sym e ∙ t) at split)
+
+  pub listed-nowhere : length names ≤ i → false ≡ among w (texts names)
+  unfolding among
+  listed-nowhere h = rw (drop_of_length-le names h) at inv
+
 -- ---- primitives
 
-module _ (p : List ℕ) {a : Bool} (ea : a ≡ same p (ascii "int8")) where
-  pub shape-int8 : a ≡ true → (e : List ℕ) → proto_in shape.Signed p e ≡ as_primitive p
-  unfolding as_primitive narrow among
-  shape-int8 t e = rw (← ea, t)
+module _ (p : List ℕ) {a : Bool} (ea : a ≡ among p (ascii "int8" ∷ ascii "int16" ∷ [])) where
+  pub shape-signed : a ≡ true → (e : List ℕ) → proto_in shape.Signed p e ≡ as_primitive p
+  unfolding as_primitive narrow
+  shape-signed t e = rw (← ea, t)
 
-  module _ (fa : a ≡ false) {b : Bool} (eb : b ≡ same p (ascii "int16")) where
-    pub shape-int16 : b ≡ true → (e : List ℕ) → proto_in shape.Signed p e ≡ as_primitive p
-    unfolding as_primitive narrow among
-    shape-int16 t e = rw (← ea, fa, ← eb, t)
+  module _ (fa : a ≡ false) {b : Bool} (eb : b ≡ among p (ascii "uint8" ∷ ascii "uint16" ∷ [])) where
+    pub shape-unsigned : b ≡ true → (e : List ℕ) → proto_in shape.Unsigned p e ≡ as_primitive p
+    unfolding as_primitive narrow
+    shape-unsigned t e = rw (← ea, fa, ← eb, t)
 
-    module _ (fb : b ≡ false) {c : Bool} (ec : c ≡ same p (ascii "uint8")) where
-      pub shape-uint8 : c ≡ true → (e : List ℕ) → proto_in shape.Unsigned p e ≡ as_primitive p
-      unfolding as_primitive narrow among
-      shape-uint8 t e = rw (← ea, fa, ← eb, fb, ← ec, t)
-
-      module _ (fc : c ≡ false) {d : Bool} (ed : d ≡ same p (ascii "uint16")) where
-        pub shape-uint16 : d ≡ true → (e : List ℕ) → proto_in shape.Unsigned p e ≡ as_primitive p
-        unfolding as_primitive narrow among
-        shape-uint16 t e = rw (← ea, fa, ← eb, fb, ← ec, fc, ← ed, t)
-
-        pub shape-plain : d ≡ false → (e : List ℕ) → proto_in shape.Plain p e ≡ as_primitive p
-        unfolding as_primitive as_named among
-        shape-plain t e = rw (← ea, fa, ← eb, fb, ← ec, fc, ← ed, t)
+    pub shape-plain : b ≡ false → (e : List ℕ) → proto_in shape.Plain p e ≡ as_primitive p
+    unfolding as_primitive as_named
+    shape-plain t e = rw (← ea, fa, ← eb, t)
 
 -- ---- the shape of a form
 
@@ -108,17 +122,6 @@ module _ (p : List ℕ) (n : ℕ) (e : List ℕ) {a : Bool} (ea : a ≡ same p (
     shape-primitive t r h = rw (← ea, fa, ← eb, t) (h e)
 
 -- ---- a type name
-
-module _ (w : List ℕ) {a : Bool} (ea : a ≡ among w signed_names) where
-  pub built-signed : a ≡ true → true ≡ among w built_ins
-  built-signed t = rw (among-append w signed_names (unsigned_names ++ other_primitives), ← ea, t)
-
-  module _ (fa : a ≡ false) {b : Bool} (eb : b ≡ among w unsigned_names) where
-    pub built-unsigned : b ≡ true → true ≡ among w built_ins
-    built-unsigned t = rw (among-append w signed_names (unsigned_names ++ other_primitives), ← ea, fa, among-append w unsigned_names other_primitives, ← eb, t)
-
-    pub built-other : b ≡ false → {c : Bool} → c ≡ among w other_primitives → c ≡ among w built_ins
-    built-other t g = rw (among-append w signed_names (unsigned_names ++ other_primitives), ← ea, fa, among-append w unsigned_names other_primitives, ← eb, t) g
 
 -- what is not among some words is none of them
 not_same : (w v : List ℕ) (l : List (List ℕ)) → among w l ≡ false → among v l ≡ true → same w v ≡ false

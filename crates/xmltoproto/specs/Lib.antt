@@ -1,5 +1,4 @@
 -- The printed source of a schema, the array refusals and the converter.
-pub mod Names
 pub mod Types
 pub mod Shapes
 pub mod Composites

@@ -3,44 +3,35 @@
 
 ghost use Rattle.std.specs.Prelude.{◌≡◌, [], ◌+◌};
 ghost use Rattle.texts.specs.Choice.{pick};
-ghost use Rattle.texts.specs.Lists.{each, numbered};
+ghost use Rattle.texts.specs.Lists.{numbered};
 ghost use Rattle.printing.specs.Written.{Wrote};
 ghost use Rattle.model.specs.Schema.{item_at, under, a_member, a_ref};
-ghost use Rattle.xmltoproto.specs.Composites.{is_printed, printed_composites};
+ghost use Rattle.xmltoproto.specs.Composites.{is_printed};
 ghost use Rattle.xmltoproto.specs.Source.{member_text, ref_text, part_texts, composite_text};
 ghost use Rattle.xmltoproto.specs.Parts.{Members};
 
 use crate::line::write_line;
 use crate::typed::write_typed;
 use crate::types::Shape;
-use classes::Classes;
+use crate::walk::ItemText;
 use index::seen::Index;
 use model::view::View;
-use model::{COMPOSITE, MEMBER, REF};
+use model::{MEMBER, REF};
 use printing::Output;
 use texts::equal;
 
-fn write_member(out: &mut Output<'_>, classes: &Classes, s: &Index<'_>, i: u32, number: u32)
+fn write_member(out: &mut Output<'_>, s: &Index<'_>, i: u32, number: u32)
     ensures { Wrote out.old out.new (member_text number (item_at s.now i)) }
 {
-    write_typed(out, classes, s, false, i, s.name(i), number);
+    write_typed(out, s, false, i, s.name(i), number);
 }
 
-fn write_ref(out: &mut Output<'_>, classes: &Classes, s: &Index<'_>, i: u32, number: u32)
+fn write_ref(out: &mut Output<'_>, s: &Index<'_>, i: u32, number: u32)
     ensures { Wrote out.old out.new (ref_text number (item_at s.now i)) }
 {
     let type_name = s.second(i);
     let name = s.name(i);
-    write_line(
-        out,
-        classes,
-        false,
-        Shape::Plain,
-        type_name,
-        b"",
-        name,
-        number,
-    );
+    write_line(out, false, Shape::Plain, type_name, b"", name, number);
 }
 
 // How many members a composite has.
@@ -54,44 +45,44 @@ fn members_in(s: &Index<'_>, c: u32) -> u32
     k
 }
 
-fn write_members(out: &mut Output<'_>, classes: &Classes, s: &Index<'_>, c: u32)
+fn write_members(out: &mut Output<'_>, s: &Index<'_>, c: u32)
     ensures { Wrote out.old out.new (numbered (λ n i. member_text n (item_at s.now i)) 1 (under a_member c s.now)) }
 {
     let mut k = 0;
     for i in s.children(MEMBER, c) {
         k += 1;
-        write_member(out, classes, s, i, k);
+        write_member(out, s, i, k);
     }
 }
 
 // The refs, numbered on from the composite's `members`.
-fn write_refs(out: &mut Output<'_>, classes: &Classes, s: &Index<'_>, c: u32, members: u32)
+fn write_refs(out: &mut Output<'_>, s: &Index<'_>, c: u32, members: u32)
     requires { Members s.now c members }
     ensures { Wrote out.old out.new (numbered (λ n i. ref_text n (item_at s.now i)) (members + 1) (under a_ref c s.now)) }
 {
     let mut k = members;
     for i in s.children(REF, c) {
         k += 1;
-        write_ref(out, classes, s, i, k);
+        write_ref(out, s, i, k);
     }
 }
 
-fn write_parts(out: &mut Output<'_>, classes: &Classes, s: &Index<'_>, c: u32)
+fn write_parts(out: &mut Output<'_>, s: &Index<'_>, c: u32)
     ensures { Wrote out.old out.new (part_texts s.now c) }
 {
     let members = members_in(s, c);
-    write_members(out, classes, s, c);
-    write_refs(out, classes, s, c, members);
+    write_members(out, s, c);
+    write_refs(out, s, c, members);
 }
 
 #[tactic(auto, unfolding(crate::specs::Source::composite_text), using(printing::proofs::Writing::writing))]
-fn write_composite(out: &mut Output<'_>, classes: &Classes, s: &Index<'_>, c: u32)
+fn write_composite(out: &mut Output<'_>, s: &Index<'_>, c: u32)
     ensures { Wrote out.old out.new (composite_text s.now c) }
 {
     out.text(b"message ");
     out.text(s.name(c));
     out.text(b" {\n");
-    write_parts(out, classes, s, c);
+    write_parts(out, s, c);
     out.text(b"}\n\n");
 }
 
@@ -106,18 +97,15 @@ pub fn is_printed(v: &View<'_>, c: u32) -> bool
     !equal(name, b"groupSizeEncoding")
 }
 
-fn write_composite_if_printed(out: &mut Output<'_>, classes: &Classes, s: &Index<'_>, c: u32)
-    ensures { Wrote out.old out.new (pick (is_printed (item_at s.now c)) (composite_text s.now c) []) }
-{
-    if is_printed(s.view(), c) {
-        write_composite(out, classes, s, c);
-    }
-}
+// A composite that is printed.
+pub struct CompositeText;
 
-pub fn write_composites(out: &mut Output<'_>, classes: &Classes, s: &Index<'_>)
-    ensures { Wrote out.old out.new (each (composite_text s.now) (printed_composites s.now)) }
-{
-    for i in s.all_of(COMPOSITE) {
-        write_composite_if_printed(out, classes, s, i);
+impl ItemText for CompositeText {
+    ghost text = { λ t s i. pick (is_printed (item_at s i)) (composite_text s i) [] };
+
+    fn write(&self, out: &mut Output<'_>, s: &Index<'_>, i: u32) {
+        if is_printed(s.view(), i) {
+            write_composite(out, s, i);
+        }
     }
 }

@@ -7,43 +7,37 @@ ghost use Rattle.printing.specs.Written.{Wrote};
 ghost use Rattle.printing.specs.Printed.{past};
 ghost use Rattle.printing.specs.Standing.{Standing};
 ghost use Rattle.conversions.specs.Conversions.{prefix_of};
-ghost use Rattle.model.specs.Schema.{item_at, under, all_of, an_enum, a_value};
+ghost use Rattle.model.specs.Schema.{item_at, under, a_value};
 ghost use Rattle.xmltoproto.specs.Source.{value_text, enum_text};
 
-use classes::Classes;
+use crate::walk::ItemText;
 use conversions::convert::write_screaming;
 use index::seen::Index;
-use model::{ENUM, VALUE};
+use model::VALUE;
 use printing::Output;
 
 #[tactic(auto, unfolding(conversions::specs::Conversions::prefix_of), using(printing::proofs::Writing::writing))]
-fn write_prefix(out: &mut Output<'_>, classes: &Classes, name: &[u8])
+fn write_prefix(out: &mut Output<'_>, name: &[u8])
     ensures { Wrote out.old out.new (prefix_of name.now) }
 {
-    write_screaming(out, classes, name);
+    write_screaming(out, name);
     out.byte(b'_');
 }
 
 // The length of the prefix, measured.
 #[tactic(auto, unfolding(printing::specs::Written::written))]
-fn prefix_width(classes: &Classes, name: &[u8]) -> usize
+fn prefix_width(name: &[u8]) -> usize
     ensures { result ≡ past 0 (prefix_of name.now) }
 {
     let mut none = [0u8; 0];
     let mut o = Output::new(&mut none);
-    write_prefix(&mut o, classes, name);
+    write_prefix(&mut o, name);
     o.at
 }
 
 // The prefix again, of which the length is known, and where it stands: the name is walked only where neither helps,
 // for the first value and at the end of the output.
-fn write_known_prefix(
-    out: &mut Output<'_>,
-    classes: &Classes,
-    name: &[u8],
-    width: usize,
-    stood: usize,
-)
+fn write_known_prefix(out: &mut Output<'_>, name: &[u8], width: usize, stood: usize)
     requires { (width ≡ past 0 (prefix_of name.now)) × Standing (prefix_of name.now) out.old.bytes.now stood out.old.at }
     ensures { Wrote out.old out.new (prefix_of name.now) }
 {
@@ -53,60 +47,47 @@ fn write_known_prefix(
     if stood < out.bytes.len() && width <= out.bytes.len() - out.at {
         return out.again(stood, width);
     }
-    write_prefix(out, classes, name);
+    write_prefix(out, name);
 }
 
 // A value of the enum `name`, whose prefix has the length `width` and stands at `stood`.
 #[tactic(auto, unfolding(crate::specs::Source::value_text), using(printing::proofs::Writing::writing))]
-fn write_value(
-    out: &mut Output<'_>,
-    classes: &Classes,
-    s: &Index<'_>,
-    name: &[u8],
-    width: usize,
-    stood: usize,
-    i: u32,
-)
+fn write_value(out: &mut Output<'_>, s: &Index<'_>, name: &[u8], width: usize, stood: usize, i: u32)
     requires { (width ≡ past 0 (prefix_of name.now)) × Standing (prefix_of name.now) out.old.bytes.now stood out.old.at }
     ensures { Wrote out.old out.new (value_text name.now (item_at s.now i)) }
 {
     out.text(b"  ");
-    write_known_prefix(out, classes, name, width, stood);
-    write_screaming(out, classes, s.name(i));
+    write_known_prefix(out, name, width, stood);
+    write_screaming(out, s.name(i));
     out.text(b" = ");
     out.text(s.second(i));
     out.text(b";\n");
 }
 
-fn write_values(out: &mut Output<'_>, classes: &Classes, s: &Index<'_>, name: &[u8], e: u32)
+fn write_values(out: &mut Output<'_>, s: &Index<'_>, name: &[u8], e: u32)
     ensures { Wrote out.old out.new (each (λ v. value_text name.now (item_at s.now v)) (under a_value e s.now)) }
 {
-    let width = prefix_width(classes, name);
+    let width = prefix_width(name);
     let mut stood = out.bytes.len();
     for i in s.children(VALUE, e) {
         let stands = out.after(2);
-        write_value(out, classes, s, name, width, stood, i);
+        write_value(out, s, name, width, stood, i);
         stood = stands;
     }
 }
 
-#[tactic(auto, unfolding(crate::specs::Source::enum_text), using(printing::proofs::Writing::writing))]
-fn write_enum(out: &mut Output<'_>, classes: &Classes, s: &Index<'_>, e: u32)
-    ensures { Wrote out.old out.new (enum_text s.now e) }
-{
-    let name = s.name(e);
-    out.text(b"enum ");
-    out.text(name);
-    out.text(b" {\n");
-    write_values(out, classes, s, name, e);
-    out.text(b"}\n\n");
-}
+pub struct EnumText;
 
-#[tactic(auto, using(crate::proofs::Looping::walking))]
-pub fn write_enums(out: &mut Output<'_>, classes: &Classes, s: &Index<'_>)
-    ensures { Wrote out.old out.new (each (enum_text s.now) (all_of an_enum s.now)) }
-{
-    for i in s.all_of(ENUM) {
-        write_enum(out, classes, s, i);
+impl ItemText for EnumText {
+    ghost text = { λ t s i. enum_text s i };
+
+    #[tactic(auto, unfolding(crate::specs::Source::enum_text), using(printing::proofs::Writing::writing))]
+    fn write(&self, out: &mut Output<'_>, s: &Index<'_>, i: u32) {
+        let name = s.name(i);
+        out.text(b"enum ");
+        out.text(name);
+        out.text(b" {\n");
+        write_values(out, s, name, i);
+        out.text(b"}\n\n");
     }
 }

@@ -5,6 +5,9 @@
 // inputs: the answer is the one of specs/Generate.antt, and the output is the source of
 // specs/Source.antt and then what stood there, or, after a refusal, what it held. The model is seen
 // through its accessors alone.
+//
+// kept: an output, an index and an item's position are parameters of what prints an item, and what stands in a line (whether it is deep, its
+// shape, primitive, encoding, name and number) are those of what prints lines. A struct of them would be filled by each caller and read once.
 #![tactic(auto)]
 
 pub mod arrays;
@@ -16,6 +19,7 @@ mod messages;
 pub mod source;
 mod typed;
 pub mod types;
+mod walk;
 
 ghost use Rattle.std.specs.Prelude.{◌≡◌, ◌≤◌, leb, length, replicate};
 ghost use Rattle.printing.specs.Printed.{Printed, past};

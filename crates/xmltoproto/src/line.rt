@@ -11,7 +11,6 @@ ghost use Rattle.xmltoproto.specs.Source.{note_line, bracketed, line};
 ghost use Rattle.xmltoproto.specs.Shapes.{note_in, word_in, option_in, proto_in, length_option, encoding_option};
 
 use crate::types::Shape;
-use classes::Classes;
 use conversions::convert::write_snake;
 use escaping::write_quoted;
 use printing::Output;
@@ -126,7 +125,6 @@ fn write_option(out: &mut Output<'_>, shape: Shape, primitive: &[u8])
 #[tactic(auto, unfolding(printing::specs::Written::written, crate::specs::Source::line), using(printing::proofs::Writing::writing))]
 pub fn write_line(
     out: &mut Output<'_>,
-    classes: &Classes,
     deep: bool,
     shape: Shape,
     primitive: &[u8],
@@ -144,7 +142,7 @@ pub fn write_line(
     write_indent(&mut o, deep);
     write_word(&mut o, shape, primitive);
     o.text(b" ");
-    write_snake(&mut o, classes, name);
+    write_snake(&mut o, name);
     o.text(b" = ");
     write_number(&mut o, number);
     write_option(&mut o, shape, primitive);

@@ -2,10 +2,10 @@
 #![tactic(auto, using(printing::proofs::Writing::writing))]
 
 ghost use Rattle.texts.specs.Choice.{pick};
-ghost use Rattle.texts.specs.Lists.{among, each};
+ghost use Rattle.texts.specs.Lists.{among};
 ghost use Rattle.printing.specs.Written.{Wrote};
 ghost use Rattle.conversions.specs.Conversions.{camel_to_snake};
-ghost use Rattle.model.specs.Schema.{item_at, under, all_of, a_message, a_group, a_field};
+ghost use Rattle.model.specs.Schema.{item_at};
 ghost use Rattle.xmltoproto.specs.Types.{built_ins, built_in, as_named, proto_of};
 ghost use Rattle.xmltoproto.specs.Source.{line, field_text, group_text, message_text};
 ghost use Rattle.xmltoproto.specs.Parts.{indent_of, group_head};
@@ -13,31 +13,24 @@ ghost use Rattle.xmltoproto.specs.Parts.{indent_of, group_head};
 use crate::line::write_line;
 use crate::typed::write_typed;
 use crate::types::{Shape, shape_of};
-use classes::Classes;
+use crate::walk::{ItemText, write_under};
 use conversions::convert::{write_singular, write_snake};
 use index::MOST;
 use index::seen::{Declaration, Index};
-use model::{FIELD, GROUP, MESSAGE};
+use model::{FIELD, GROUP};
 use printing::Output;
 
 // A field whose type name is declared nowhere: a built-in, or a name that is printed as it stands. Which of the two is
 // not asked: the shape of a name that is no built-in is the name as it stands.
-fn write_undeclared(
-    out: &mut Output<'_>,
-    classes: &Classes,
-    deep: bool,
-    type_name: &[u8],
-    name: &[u8],
-    number: u32,
-)
+fn write_undeclared(out: &mut Output<'_>, deep: bool, type_name: &[u8], name: &[u8], number: u32)
     ensures { Wrote out.old out.new (line (indent_of deep) (pick (among type_name.now built_ins) (proto_of (built_in type_name.now)) (as_named type_name.now)) (camel_to_snake name.now) number) }
 {
     let shape = shape_of(type_name, 0, b"");
-    write_line(out, classes, deep, shape, type_name, b"", name, number);
+    write_line(out, deep, shape, type_name, b"", name, number);
 }
 
 // Of a schema with more items than the index holds, or of an item that is no field: by the model's own searches.
-fn write_unsettled(out: &mut Output<'_>, classes: &Classes, s: &Index<'_>, deep: bool, i: u32)
+fn write_unsettled(out: &mut Output<'_>, s: &Index<'_>, deep: bool, i: u32)
     ensures { Wrote out.old out.new (field_text s.now (indent_of deep) (item_at s.now i)) }
 {
     let type_name = s.second(i);
@@ -45,25 +38,16 @@ fn write_unsettled(out: &mut Output<'_>, classes: &Classes, s: &Index<'_>, deep:
     let number = s.number(i);
     match s.declared(i) {
         Some(Declaration::Named) => {
-            write_line(
-                out,
-                classes,
-                deep,
-                Shape::Plain,
-                type_name,
-                b"",
-                name,
-                number,
-            )
+            write_line(out, deep, Shape::Plain, type_name, b"", name, number)
         }
-        Some(Declaration::Typed(k)) => write_typed(out, classes, s, deep, k, name, number),
-        None => write_undeclared(out, classes, deep, type_name, name, number),
+        Some(Declaration::Typed(k)) => write_typed(out, s, deep, k, name, number),
+        None => write_undeclared(out, deep, type_name, name, number),
     }
 }
 
 // By the number that the index holds for the type name, 0 for one declared nowhere, 1 for an enum or composite and above
 // it the types: an enum made of it is written and read again, which is waited for.
-fn write_field(out: &mut Output<'_>, classes: &Classes, s: &Index<'_>, deep: bool, i: u32)
+fn write_field(out: &mut Output<'_>, s: &Index<'_>, deep: bool, i: u32)
     ensures { Wrote out.old out.new (field_text s.now (indent_of deep) (item_at s.now i)) }
 {
     let name = s.name(i);
@@ -73,88 +57,73 @@ fn write_field(out: &mut Output<'_>, classes: &Classes, s: &Index<'_>, deep: boo
             let known = s.field_number(i);
             if 1 < known {
                 let k = known - 2;
-                return write_typed(out, classes, s, deep, k, name, number);
+                return write_typed(out, s, deep, k, name, number);
             }
             let type_name = s.second(i);
             if known == 1 {
-                return write_line(
-                    out,
-                    classes,
-                    deep,
-                    Shape::Plain,
-                    type_name,
-                    b"",
-                    name,
-                    number,
-                );
+                return write_line(out, deep, Shape::Plain, type_name, b"", name, number);
             }
-            return write_undeclared(out, classes, deep, type_name, name, number);
+            return write_undeclared(out, deep, type_name, name, number);
         }
     }
-    write_unsettled(out, classes, s, deep, i);
+    write_unsettled(out, s, deep, i);
 }
 
-#[tactic(auto, using(crate::proofs::Looping::walking))]
-fn write_fields(out: &mut Output<'_>, classes: &Classes, s: &Index<'_>, deep: bool, owner: u32)
-    ensures { Wrote out.old out.new (each (λ f. field_text s.now (indent_of deep) (item_at s.now f)) (under a_field owner s.now)) }
-{
-    for i in s.children(FIELD, owner) {
-        write_field(out, classes, s, deep, i);
+// A field's line, in a message or in a group.
+struct FieldLine {
+    deep: bool,
+}
+
+impl ItemText for FieldLine {
+    ghost text = { λ t s i. field_text s (indent_of t.deep) (item_at s i) };
+
+    fn write(&self, out: &mut Output<'_>, s: &Index<'_>, i: u32) {
+        write_field(out, s, self.deep, i);
     }
 }
 
 #[tactic(auto, unfolding(crate::specs::Parts::group_head), using(printing::proofs::Writing::writing))]
-fn write_group_head(out: &mut Output<'_>, classes: &Classes, s: &Index<'_>, g: u32)
+fn write_group_head(out: &mut Output<'_>, s: &Index<'_>, g: u32)
     ensures { Wrote out.old out.new (group_head s.now g) }
 {
     out.text(b"  message ");
-    write_singular(out, classes, s.name(g));
+    write_singular(out, s.name(g));
     out.text(b" {\n");
-    write_fields(out, classes, s, true, g);
+    write_under(out, s, FIELD, g, &FieldLine { deep: true });
 }
 
-#[tactic(auto, unfolding(crate::specs::Parts::group_head, crate::specs::Source::group_text), using(printing::proofs::Writing::writing))]
-fn write_group(out: &mut Output<'_>, classes: &Classes, s: &Index<'_>, g: u32)
-    ensures { Wrote out.old out.new (group_text s.now g) }
-{
-    let name = s.name(g);
-    write_group_head(out, classes, s, g);
-    out.text(b"  }\n  repeated ");
-    write_singular(out, classes, name);
-    out.text(b" ");
-    write_snake(out, classes, name);
-    out.text(b" = ");
-    out.decimal(s.number(g));
-    out.text(b";\n");
-}
+struct GroupText;
 
-#[tactic(auto, using(crate::proofs::Looping::walking))]
-fn write_groups(out: &mut Output<'_>, classes: &Classes, s: &Index<'_>, owner: u32)
-    ensures { Wrote out.old out.new (each (group_text s.now) (under a_group owner s.now)) }
-{
-    for i in s.children(GROUP, owner) {
-        write_group(out, classes, s, i);
+impl ItemText for GroupText {
+    ghost text = { λ t s i. group_text s i };
+
+    #[tactic(auto, unfolding(crate::specs::Parts::group_head, crate::specs::Source::group_text), using(printing::proofs::Writing::writing))]
+    fn write(&self, out: &mut Output<'_>, s: &Index<'_>, i: u32) {
+        let name = s.name(i);
+        write_group_head(out, s, i);
+        out.text(b"  }\n  repeated ");
+        write_singular(out, name);
+        out.text(b" ");
+        write_snake(out, name);
+        out.text(b" = ");
+        out.decimal(s.number(i));
+        out.text(b";\n");
     }
 }
 
-fn write_message(out: &mut Output<'_>, classes: &Classes, s: &Index<'_>, i: u32)
-    ensures { Wrote out.old out.new (message_text s.now i) }
-{
-    out.text(b"message ");
-    out.text(s.name(i));
-    out.text(b" {\n  option (sbe.template_id) = ");
-    out.decimal(s.number(i));
-    out.text(b";\n");
-    write_fields(out, classes, s, false, i);
-    write_groups(out, classes, s, i);
-    out.text(b"}\n\n");
-}
+pub struct MessageText;
 
-#[tactic(auto, using(crate::proofs::Looping::walking))]
-pub fn write_messages(out: &mut Output<'_>, classes: &Classes, s: &Index<'_>)
-    ensures { Wrote out.old out.new (each (message_text s.now) (all_of a_message s.now)) }
-{
-    for i in s.all_of(MESSAGE) {
-        write_message(out, classes, s, i);
+impl ItemText for MessageText {
+    ghost text = { λ t s i. message_text s i };
+
+    fn write(&self, out: &mut Output<'_>, s: &Index<'_>, i: u32) {
+        out.text(b"message ");
+        out.text(s.name(i));
+        out.text(b" {\n  option (sbe.template_id) = ");
+        out.decimal(s.number(i));
+        out.text(b";\n");
+        write_under(out, s, FIELD, i, &FieldLine { deep: false });
+        write_under(out, s, GROUP, i, &GroupText);
+        out.text(b"}\n\n");
     }
 }

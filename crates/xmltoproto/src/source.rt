@@ -1,17 +1,18 @@
 // The printed source: header, enums, composites, messages.
 //
 // Each function writes to an output (crate `printing`) and promises the text that
-// specs/Source.antt gives. A loop over items goes by the model's searches, from one item to the next.
+// specs/Source.antt gives, or writes the texts of items by `walk`.
 #![tactic(auto, using(printing::proofs::Writing::writing))]
 
 ghost use Rattle.printing.specs.Written.{Wrote};
 ghost use Rattle.xmltoproto.specs.Source.{package_line, header, source};
 
-use crate::composites::write_composites;
-use crate::enums::write_enums;
-use crate::messages::write_messages;
-use classes::Classes;
+use crate::composites::CompositeText;
+use crate::enums::EnumText;
+use crate::messages::MessageText;
+use crate::walk::write_all;
 use index::seen::Index;
+use model::{COMPOSITE, ENUM, MESSAGE};
 use printing::Output;
 
 fn write_package(out: &mut Output<'_>, name: &[u8])
@@ -37,13 +38,11 @@ fn write_header(out: &mut Output<'_>, s: &Index<'_>)
     out.text(b";\n\n");
 }
 
-#[tactic(auto, unfolding(crate::specs::Source::source), using(printing::proofs::Writing::writing))]
 pub fn write_source(out: &mut Output<'_>, s: &Index<'_>)
     ensures { Wrote out.old out.new (source s.now) }
 {
-    let classes = Classes::new();
     write_header(out, s);
-    write_enums(out, &classes, s);
-    write_composites(out, &classes, s);
-    write_messages(out, &classes, s);
+    write_all(out, s, ENUM, &EnumText);
+    write_all(out, s, COMPOSITE, &CompositeText);
+    write_all(out, s, MESSAGE, &MessageText);
 }

@@ -10,14 +10,12 @@ ghost use Rattle.xmltoproto.specs.Source.{line};
 
 use crate::line::write_line;
 use crate::types::shape_of;
-use classes::Classes;
 use index::seen::Index;
 use printing::Output;
 
 // The line of the type or member at `i`, under a name and a number.
 pub fn write_typed(
     out: &mut Output<'_>,
-    classes: &Classes,
     s: &Index<'_>,
     deep: bool,
     i: u32,
@@ -29,5 +27,5 @@ pub fn write_typed(
     let primitive = s.second(i);
     let encoding = s.encoding(i);
     let shape = shape_of(primitive, s.size(i), encoding);
-    write_line(out, classes, deep, shape, primitive, encoding, name, number);
+    write_line(out, deep, shape, primitive, encoding, name, number);
 }

@@ -1,11 +1,12 @@
 // How a type prints, and what a field's type name stands for.
-ghost use Rattle.std.specs.Prelude.{◌≡◌, List, [], ℕ};
+#![tactic(auto, using(crate::proofs::Laws::types))]
+
+ghost use Rattle.std.specs.Prelude.{◌≡◌, List, [], ℕ, map};
 ghost use Rattle.texts.specs.Lists.{among};
 ghost use Rattle.model.specs.Schema.{Schema};
 ghost use Rattle.index.specs.Declarations.{declaration_of};
 ghost use Rattle.xmltoproto.specs.Types.{built_ins, chars, is_byte, is_raw, is_array, as_primitive, proto_of, meaning};
 ghost use Rattle.xmltoproto.specs.Shapes.{form, proto_in, meaning_in};
-ghost use Rattle.xmltoproto.specs.Names.{signed_names, unsigned_names, other_primitives};
 
 use charsets::is_compatible;
 use index::seen::Declaration;
@@ -31,13 +32,34 @@ pub fn chars_in(size: u32) -> u32
     if 0 < size { size } else { 1 }
 }
 
+const BYTES: [&[u8]; 2] = [b"uint8", b"int8"];
+
+const NARROW_SIGNED: [&[u8]; 2] = [b"int8", b"int16"];
+
+const NARROW_UNSIGNED: [&[u8]; 2] = [b"uint8", b"uint16"];
+
+const BUILT_INS: [&[u8]; 11] = [
+    b"int8", b"int16", b"int32", b"int64", b"uint8", b"uint16", b"uint32", b"uint64", b"float",
+    b"double", b"char",
+];
+
+// Whether a name is one of these: inlined, it compares with each as a constant.
+#[inline(always)]
+fn is_among(name: &[u8], names: &[&[u8]]) -> bool
+    ensures { result ≡ among name.now (map (λ r. r.now) names.now) }
+{
+    for known in names {
+        if equal(name, known) {
+            return true;
+        }
+    }
+    false
+}
+
 fn is_byte(primitive: &[u8]) -> bool
     ensures { result ≡ is_byte (form primitive.now 0 []) }
 {
-    if equal(primitive, b"uint8") {
-        return true;
-    }
-    equal(primitive, b"int8")
+    is_among(primitive, &BYTES)
 }
 
 // A length above 1 of uint8 or int8.
@@ -66,16 +88,10 @@ pub fn is_array(primitive: &[u8], size: u32) -> bool
 fn primitive_shape(p: &[u8]) -> Shape
     ensures { (e : List ℕ) → proto_in result p.now e ≡ as_primitive p.now }
 {
-    if equal(p, b"int8") {
+    if is_among(p, &NARROW_SIGNED) {
         return Shape::Signed;
     }
-    if equal(p, b"int16") {
-        return Shape::Signed;
-    }
-    if equal(p, b"uint8") {
-        return Shape::Unsigned;
-    }
-    if equal(p, b"uint16") {
+    if is_among(p, &NARROW_UNSIGNED) {
         return Shape::Unsigned;
     }
     Shape::Plain
@@ -108,58 +124,10 @@ pub enum Sense {
     Unknown,
 }
 
-fn is_signed_name(name: &[u8]) -> bool
-    ensures { result ≡ among name.now signed_names }
-{
-    if equal(name, b"int8") {
-        return true;
-    }
-    if equal(name, b"int16") {
-        return true;
-    }
-    if equal(name, b"int32") {
-        return true;
-    }
-    equal(name, b"int64")
-}
-
-fn is_unsigned_name(name: &[u8]) -> bool
-    ensures { result ≡ among name.now unsigned_names }
-{
-    if equal(name, b"uint8") {
-        return true;
-    }
-    if equal(name, b"uint16") {
-        return true;
-    }
-    if equal(name, b"uint32") {
-        return true;
-    }
-    equal(name, b"uint64")
-}
-
-fn is_other_primitive(name: &[u8]) -> bool
-    ensures { result ≡ among name.now other_primitives }
-{
-    if equal(name, b"float") {
-        return true;
-    }
-    if equal(name, b"double") {
-        return true;
-    }
-    equal(name, b"char")
-}
-
 pub fn is_built_in(name: &[u8]) -> bool
     ensures { result ≡ among name.now built_ins }
 {
-    if is_signed_name(name) {
-        return true;
-    }
-    if is_unsigned_name(name) {
-        return true;
-    }
-    is_other_primitive(name)
+    is_among(name, &BUILT_INS)
 }
 
 // Enums, composites, types: the last declaration of the name wins; a built-in where there is none.

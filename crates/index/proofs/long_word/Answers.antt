@@ -1,35 +1,10 @@
-use Rattle.index.proofs.Laws.{hashing}
+use Rattle.std.proofs.Common.{arith}
+use Rattle.index.proofs.Hashing.{hashing-on, hashing-end}
 use Rattle.index.proofs.long_word.Goals as goal
-
-pub loop-i-init : goal.loop-i-init
-loop-i-init c = search hashing
-
-pub overflow_add-i : goal.overflow_add-i
-overflow_add-i c = search hashing
-
-pub word_at-requires : goal.word_at-requires
-word_at-requires c = search hashing
-
-pub mixed-h-requires : goal.mixed-h-requires
-mixed-h-requires c = search hashing
-
-pub overflow_add-i-in-loop-i : goal.overflow_add-i-in-loop-i
-overflow_add-i-in-loop-i c = search hashing
-
-pub loop-i-smaller : goal.loop-i-smaller
-loop-i-smaller c = search hashing
-
-pub loop-i-preserved : goal.loop-i-preserved
-loop-i-preserved c = search hashing
-
-pub overflow_sub-n : goal.overflow_sub-n
-overflow_sub-n c = search hashing
-
-pub word_at-requires-2 : goal.word_at-requires-2
-word_at-requires-2 c = search hashing
-
-pub mixed-requires : goal.mixed-requires
-mixed-requires c = search hashing
+use Rattle.index.proofs.long_word.Goals.{else-loop-i-test, then-loop-i-test+else-i-end-i-gt8}
 
 pub returns : goal.returns
-returns c = search hashing
+returns c = elim c.loop-i-test.branch [
+  | else-loop-i-test w ↦ hashing-end c.loop-i.invariant (omega (arith, w.loop-i-test)) c.word_at-2.ensures (rw w.h-is at c.mixed.ensures)
+  | then-loop-i-test+else-i-end-i-gt8 w ↦ hashing-end (hashing-on c.loop-i.invariant (omega (arith, w.loop-i-test)) w.word_at.ensures w.mixed-h.ensures) (omega (arith, w.loop-i-test)) c.word_at-2.ensures (rw w.h-is at c.mixed.ensures)
+]

@@ -1,12 +1,7 @@
 use mathlib.Core.Path.{sym}
 use lib.Seq.{set_out}
 use Rattle.printing.specs.Printed.{laid, past}
-use borrow.Author.Rules.{rules}
 use Rattle.printing.proofs.put_byte.Goals as goal
-
-pub returns-then-at-out : goal.returns-then-at-out
-unfolding laid past
-returns-then-at-out c = search rules
 
 pub returns-else-at-out : goal.returns-else-at-out
 unfolding laid past

@@ -1,6 +1,5 @@
 use native.Mathlib.Omega.{arith}
-use Rattle.texts.proofs.Trimming.{trim-fits}
-use Rattle.texts.proofs.Laws.{laws}
+use Rattle.texts.proofs.Trimming.{trim-fits, range-is}
 use Rattle.texts.proofs.trim_range.Goals as goal
 
 pub overflow_add-start : goal.overflow_add-start
@@ -10,4 +9,5 @@ overflow_add-start c =
     omega (arith, h 18446744073709551615 (omega arith) (omega arith))
 
 pub returns : goal.returns
-returns c = search laws
+returns c =
+    range-is c.args.s.now c.args.from c.args.len _ c.part-whole.result.now c.part-whole.ensures c.scan_each-a.ensures c.part-rest.ensures c.kept.ensures

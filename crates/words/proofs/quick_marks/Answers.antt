@@ -1,20 +1,8 @@
-use Rattle.words.proofs.Laws.{laws}
+use Rattle.words.proofs.Lanes.{low-less, low-made}
 use Rattle.words.proofs.quick_marks.Goals as goal
 
-pub word_at-w-requires : goal.word_at-w-requires
-word_at-w-requires c = search laws
-
-pub overflow_mul-differs : goal.overflow_mul-differs
-overflow_mul-differs c = search laws
-
 pub overflow_sub-result : goal.overflow_sub-result
-overflow_sub-result c = search laws
+overflow_sub-result c = low-less c.word_at-w.ensures (c.from.ensures, c.ranges.x.fits) c.if-x-lt128.true c.if-w-eq0.true
 
 pub returns-then-w-eq0 : goal.returns-then-w-eq0
-returns-then-w-eq0 c = search laws
-
-pub marks-requires : goal.marks-requires
-marks-requires c = search laws
-
-pub returns : goal.returns
-returns c = search laws
+returns-then-w-eq0 c = low-made _ _ c.word_at-w.ensures (c.from.ensures, c.ranges.x.fits) c.if-x-lt128.true c.if-w-eq0.true

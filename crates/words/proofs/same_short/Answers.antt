@@ -1,29 +1,9 @@
-use Rattle.words.proofs.Laws.{laws}
+use Rattle.words.proofs.Alike.{halves-differ, halves-decide}
 use Rattle.words.proofs.same_short.Goals as goal
 
-pub equal-requires : goal.equal-requires
-equal-requires c = search laws
-
-pub returns-then-a-lt4 : goal.returns-then-a-lt4
-returns-then-a-lt4 c = search laws
-
-pub half_at-requires : goal.half_at-requires
-half_at-requires c = search laws
-
-pub half_at-requires-2 : goal.half_at-requires-2
-half_at-requires-2 c = search laws
-
 pub returns-then-half_at : goal.returns-then-half_at
-returns-then-half_at c = search laws
-
-pub overflow_sub-last : goal.overflow_sub-last
-overflow_sub-last c = search laws
-
-pub half_at-requires-3 : goal.half_at-requires-3
-half_at-requires-3 c = search laws
-
-pub half_at-requires-4 : goal.half_at-requires-4
-half_at-requires-4 c = search laws
+returns-then-half_at c = halves-differ _ _ 0 c.half_at.ensures c.half_at-2.ensures c.if-half_at.true
 
 pub returns : goal.returns
-returns c = search laws
+returns c =
+    halves-decide _ _ c.if-a-lt4.false c.requires.0 c.requires.1 c.half_at.ensures c.half_at-2.ensures c.if-half_at.false c.half_at-3.ensures c.half_at-4.ensures

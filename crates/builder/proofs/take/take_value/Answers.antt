@@ -1,3 +1,4 @@
+-- kept: `search` finds these with the set named here, and not by an attribute with it.
 use Rattle.builder.proofs.Laws.{taking}
 use Rattle.builder.proofs.take.take_value.Goals as goal
 

@@ -1,3 +1,4 @@
+-- kept: `search` finds these with the set named here, and not by an attribute with it.
 use Rattle.saxlite.proofs.Idling.{passing}
 use Rattle.saxlite.proofs.passing.past_between.Goals as goal
 

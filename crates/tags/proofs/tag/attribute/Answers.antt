@@ -1,3 +1,4 @@
+-- kept: `search` finds these with the set named here, and not by an attribute with it.
 use Rattle.tags.proofs.Laws.{laws}
 use Rattle.tags.proofs.tag.attribute.Goals as goal
 

@@ -1,5 +1,6 @@
-use Rattle.tags.proofs.Laws.{laws}
+use borrow.Author.Rules.{rules}
+use Rattle.tags.proofs.Searching.{stands-fits}
 use Rattle.tags.proofs.tag.attribute_part.Goals as goal
 
 pub overflow_add-equals : goal.overflow_add-equals
-overflow_add-equals c = search laws
+overflow_add-equals c = search (stands-fits, rules)

@@ -1,3 +1,4 @@
+-- kept: `search` finds these with the set named here, and not by an attribute with it.
 use Prim.Native.Nat.{◌+◌}
 use Rattle.tags.specs.Known.{IsKnown}
 use Rattle.tags.proofs.Laws.{laws}

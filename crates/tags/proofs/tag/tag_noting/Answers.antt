@@ -1,3 +1,4 @@
+-- kept: `search` finds these with the set named here, and not by an attribute with it.
 use mathlib.Core.Path.{◌∙◌, ap}
 use Rattle.std.specs.Prelude.{Ok}
 use Rattle.tags.proofs.Laws.{laws}

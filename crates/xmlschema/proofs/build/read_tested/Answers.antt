@@ -1,39 +1,14 @@
-use Rattle.xmlschema.proofs.Laws.{driving}
+use mathlib.Core.Path.{sym, ap}
+use Rattle.builder.specs.declared.work.Work.{Work}
+use Rattle.builder.proofs.Adding.{same_self, same-trans}
+use Rattle.xmlschema.proofs.Passing.{turning-first, turn-then}
 use Rattle.xmlschema.proofs.build.read_tested.Goals as goal
 
-pub loop-l-init : goal.loop-l-init
-loop-l-init c = search driving
+pub loop-work-init : goal.loop-work-init
+loop-work-init c = (turning-first _ _ c.new-state.ensures c.new-work.ensures.kept (sym (ap (λ (w : Work). w.doc.now) c.new-work.ensures.is)) c.past_idle.ensures c.at.ensures, same_self)
 
-pub turn_at-t-requires : goal.turn_at-t-requires
-turn_at-t-requires c = search driving
+pub loop-work-smaller : goal.loop-work-smaller
+loop-work-smaller c = (turn-then c.turn.ensures c.in_ok-turn.was c.past_close.ensures c.past_text.ensures).1
 
-pub loop-l-smaller : goal.loop-l-smaller
-loop-l-smaller c =
-    let q = c.past_text-on.ensures in
-    let z = c.past_close-shut.ensures in
-    let told = c.in-Fine.is in
-    let t = c.turn_at-t.ensures in
-    let more = c.loop-l-test in
-    let e = c.at_end_of.ensures in
-    let held = c.loop-l in
-    search driving
-
-pub loop-l-preserved : goal.loop-l-preserved
-loop-l-preserved c =
-    let q = c.past_text-on.ensures in
-    let z = c.past_close-shut.ensures in
-    let told = c.in-Fine.is in
-    let t = c.turn_at-t.ensures in
-    let more = c.loop-l-test in
-    let e = c.at_end_of.ensures in
-    let held = c.loop-l in
-    (search driving, search driving, search driving)
-
-pub returns-in-Refused : goal.returns-in-Refused
-returns-in-Refused c = search driving
-
-pub returns-then-depth-gt0 : goal.returns-then-depth-gt0
-returns-then-depth-gt0 c = search driving
-
-pub returns : goal.returns
-returns c = search driving
+pub loop-work-preserved : goal.loop-work-preserved
+loop-work-preserved c = ((turn-then c.turn.ensures c.in_ok-turn.was c.past_close.ensures c.past_text.ensures).0, same-trans c.loop-work.invariant.1 c.turn.ensures.same)

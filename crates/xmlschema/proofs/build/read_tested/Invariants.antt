@@ -1,11 +1,9 @@
-use mathlib.Core.Path.{◌≡◌}
-use lib.ListN.{length}
-use Rattle.xmlschema.specs.Driving.{cursor_of}
-use Rattle.xmlschema.proofs.Driving.{Reading, left}
+use Rattle.builder.specs.Layout.{Same}
+use Rattle.xmlschema.specs.Driving.{Turning, left}
 use Rattle.xmlschema.proofs.build.read_tested.Given as goal
 
-abbrev pub invariant-loop-l : goal.invariant-loop-l
-invariant-loop-l l = Reading l.l l.doc (cursor_of l.mark) l.state l.rec l.text × (length l.rec ≡ length l.initial.rec) × (length l.text ≡ length l.initial.text)
+abbrev pub invariant-loop-work : goal.invariant-loop-work
+invariant-loop-work l = Turning l.reader l.work l.state × Same l.initial.work l.work
 
-abbrev pub decreases-loop-l : goal.decreases-loop-l
-decreases-loop-l l = left l.doc (cursor_of l.mark)
+abbrev pub decreases-loop-work : goal.decreases-loop-work
+decreases-loop-work l = left l.reader.doc.now l.reader.cursor

@@ -1,3 +1,4 @@
+-- kept: `search` finds these with the set named here, and not by an attribute with it.
 use borrow.Author.Rules.{rules}
 use Rattle.xmltoproto.proofs.Covering.{share-none, bounds}
 use Rattle.xmltoproto.proofs.bound.item_most.Goals as goal

@@ -1,0 +1,86 @@
+// Numbers read and items added, over what is lent.
+#![tactic(auto, using(crate::proofs::Laws::adding))]
+
+ghost use Rattle.std.specs.Prelude.{◌≡◌, List, ℕ, ◌-◌, ◌≤◌};
+ghost use Rattle.model.specs.Schema.{item_at};
+ghost use Rattle.model.specs.Store.{entry_at, item_of};
+ghost use Rattle.builder.specs.Builder.{added};
+ghost use Rattle.builder.specs.Layout.{builder_in, room, Kept, Steady, After};
+ghost use Rattle.builder.specs.Taking.{drafted_item, Numbered, Reads, Adds};
+
+use crate::state::{Place, State};
+use crate::take::{Draft, read_number};
+use crate::work::{Tag, Work};
+use model::{Entry, entry_at, put_entry};
+use refusals::Refusal;
+use texts::Range;
+
+// `number`, `put` and `add` are inlined, so that the state stays in its place and isn't copied to and fro.
+impl<'d, 'a> Work<'d, 'a> {
+    // The value that was found in a tag as a number, or 32.
+    #[tactic(auto, unfolding(crate::specs::Taking::Reads), using(crate::proofs::Laws::adding))]
+    #[inline(always)]
+    pub(crate) fn number(
+        &mut self,
+        s: State,
+        tag: &Tag,
+        found: Option<Range>,
+    ) -> Result<u32, Refusal>
+        requires { Reads self.old s tag.now found }
+        ensures { Numbered tag.now.place (room tag.now) found self.old s self.new result }
+    {
+        let doc = self.doc;
+        match read_number(doc, found, self.text, s.place.low) {
+            Some(n) => Ok(n),
+            None => Err(Refusal::BadNumber { place: tag.place }),
+        }
+    }
+
+    // An item whose entry is made: 35, or the entry at the end of the records.
+    #[inline(always)]
+    fn put(&mut self, s: State, place: usize, e: Entry) -> Result<State, Refusal>
+        requires { Kept self.old s × Steady s.place.low e.encoding self.old.text.now e × (s.place.low ≤ e.encoding) × (e.encoding ≤ s.place.high) }
+        ensures { After (added self.old.limits place (item_of self.old.text.now e) (builder_in self.old s)) self.old s (s.place.high - e.encoding) self.new result }
+    {
+        let count = s.place.count;
+        if self.limits.items <= count {
+            return Err(Refusal::TooManyItems { place });
+        }
+        put_entry(self.records, count, e);
+        Ok(State {
+            place: Place {
+                count: count + 1,
+                high: e.encoding as usize,
+                ..s.place
+            },
+            ..s
+        })
+    }
+
+    // An item of what was found in a tag.
+    #[tactic(auto, unfolding(crate::specs::Taking::Adds), using(crate::proofs::Laws::adding))]
+    #[inline(always)]
+    pub(crate) fn add(&mut self, s: State, tag: &Tag, d: Draft) -> Result<State, Refusal>
+        requires { Adds self.old s tag.now d }
+        ensures { After (added self.old.limits tag.now.place (drafted_item d self.old.doc.now) (builder_in self.old s)) self.old s (room tag.now) self.new result }
+    {
+        let e = d.entry(self.doc, self.text, s.place.high);
+        self.put(s, tag.place, e)
+    }
+
+    pub(crate) fn entry(&self, i: u32) -> Entry
+        ensures { result ≡ entry_at self.now.records.now i }
+    {
+        entry_at(self.records, i)
+    }
+
+    // The owner of an item of the state.
+    pub(crate) fn owner_of(&self, s: State, i: u32) -> u32
+        ensures { result ≡ (item_at (builder_in self.now s).schema i).owner }
+    {
+        if i < s.place.count {
+            return self.entry(i).owner;
+        }
+        0
+    }
+}

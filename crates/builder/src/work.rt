@@ -1,0 +1,125 @@
+// What a builder is lent, and what it is told of a tag.
+#![tactic(auto, using(crate::proofs::Laws::stacking))]
+
+ghost use Rattle.std.specs.Prelude.{◌≡◌, ◌+◌, ◌≤◌, ◌<◌, length};
+ghost use Rattle.texts.specs.Text.{piece, same};
+ghost use Rattle.builder.specs.Builder.{top};
+ghost use Rattle.builder.specs.Layout.{stack_of, builder_in, deeper, pushed, over, first, parent_composite, Kept};
+ghost use Rattle.builder.specs.Taking.{Finds};
+
+use crate::state::{Limits, Place, State};
+use model::word;
+use tags::tag::{Noted, Notes, noted_of};
+use texts::{equal, part};
+use words::same_name;
+
+// The document, and the two buffers that hold what was read of it.
+#[derive(Drop)]
+pub struct Work<'d, 'a> {
+    pub limits: Limits,
+    pub doc: &'d [u8],
+    pub records: &'a mut [u32],
+    pub text: &'a mut [u8],
+}
+
+// A tag that was opened: the place of its '<', its local name, where its attributes begin and it
+// ends, and what the reader noted of it.
+#[derive(Clone, Copy)]
+pub struct Tag {
+    pub place: usize,
+    pub name: usize,
+    pub len: usize,
+    pub attributes: usize,
+    pub next: usize,
+    pub noted: Notes,
+}
+
+impl Tag {
+    pub(crate) fn found(&self) -> Noted
+        ensures { Finds self.now result }
+    {
+        noted_of(self.noted)
+    }
+}
+
+impl<'d, 'a> Work<'d, 'a> {
+    pub fn new(
+        limits: Limits,
+        doc: &'d [u8],
+        records: &'a mut [u32],
+        text: &'a mut [u8],
+    ) -> Work<'d, 'a>
+        requires { (limits.items ≤ 1024) × (limits.depth ≤ 64) × (length doc.now ≤ 32768) × (16384 ≤ length records.old) × (65536 ≤ length text.old) }
+        ensures is { result ≡ record { limits = limits; doc = doc.entry; records = records.entry; text = text.entry } }
+        ensures kept { Kept result first }
+    {
+        Work {
+            limits,
+            doc,
+            records,
+            text,
+        }
+    }
+
+    // The name at `from` is the innermost open one from now on.
+    pub(crate) fn push(&mut self, s: State, from: usize, len: usize) -> State
+        requires { (s.place.depth < 64) × (16384 ≤ length self.old.records.now) × (from + len ≤ 32768) }
+        ensures { (result ≡ deeper s) × (self.new ≡ over self.old (pushed self.old.records.now s.place.depth from len)) }
+    {
+        let depth = s.place.depth;
+        let k = 15360 + 2 * depth;
+        self.records[k] = from as u32;
+        self.records[k + 1] = len as u32;
+        State {
+            place: Place {
+                depth: depth + 1,
+                ..s.place
+            },
+            ..s
+        }
+    }
+
+    // The innermost of so many open names; the empty one where there is none.
+    fn top_name(&self, depth: usize) -> &'d [u8]
+        requires { depth ≤ 64 }
+        ensures { result.now ≡ top (stack_of depth self.now.records.now self.now.doc.now) }
+    {
+        if depth == 0 {
+            return part(self.doc, 0, 0);
+        }
+        let k = 15360 + 2 * (depth - 1);
+        let from = word(self.records, k) as usize;
+        let len = word(self.records, k + 1) as usize;
+        part(self.doc, from, len)
+    }
+
+    // Whether the name at `name` is the innermost open one.
+    pub(crate) fn is_open(&self, s: State, name: usize, len: usize) -> bool
+        requires { s.place.depth ≤ 64 }
+        ensures { result ≡ same (piece self.now.doc.now name len) (top (builder_in self.now s).stack) }
+    {
+        same_name(part(self.doc, name, len), self.top_name(s.place.depth))
+    }
+
+    // The same, at once where the name at `name` is that very range.
+    pub(crate) fn is_top(&self, s: State, name: usize, len: usize) -> bool
+        requires { s.place.depth ≤ 64 }
+        ensures { result ≡ same (piece self.now.doc.now name len) (top (builder_in self.now s).stack) }
+    {
+        if 0 < s.place.depth {
+            let k = 15360 + 2 * (s.place.depth - 1);
+            if word(self.records, k) as usize == name && word(self.records, k + 1) as usize == len {
+                return true;
+            }
+        }
+        self.is_open(s, name, len)
+    }
+
+    // Whether the name below the innermost one is composite.
+    pub(crate) fn in_composite(&self, s: State) -> bool
+        requires { s.place.depth ≤ 64 }
+        ensures { result ≡ parent_composite (builder_in self.now s) }
+    {
+        equal(self.top_name(s.popped().place.depth), b"composite")
+    }
+}

@@ -1,0 +1,12 @@
+-- What one name is made into.
+use Rattle.std.specs.Prelude.{List, ℕ}
+use Rattle.conversions.specs.Conversions.{camel_to_snake, snake_to_camel, camel_to_screaming_snake, screaming_snake_to_pascal, singular_pascal}
+use Rattle.names.specs.declared.Case.{Case}
+use Rattle.names.specs.declared.Case.TheVariants.{Snake, Camel, Screaming, Pascal, Singular}
+
+unfoldable pub converted : Case → List ℕ → List ℕ
+converted Snake name = camel_to_snake name
+converted Camel name = snake_to_camel name
+converted Screaming name = camel_to_screaming_snake name
+converted Pascal name = screaming_snake_to_pascal name
+converted Singular name = singular_pascal name

@@ -1,6 +1,0 @@
-use Rattle.printing.proofs.Writing.{◌▹◌}
-use Rattle.xmltoproto.proofs.Sources.{message-printed}
-use Rattle.xmltoproto.proofs.messages.write_message.Goals as goal
-
-pub returns : goal.returns
-returns c = message-printed _ _ c.name.ensures c.number.ensures (c.text.ensures ▹ c.text-2.ensures ▹ c.text-3.ensures ▹ c.decimal.ensures ▹ c.text-4.ensures ▹ c.write_fields.ensures ▹ c.write_groups.ensures ▹ c.text-5.ensures)
