@@ -6,13 +6,12 @@
 #![tactic(auto, using(crate::proofs::Laws::laws))]
 
 ghost use Rattle.std.specs.Prelude.{◌≡◌, true, ◌+◌, ◌≤◌, length, drop};
-ghost use Rattle.texts.specs.Lists.{among};
 ghost use Rattle.charsets.specs.Charset.{is_punctuation, cleaned, charsets, compatible};
 ghost use Rattle.charsets.specs.Names.{is_name};
 ghost use Rattle.charsets.specs.Letters.{Passed, Letters};
 
 use conversions::convert::lower;
-use texts::{equal, part, trim};
+use texts::{is_among, part, trim};
 
 // How many letters the longest name has.
 const LONGEST: usize = 13;
@@ -82,59 +81,29 @@ fn clean(out: &mut [u8], s: &[u8]) -> Option<usize>
 
 // ---- the names
 
-// kept: name by name; the proofs of a loop over an array of names, of a `match`, and of a chain of `||` did not close.
-#[tactic(auto, unfolding(texts::specs::Lists::among))]
-fn is_listed(w: &[u8]) -> bool
-    ensures { result ≡ among w.now charsets }
-{
-    if equal(w, b"usascii") {
-        return true;
-    }
-    if equal(w, b"ascii") {
-        return true;
-    }
-    if equal(w, b"ansix341968") {
-        return true;
-    }
-    if equal(w, b"ansix341986") {
-        return true;
-    }
-    if equal(w, b"iso646us") {
-        return true;
-    }
-    if equal(w, b"isoir6") {
-        return true;
-    }
-    if equal(w, b"iso646irv1991") {
-        return true;
-    }
-    if equal(w, b"us") {
-        return true;
-    }
-    if equal(w, b"ibm367") {
-        return true;
-    }
-    if equal(w, b"cp367") {
-        return true;
-    }
-    if equal(w, b"csascii") {
-        return true;
-    }
-    if equal(w, b"utf8") {
-        return true;
-    }
-    if equal(w, b"csutf8") {
-        return true;
-    }
-    false
-}
+// UTF-8 compatible encodings, as they are cleaned.
+const CHARSETS: [&[u8]; 13] = [
+    b"usascii",
+    b"ascii",
+    b"ansix341968",
+    b"ansix341986",
+    b"iso646us",
+    b"isoir6",
+    b"iso646irv1991",
+    b"us",
+    b"ibm367",
+    b"cp367",
+    b"csascii",
+    b"utf8",
+    b"csutf8",
+];
 
 // Whether a cleaned text is empty or one of the names.
 #[tactic(auto, using(crate::proofs::Cleaning::names))]
 fn is_name(w: &[u8]) -> bool
     ensures { result ≡ is_name w.now }
 {
-    w.len() == 0 || is_listed(w)
+    w.len() == 0 || is_among(w, &CHARSETS)
 }
 
 pub fn is_compatible(encoding: &[u8]) -> bool

@@ -2,6 +2,8 @@
 //
 // `element_of` promises `element_of` of specs/Elements.antt for every name, and `element_at` for every piece of a document:
 // it tells the names that nearly every tag has by a word or two.
+//
+// kept: a document and a place in it are two parameters, as in tags.
 #![tactic(auto, using(crate::proofs::Laws::laws))]
 
 ghost use Rattle.std.specs.Prelude.{◌≡◌, ◌+◌, ◌≤◌, length};

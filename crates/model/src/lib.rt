@@ -18,7 +18,7 @@ ghost use Rattle.model.specs.Store.{entry_at, words_of};
 
 // The kinds of items, as specs/Schema.antt numbers them.
 // kept: numbers; a record's kind is whatever word the lent buffer holds, and an enum would ask of callers that it is one
-// of the nine.
+// of the nine. Searches take the same number, so that they compare it with the record's word.
 pub const TYPE: u32 = 1;
 
 pub const MEMBER: u32 = 2;

@@ -26,7 +26,7 @@ impl<'a> std::marker::Model for View<'a> {
 }
 
 // The entry at a position, whatever the text buffer holds; past the last item an empty one.
-fn item(m: Model, rec: &[u32], i: u32) -> Entry
+pub fn item(m: Model, rec: &[u32], i: u32) -> Entry
     ensures { (text : List ℕ) → item_of text result ≡ item_at (schema_of m rec.now text) i }
 {
     if i < m.count {
@@ -97,7 +97,7 @@ impl<'a> View<'a> {
         item(self.model, self.records, i).owner
     }
 
-    // kept: a method for each of the three texts; one for all would match on which is meant.
+    // kept, here and in the next two: a method for each of the three texts; one for all would match on which is meant.
     pub fn name(&self, i: u32) -> &'a [u8]
         ensures { result.now ≡ (item_at self.now i).name }
     {
@@ -105,7 +105,6 @@ impl<'a> View<'a> {
         part(self.text, e.name as usize, e.nlen as usize)
     }
 
-    // kept: a method for each of the three texts; one for all would match on which is meant.
     pub fn second(&self, i: u32) -> &'a [u8]
         ensures { result.now ≡ (item_at self.now i).second }
     {
@@ -113,7 +112,6 @@ impl<'a> View<'a> {
         part(self.text, e.second as usize, e.slen as usize)
     }
 
-    // kept: a method for each of the three texts; one for all would match on which is meant.
     pub fn encoding(&self, i: u32) -> &'a [u8]
         ensures { result.now ≡ (item_at self.now i).encoding }
     {

@@ -2,6 +2,8 @@
 //
 // `number_of` promises `number_of` of specs/Numbers.antt for every text: empty is 0; else an optional `+` and
 // digits, at most 4294967295.
+//
+// kept: a document and a place in it are two parameters, as in tags.
 #![tactic(auto, using(crate::proofs::Laws::laws))]
 
 ghost use Rattle.std.specs.Prelude.{◌≡◌, ℕ, Some};

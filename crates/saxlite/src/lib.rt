@@ -10,6 +10,8 @@
 // specs/Step.antt and specs/Reader.antt, after 01, "Reading markup". What a step means is specs/Event.antt,
 // with texts and values decoded (`entities`). `passing` promises that it passed such steps alone (specs/Passing.antt).
 // Every step moves forward and stays within the document (proofs/Moving.antt).
+//
+// kept: a document and a place in it are two parameters, as in tags.
 #![tactic(auto)]
 
 pub mod passing;

@@ -10,6 +10,7 @@ use crate::step::{NotedStep, Step, step_at, step_noting};
 use refusals::Refusal;
 use tags::tag::{Notes, nothing};
 
+// kept: a refusal among the events, as among the steps (step.rt).
 #[derive(Clone, Copy)]
 pub enum Event {
     Text {

@@ -447,7 +447,7 @@ pub fn tag_noting(doc: &[u8], at: usize, place: usize, kind: TagKind) -> Whole
 }
 
 // Which names matter in a tag of the element `name`.
-// kept: text by text; three names with three answers are no shorter as a list.
+// kept: text by text, as `element_of` of elements.
 pub fn kind_of(name: &[u8]) -> TagKind
     ensures { keys_by result ≡ keys_of name.now }
 {

@@ -2,7 +2,12 @@
 use mathlib.Core.Path.{◌≡◌, refl, sym, ap, ◌∙◌}
 use mathlib.Core.Bool.{Bool, true, false}
 use mathlib.Core.List.{List, [], ◌∷◌, ◌++◌}
-use Prim.Native.Nat.{ℕ}
+use Prim.Native.Nat.{ℕ, suc, ◌+◌, ◌≤◌, ◌<◌}
+use native.Mathlib.Numerals.{add-one}
+use lib.ListN.{length, drop, get_or, drop_of_length-le}
+use lib.Seq.{drop-cons}
+use Rattle.std.specs.Prelude.{map}
+use Rattle.std.proofs.Common.{Bor}
 use Rattle.texts.specs.Choice.{◌or◌}
 use Rattle.texts.specs.Text.{same}
 use Rattle.texts.specs.Lists.{among}
@@ -32,3 +37,25 @@ pub among-append : (w : List ℕ) (k l : List (List ℕ)) → among w (k ++ l) �
 unfolding among
 among-append w [] l = refl
 among-append w (v ∷ k) l = ap (λ (b : Bool). same w v or b) (among-append w k l) ∙ sym (or_assoc (same w v) (among w k) (among w l))
+
+-- ---- a word among the texts of a slice: a loop over it stands at i
+
+abbrev pub texts : List (Bor (List ℕ)) → List (List ℕ)
+texts names = map (λ r. r.now) names
+
+module _ (w : List ℕ) (names : List (Bor (List ℕ))) (i : ℕ) (inv : among w (texts (drop i names)) ≡ among w (texts names)) where
+  module _ (h : i < length names) (d : Bor (List ℕ)) {b : Bool} (e : b ≡ same w (get_or names i d).now) where
+    split : among w (texts (get_or names i d ∷ drop (suc i) names)) ≡ among w (texts names)
+    split = ap (λ l. among w (texts l)) (sym (drop-cons names i d h)) ∙ inv
+
+    pub listed-here : b ≡ true → true ≡ among w (texts names)
+    unfolding among
+    listed-here t = rw (sym e ∙ t) at split
+
+    pub listed-on : b ≡ false → among w (texts (drop (i + 1) names)) ≡ among w (texts names)
+    unfolding among
+    listed-on t = rw add-one (rw (sym e ∙ t) at split)
+
+  pub listed-nowhere : length names ≤ i → false ≡ among w (texts names)
+  unfolding among
+  listed-nowhere h = rw (drop_of_length-le names h) at inv

@@ -1,14 +1,15 @@
 // Texts: lent slices of bytes, read as lists.
 //
-// A part of a text, whether two texts are one, whether one stands at a place of another, where the
+// A part of a text, whether two texts are one, or one of a list, whether one stands at a place of another, where the
 // first byte beyond ASCII is, and a text trimmed. Every function is total, asks nothing of its caller, and promises
 // a definition of specs/.
 #![tactic(auto)]
 
 pub mod scan;
 
-ghost use Rattle.std.specs.Prelude.{◌≡◌, true, ◌+◌, ◌≤◌, ◌<◌, length, drop, get_or};
+ghost use Rattle.std.specs.Prelude.{◌≡◌, true, ◌+◌, ◌≤◌, ◌<◌, length, drop, get_or, map};
 ghost use Rattle.texts.specs.Text.{piece, same, starts_with};
+ghost use Rattle.texts.specs.Lists.{among};
 ghost use Rattle.texts.specs.Scan.{scan, is_ascii};
 ghost use Rattle.texts.specs.Trim.{is_blank, trimmed, TrimmedTo, KeptTo};
 
@@ -48,6 +49,19 @@ pub fn equal(a: &[u8], b: &[u8]) -> bool
     ensures { result ≡ same a.now b.now }
 {
     a == b
+}
+
+// Whether a text is one of these: inlined, it compares with each as a constant.
+#[inline(always)]
+pub fn is_among(s: &[u8], texts: &[&[u8]]) -> bool
+    ensures { result ≡ among s.now (map (λ t. t.now) texts.now) }
+{
+    for text in texts {
+        if equal(s, text) {
+            return true;
+        }
+    }
+    false
 }
 
 // Whether `needle` stands at `at`.

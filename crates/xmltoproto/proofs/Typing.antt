@@ -62,28 +62,6 @@ module _ (p : List ℕ) (n : ℕ) where
       unfolding is_array is_char is_byte
       array-other t e = rw (lt-ltb 1 n h, ← ea, t, ← e)
 
--- ---- a word among the texts of a slice: a loop over it stands at i
-
-abbrev pub texts : List (Bor (List ℕ)) → List (List ℕ)
-texts names = map (λ r. r.now) names
-
-module _ (w : List ℕ) (names : List (Bor (List ℕ))) (i : ℕ) (inv : among w (texts (drop i names)) ≡ among w (texts names)) where
-  module _ (h : i < length names) (d : Bor (List ℕ)) {b : Bool} (e : b ≡ same w (get_or names i d).now) where
-    split : among w (texts (get_or names i d ∷ drop (suc i) names)) ≡ among w (texts names)
-    split = ap (λ l. among w (texts l)) (sym (drop-cons names i d h)) ∙ inv
-
-    pub listed-here : b ≡ true → true ≡ among w (texts names)
-    unfolding among
-    listed-here t = rw (sym e ∙ t) at split
-
-    pub listed-on : b ≡ false → among w (texts (drop (i + 1) names)) ≡ among w (texts names)
-    unfolding among
-    listed-on t = rw add-one (rw (sym e ∙ t) at split)
-
-  pub listed-nowhere : length names ≤ i → false ≡ among w (texts names)
-  unfolding among
-  listed-nowhere h = rw (drop_of_length-le names h) at inv
-
 -- ---- primitives
 
 module _ (p : List ℕ) {a : Bool} (ea : a ≡ among p (ascii "int8" ∷ ascii "int16" ∷ [])) where

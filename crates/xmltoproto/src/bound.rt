@@ -53,7 +53,7 @@ fn value_most(s: &Index<'_>, v: Entry, i: u32) -> usize
 }
 
 // What the item at `i` adds.
-// kept: a `match` on its kind, whose arms are the bounds of the kinds.
+// kept: the kind is a word (model), so that whatever picks the bound is this `match`, of a formula an arm.
 fn item_most(s: &Index<'_>, i: u32) -> usize
     requires { (length s.now.items ≤ 1024) }
     ensures { Covers result (share s.now i) }

@@ -10,7 +10,7 @@ ghost use Rattle.xmltoproto.specs.Shapes.{form, proto_in, meaning_in};
 
 use charsets::is_compatible;
 use index::seen::Declaration;
-use texts::equal;
+use texts::{equal, is_among};
 
 // How a type prints: as text or as bytes of a length, as a wider integer under an option, or as its
 // primitive stands.
@@ -42,19 +42,6 @@ const BUILT_INS: [&[u8]; 11] = [
     b"int8", b"int16", b"int32", b"int64", b"uint8", b"uint16", b"uint32", b"uint64", b"float",
     b"double", b"char",
 ];
-
-// Whether a name is one of these: inlined, it compares with each as a constant.
-#[inline(always)]
-fn is_among(name: &[u8], names: &[&[u8]]) -> bool
-    ensures { result ≡ among name.now (map (λ r. r.now) names.now) }
-{
-    for known in names {
-        if equal(name, known) {
-            return true;
-        }
-    }
-    false
-}
 
 fn is_byte(primitive: &[u8]) -> bool
     ensures { result ≡ is_byte (form primitive.now 0 []) }
