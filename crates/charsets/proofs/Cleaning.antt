@@ -12,7 +12,7 @@ use borrow.Author.Tests.{leb-true}
 use Rattle.texts.specs.Choice.{◌and◌}
 use Rattle.texts.specs.Text.{piece}
 use Rattle.texts.specs.Lists.{among}
-use Rattle.texts.specs.Trim.{trimmed}
+use Rattle.texts.specs.Trim.{trimmed_front, trimmed_back, trimmed}
 use Rattle.texts.proofs.Choosing.{is_true, and_left, and_right}
 use Rattle.texts.proofs.Comparing.{same-lengths}
 use Rattle.conversions.specs.Letters.{lowered}
@@ -123,6 +123,11 @@ long-none : (w : List ℕ) → 13 < length w → is_name w ≡ false
 unfolding is_name fit
 long-none [] h = absurd (omega arith)
 long-none (b ∷ w) h = none-long (b ∷ w) charsets tt h
+
+pub compatible-none : (s : List ℕ) → length s ≡ 0 → true ≡ compatible s
+unfolding compatible trimmed trimmed_front trimmed_back cleaned
+compatible-none [] h = refl
+compatible-none (b ∷ s) h = absurd (omega arith)
 
 module _ (s : List ℕ) {w : List ℕ} (e : w ≡ trimmed s) where
   named : compatible s ≡ is_name (cleaned w)

@@ -1,4 +1,3 @@
--- How a table's rule is shown, and what it says of a class that two tests tell.
+-- How a table's rule is shown, and the table's.
 pub mod Rule
-pub mod Ending
 pub mod Ruled

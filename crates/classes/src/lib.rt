@@ -5,21 +5,24 @@
 // (specs/Table.antt).
 #![tactic(auto)]
 
+pub mod compared;
+
 ghost use Rattle.std.specs.Prelude.{◌≡◌};
 ghost use Rattle.classes.specs.Class.{is_space, is_tag_name_end, is_attribute_name_end, is_upper, is_lower};
 ghost use Rattle.classes.specs.Table.{is_name_stop, ClassOf};
 
-// The class number of each byte, numbered so that each test but one is one comparison:
-// 0 space, 1 '>' and '/', 2 ':', 3 '=', 4 upper case, 5 lower case, 6 any other.
+// The class number of each byte, numbered so that each test is one comparison, of the number or of a bit of it:
+// 15 space, 7 '>' and '/', 2 ':', 1 '=', 16 upper case, 32 lower case, 0 any other.
 static CLASSES: [u8; 256] = [
-    6, 6, 6, 6, 6, 6, 6, 6, 6, 0, 0, 6, 6, 0, 6, 6, 6, 6, 6, 6, 6, 6, 6, 6, 6, 6, 6, 6, 6, 6, 6, 6,
-    0, 6, 6, 6, 6, 6, 6, 6, 6, 6, 6, 6, 6, 6, 6, 1, 6, 6, 6, 6, 6, 6, 6, 6, 6, 6, 2, 6, 6, 3, 1, 6,
-    6, 4, 4, 4, 4, 4, 4, 4, 4, 4, 4, 4, 4, 4, 4, 4, 4, 4, 4, 4, 4, 4, 4, 4, 4, 4, 4, 6, 6, 6, 6, 6,
-    6, 5, 5, 5, 5, 5, 5, 5, 5, 5, 5, 5, 5, 5, 5, 5, 5, 5, 5, 5, 5, 5, 5, 5, 5, 5, 5, 6, 6, 6, 6, 6,
-    6, 6, 6, 6, 6, 6, 6, 6, 6, 6, 6, 6, 6, 6, 6, 6, 6, 6, 6, 6, 6, 6, 6, 6, 6, 6, 6, 6, 6, 6, 6, 6,
-    6, 6, 6, 6, 6, 6, 6, 6, 6, 6, 6, 6, 6, 6, 6, 6, 6, 6, 6, 6, 6, 6, 6, 6, 6, 6, 6, 6, 6, 6, 6, 6,
-    6, 6, 6, 6, 6, 6, 6, 6, 6, 6, 6, 6, 6, 6, 6, 6, 6, 6, 6, 6, 6, 6, 6, 6, 6, 6, 6, 6, 6, 6, 6, 6,
-    6, 6, 6, 6, 6, 6, 6, 6, 6, 6, 6, 6, 6, 6, 6, 6, 6, 6, 6, 6, 6, 6, 6, 6, 6, 6, 6, 6, 6, 6, 6, 6,
+    0, 0, 0, 0, 0, 0, 0, 0, 0, 15, 15, 0, 0, 15, 0, 0, 0, 0, 0, 0, 0, 0, 0, 0, 0, 0, 0, 0, 0, 0, 0,
+    0, 15, 0, 0, 0, 0, 0, 0, 0, 0, 0, 0, 0, 0, 0, 0, 7, 0, 0, 0, 0, 0, 0, 0, 0, 0, 0, 2, 0, 0, 1,
+    7, 0, 0, 16, 16, 16, 16, 16, 16, 16, 16, 16, 16, 16, 16, 16, 16, 16, 16, 16, 16, 16, 16, 16,
+    16, 16, 16, 16, 16, 0, 0, 0, 0, 0, 0, 32, 32, 32, 32, 32, 32, 32, 32, 32, 32, 32, 32, 32, 32,
+    32, 32, 32, 32, 32, 32, 32, 32, 32, 32, 32, 32, 0, 0, 0, 0, 0, 0, 0, 0, 0, 0, 0, 0, 0, 0, 0, 0,
+    0, 0, 0, 0, 0, 0, 0, 0, 0, 0, 0, 0, 0, 0, 0, 0, 0, 0, 0, 0, 0, 0, 0, 0, 0, 0, 0, 0, 0, 0, 0, 0,
+    0, 0, 0, 0, 0, 0, 0, 0, 0, 0, 0, 0, 0, 0, 0, 0, 0, 0, 0, 0, 0, 0, 0, 0, 0, 0, 0, 0, 0, 0, 0, 0,
+    0, 0, 0, 0, 0, 0, 0, 0, 0, 0, 0, 0, 0, 0, 0, 0, 0, 0, 0, 0, 0, 0, 0, 0, 0, 0, 0, 0, 0, 0, 0, 0,
+    0, 0, 0, 0, 0, 0, 0, 0, 0, 0, 0, 0, 0, 0, 0, 0, 0, 0, 0, 0, 0,
 ];
 
 // The class number of a byte.
@@ -32,37 +35,36 @@ fn class_of(b: u8) -> u8
 pub fn is_upper(b: u8) -> bool
     ensures { result ≡ is_upper b }
 {
-    class_of(b) == 4
+    class_of(b) == 16
 }
 
 pub fn is_lower(b: u8) -> bool
     ensures { result ≡ is_lower b }
 {
-    class_of(b) == 5
+    class_of(b) == 32
 }
 
 pub fn is_space(b: u8) -> bool
     ensures { result ≡ is_space b }
 {
-    class_of(b) == 0
+    class_of(b) == 15
 }
 
 pub fn is_tag_name_end(b: u8) -> bool
     ensures { result ≡ is_tag_name_end b }
 {
-    class_of(b) < 2
+    class_of(b) & 4 != 0
 }
 
 // Where a tag's raw name ends, or its prefix does.
 pub fn is_name_stop(b: u8) -> bool
     ensures { result ≡ is_name_stop b }
 {
-    class_of(b) < 3
+    class_of(b) & 2 != 0
 }
 
-#[tactic(auto, using(crate::proofs::Ending::ending))]
 pub fn is_attribute_name_end(b: u8) -> bool
     ensures { result ≡ is_attribute_name_end b }
 {
-    class_of(b) < 4 && b != b':'
+    class_of(b) & 1 != 0
 }

@@ -5,6 +5,7 @@ ghost use Rattle.texts.specs.Choice.{pick};
 ghost use Rattle.texts.specs.Text.{ascii};
 ghost use Rattle.printing.specs.Printed.{Printed};
 ghost use Rattle.printing.specs.Written.{Wrote};
+ghost use Rattle.classes.specs.Class.{is_lower};
 ghost use Rattle.conversions.specs.Letters.{lowered, raised};
 ghost use Rattle.conversions.specs.Room.{Ample, Roomy};
 ghost use Rattle.conversions.specs.Rules.{cased_at, cased, joined_at, joined, camel_shown, pascal_shown};
@@ -43,6 +44,18 @@ pub(crate) trait Case {
         ensures { (result.0 ≡ breaks name.now i) × (result.1 ≡ shown (get_or name.now i 0)) };
 }
 
+// Whether a small letter follows position `i`.
+// kept: the place is compared with the last one, not the next with the end, so that the loop above counts by one number.
+fn precedes_lower(name: &[u8], i: usize) -> bool
+    requires { i < length name.now }
+    ensures { result ≡ is_lower (get_or name.now (i + 1) 0) }
+{
+    if name.len() - 1 <= i {
+        return false;
+    }
+    is_lower(name[i + 1])
+}
+
 #[derive(Clone, Copy)]
 struct Snake;
 
@@ -59,7 +72,7 @@ impl Snake {
             if is_lower(byte_at(name, i - 1)) {
                 return true;
             }
-            return is_lower(byte_at(name, i + 1));
+            return precedes_lower(name, i);
         }
         false
     }
@@ -161,22 +174,49 @@ fn write_at<C: Case>(out: &mut Output<'_>, case: &C, name: &[u8], i: usize)
     out.byte(shown);
 }
 
-#[tactic(auto, unfolding(printing::specs::Written::written, crate::specs::Rules::cased), using(printing::proofs::Writing::writing))]
+#[tactic(auto, unfolding(crate::specs::Rules::cased), using(printing::proofs::Writing::writing))]
+fn write_each<C: Case>(out: &mut Output<'_>, case: &C, name: &[u8])
+    ensures { Wrote out.old out.new (cased C.breaks C.shown name.now) }
+{
+    for i in 0..name.len() {
+        write_at(out, case, name, i);
+    }
+}
+
+// A name that may not fit: rare, and so kept out of the way of those that do.
+#[cold]
+#[inline(never)]
+#[tactic(auto, unfolding(printing::specs::Written::written))]
+fn put_each<C: Case>(out: &mut [u8], at: usize, case: &C, name: &[u8]) -> usize
+    ensures { Printed out.old at out.new result (cased C.breaks C.shown name.now) }
+{
+    let mut o = Output { bytes: out, at };
+    write_each(&mut o, case, name);
+    o.at
+}
+
+#[inline(always)]
+fn put<C: Case>(out: &mut [u8], at: usize, case: &C, name: &[u8]) -> usize
+    ensures { Printed out.old at out.new result (cased C.breaks C.shown name.now) }
+{
+    if surely_fits(out.len(), at, name.len()) {
+        return store(out, at, case, name);
+    }
+    put_each(out, at, case, name)
+}
+
+#[inline(always)]
+#[tactic(auto, unfolding(printing::specs::Written::written))]
 fn write<C: Case>(out: &mut Output<'_>, case: &C, name: &[u8])
     ensures { Wrote out.old out.new (cased C.breaks C.shown name.now) }
 {
-    if surely_fits(out.bytes.len(), out.at, name.len()) {
-        out.at = store(out.bytes, out.at, case, name);
-    } else {
-        for i in 0..name.len() {
-            write_at(out, case, name, i);
-        }
-    }
+    out.at = put(out.bytes, out.at, case, name);
 }
 
 // Who writes many names makes the table once and lends it.
 // kept, with the three like it: each names the text that it writes.
 #[tactic(auto, unfolding(crate::specs::Conversions::camel_to_snake, crate::specs::Conversions::snake_at, crate::specs::Rules::cased, crate::specs::Rules::cased_at))]
+#[inline(always)]
 pub fn write_snake(out: &mut Output<'_>, name: &[u8])
     ensures { Wrote out.old out.new (camel_to_snake name.now) }
 {

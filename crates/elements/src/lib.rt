@@ -84,6 +84,7 @@ pub fn is_leaf_at(doc: &[u8], at: usize, len: usize) -> bool
 }
 
 // What a name of 3 to 5 bytes in a document says.
+#[inline(always)]
 fn short_element_at(doc: &[u8], at: usize, len: usize) -> Element
     requires { at + 8 ≤ length doc.now }
     ensures { result ≡ element_of (piece doc.now at len) }
@@ -100,6 +101,7 @@ fn short_element_at(doc: &[u8], at: usize, len: usize) -> Element
 }
 
 // The same of a longer one.
+#[inline(always)]
 fn long_element_at(doc: &[u8], at: usize, len: usize) -> Element
     requires { at + 16 ≤ length doc.now }
     ensures { result ≡ element_of (piece doc.now at len) }
@@ -115,6 +117,7 @@ fn long_element_at(doc: &[u8], at: usize, len: usize) -> Element
 
 // What the name of `len` bytes at `at` says. Up to 16 bytes before the document's end a length that no element's name has
 // says it at once, and else words are compared.
+#[inline(always)]
 pub fn element_at(doc: &[u8], at: usize, len: usize) -> Element
     ensures { result ≡ element_of (piece doc.now at len) }
 {

@@ -55,6 +55,7 @@ fn unit_at(s: &[u8], at: usize) -> Unit
 
 // Unit by unit from `from` on, into `dst` from `to` on: the place where they end. Decoding never lengthens, so that room
 // for the raw bytes is room enough.
+#[inline(never)]
 fn decode_each(raw: &[u8], from: usize, dst: &mut [u8], to: usize) -> usize
     requires { to + (length raw.now - from) ≤ length dst.old }
     ensures { RestInto (drop from raw.now) dst.old to result dst.new }
@@ -91,6 +92,7 @@ fn copy_plain(raw: &[u8], dst: &mut [u8], at: usize) -> usize
 
 // Eight bytes at once as long as they lack '&', the last eight over what is copied already; the rest unit by unit: how
 // many bytes are written.
+#[inline(never)]
 fn decode_long(raw: &[u8], dst: &mut [u8], at: usize) -> usize
     requires { at + length raw.now ≤ length dst.old }
     ensures { RestInto raw.now dst.old at (at + result) dst.new }

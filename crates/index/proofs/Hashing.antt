@@ -61,8 +61,10 @@ module _ {s : List ℕ} {i h : ℕ} (k : Hashing s i h) where
 
 -- one word or two
 module _ (s : List ℕ) (a : 8 ≤ length s) where
-  pub words-one : length s ≡ 8 → {w : ℕ} → IsWord (piece s (length s - 8) 8) w → {r : ℕ} → r ≡ mix (length s) w → r ≡ long_word s
-  words-one e ew er = hashing-end (hashing-start {s = s} a) (omega arith) ew er
+  pub words-one : length s ≡ 8 → {w : ℕ} → IsWord (piece s 0 8) w → {r : ℕ} → r ≡ mix (length s) w → r ≡ long_word s
+  words-one e {w} ew er =
+      let z : length s - 8 ≡ 0 = omega arith in
+      let last : IsWord (piece s (length s - 8) 8) w = rw z ew in hashing-end (hashing-start {s = s} a) (omega arith) last er
 
   pub words-two : (length s ≡ 8 → ⊥) → length s ≤ 16 → {w : ℕ} → IsWord (piece s 0 8) w → {h : ℕ} → h ≡ mix (length s) w → {v : ℕ} → IsWord (piece s (length s - 8) 8) v → {r : ℕ} → r ≡ mix h v → r ≡ long_word s
   words-two n b ew eh ev er =

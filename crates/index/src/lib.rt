@@ -85,11 +85,12 @@ fn two_words(name: &[u8]) -> u64
     ensures { result ≡ long_word name.now }
 {
     let n = name.len();
-    let h = n as u64;
+    // The first word is used whole where it is the only one, or the compiler would read it byte by byte.
+    let h = mixed(n as u64, word_at(name, 0));
     if n == 8 {
-        return mixed(h, word_at(name, n - 8));
+        return h;
     }
-    mixed(mixed(h, word_at(name, 0)), word_at(name, n - 8))
+    mixed(h, word_at(name, n - 8))
 }
 
 // A longer one.
@@ -115,6 +116,7 @@ fn narrow(w: u64) -> usize
 }
 
 #[tactic(auto, using(crate::proofs::Laws::hashing))]
+#[inline(always)]
 fn hash_of(name: &[u8]) -> usize
     ensures { HashOf name.now result }
 {
@@ -139,6 +141,7 @@ fn masked(h: usize, n: u32) -> usize
 
 // Where the last declaration with the hash of a name stands.
 #[tactic(auto, using(crate::proofs::Laws::hashing))]
+#[inline(always)]
 fn head_of(v: &View<'_>, name: &[u8]) -> usize
     ensures { HeadOf v.now name.now result }
 {

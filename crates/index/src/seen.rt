@@ -33,11 +33,11 @@ impl<'a> Model for Index<'a> {
 }
 
 // A position as the index holds it.
-fn position(n: u16) -> Option<u32>
+fn position(n: u32) -> Option<u32>
     ensures is { (o : Option ℕ) → n ≡ code o → result ≡ o }
     ensures within { IfSome result (λ i. i + 1 < 2 ^ 32) }
 {
-    if 0 < n { Some(n as u32 - 1) } else { None }
+    if 0 < n { Some(n - 1) } else { None }
 }
 
 // What a name is declared as: an enum or composite, or the type at a position.
@@ -160,6 +160,7 @@ impl<'a> Index<'a> {
         self.view.size(i)
     }
 
+    #[inline(always)]
     pub fn entry(&self, i: u32) -> Entry
         ensures { Shows result (item_at self.now i) }
     {
@@ -177,37 +178,56 @@ impl<'a> Index<'a> {
     // ---- by the links
 
     // The item before `from`, if it is of this kind and owner, leads to the next one.
-    fn next_child(&self, kind: u32, owner: u32, from: u32) -> Option<u32>
+    fn next_child(&self, kind: u32, owner: u32, from: u32) -> u32
         requires { (length self.now.items ≤ 1024) × (kind < 10) × (owner < length self.now.items) × (0 < from) }
-        ensures is { result ≡ next_under kind owner from self.now }
-        ensures within { IfSome result (λ i. i + 1 < 2 ^ 32) }
+        ensures { result ≡ code (next_under kind owner from self.now) }
     {
         let v = &self.view;
         let i = from - 1;
         if i < v.count() {
             if v.kind(i) == kind {
                 if v.owner(i) == owner {
-                    return position(self.links[EACH * (i as usize)]);
+                    return self.links[EACH * (i as usize)] as u32;
                 }
             }
         }
-        v.next_under(kind, owner, from)
+        self.searched(kind, owner, from)
     }
 
-    // The first item of a kind under an owner from a place on.
+    // By the model's own search: rare, and so kept out of the way of the links.
+    #[cold]
+    #[inline(never)]
+    fn searched(&self, kind: u32, owner: u32, from: u32) -> u32
+        ensures { result ≡ code (next_under kind owner from self.now) }
+    {
+        match self.view.next_under(kind, owner, from) {
+            Some(i) => i + 1,
+            None => 0,
+        }
+    }
+
+    // The first item of a kind under an owner from a place on, as the index holds it: 0 for none.
+    #[inline(always)]
+    fn child_number(&self, kind: u32, owner: u32, from: u32) -> u32
+        ensures { result ≡ code (next_under kind owner from self.now) }
+    {
+        let n = self.view.count();
+        if MOST < n || 9 < kind || n <= owner {
+            return self.searched(kind, owner, from);
+        }
+        if from == 0 {
+            let head = EACH * (owner as usize) + FIRST + kind as usize;
+            return self.links[head] as u32;
+        }
+        self.next_child(kind, owner, from)
+    }
+
+    // The same as a position.
     pub fn child(&self, kind: u32, owner: u32, from: u32) -> Option<u32>
         ensures is { result ≡ next_under kind owner from self.now }
         ensures within { IfSome result (λ i. i + 1 < 2 ^ 32) }
     {
-        let n = self.view.count();
-        if MOST < n || 9 < kind || n <= owner {
-            return self.view.next_under(kind, owner, from);
-        }
-        if from == 0 {
-            let head = EACH * (owner as usize) + FIRST + kind as usize;
-            return position(self.links[head]);
-        }
-        self.next_child(kind, owner, from)
+        position(self.child_number(kind, owner, from))
     }
 
     // The items of a kind under an owner.
@@ -272,9 +292,14 @@ impl<'a> Iterator for Children<'a> {
 
     ghost remaining = { item_count (λ s. ahead (λ it. eqb it.kind s.kind and eqb it.owner s.owner) s.from s.index.now) };
 
+    #[inline(always)]
     fn next(&mut self) -> Option<u32> {
-        let s = self.index;
-        let i = s.child(self.kind, self.owner, self.from)?;
+        // kept: by the number, as an option made of it would be told again.
+        let n = self.index.child_number(self.kind, self.owner, self.from);
+        if n == 0 {
+            return None;
+        }
+        let i = n - 1;
         self.from = i + 1;
         Some(i)
     }

@@ -29,6 +29,20 @@ entry-words rec rec' i j w =
     let w0 : get_or rec' (15 * i) 0 ≡ get_or rec (15 * j) 0 = ap (λ n. get_or rec' n 0) (sym zi) ∙ w 0 (omega arith) ∙ ap (λ n. get_or rec n 0) zj in
     rw (w0, w 1 (omega arith), w 2 (omega arith), w 3 (omega arith), w 4 (omega arith), w 5 (omega arith), w 6 (omega arith), w 7 (omega arith), w 8 (omega arith), w 9 (omega arith))
 
+-- the words from the third on are read two by two
+module _ (rec : List ℕ) (i : ℕ) where
+  second-of : (n m : ℕ) → n + 1 ≡ m → {v : ℕ} → v ≡ get_or rec (15 * i + n + 1) 0 → v ≡ get_or rec (15 * i + m) 0
+  second-of n m q {v} e =
+      let z : 15 * i + n + 1 ≡ 15 * i + m = omega arith in e ∙ ap (λ k. get_or rec k 0) z
+
+  pub entry-read : {kind owner name nlen second slen number given encoding elen : ℕ} → kind ≡ get_or rec (15 * i) 0 → owner ≡ get_or rec (15 * i + 1) 0
+      → name ≡ get_or rec (15 * i + 2) 0 → nlen ≡ get_or rec (15 * i + 2 + 1) 0 → second ≡ get_or rec (15 * i + 4) 0 → slen ≡ get_or rec (15 * i + 4 + 1) 0
+      → number ≡ get_or rec (15 * i + 6) 0 → given ≡ get_or rec (15 * i + 6 + 1) 0 → encoding ≡ get_or rec (15 * i + 8) 0 → elen ≡ get_or rec (15 * i + 8 + 1) 0
+      → ◌≡◌ {A = Entry} (record { kind = kind; owner = owner; name = name; nlen = nlen; second = second; slen = slen; number = number; given = given; encoding = encoding; elen = elen }) (entry_at rec i)
+  unfolding entry_at
+  entry-read a b c d e f g h j k =
+      rw (a, b, c, second-of 2 3 refl d, e, second-of 4 5 refl f, g, second-of 6 7 refl h, j, second-of 8 9 refl k)
+
 module _ (rec : List ℕ) (i : ℕ) (e : Entry) where
   pub entry-same : 15 * i + 10 ≤ length rec → entry_at (sets rec (15 * i) (words_of e)) i ≡ e
   unfolding entry_at

@@ -1,13 +1,12 @@
 // A model with its two buffers: the schema that it stands for.
-ghost use Rattle.std.specs.Prelude.{◌≡◌, List, ℕ, eqb, length};
+ghost use Rattle.std.specs.Prelude.{◌≡◌, List, ℕ, ◌+◌, ◌<◌, ◌^◌, eqb, length, get_or};
 ghost use Rattle.texts.specs.Choice.{pick};
 ghost use Rattle.texts.specs.Text.{piece};
 ghost use Rattle.model.specs.Schema.{item_at};
-ghost use Rattle.model.specs.Store.{item_of, schema_of};
+ghost use Rattle.model.specs.Store.{entry_at, item_of, schema_of};
 ghost use Rattle.model.specs.Shown.{Shows};
 
-use crate::{Entry, Model, entry_at};
-use texts::part;
+use crate::{Entry, Model, word};
 
 #[derive(Drop)]
 pub struct View<'a> {
@@ -25,7 +24,45 @@ impl<'a> std::marker::Model for View<'a> {
     ghost view = { λ v. schema_of v.model v.records.now v.text.now };
 }
 
+// Words `i` and `i + 1`: one test for both.
+#[inline(always)]
+fn pair(rec: &[u32], i: usize) -> (u32, u32)
+    requires { i + 1 < 2 ^ 64 }
+    ensures { (result.0 ≡ get_or rec.now i 0) × (result.1 ≡ get_or rec.now (i + 1) 0) }
+{
+    if i + 1 < rec.len() {
+        return (rec[i], rec[i + 1]);
+    }
+    (word(rec, i), word(rec, i + 1))
+}
+
+// The entry of item `i`, with where a text lies and how long it is by one test. Kind and owner are asked for one by one.
+// kept: beside the crate's own, which the builder has in its loop: there this is 2 % slower on small attributes.
+#[inline(always)]
+fn entry_at(rec: &[u32], i: u32) -> Entry
+    ensures { result ≡ entry_at rec.now i }
+{
+    let k = 15 * (i as usize);
+    let (name, nlen) = pair(rec, k + 2);
+    let (second, slen) = pair(rec, k + 4);
+    let (number, given) = pair(rec, k + 6);
+    let (encoding, elen) = pair(rec, k + 8);
+    Entry {
+        kind: word(rec, k),
+        owner: word(rec, k + 1),
+        name,
+        nlen,
+        second,
+        slen,
+        number,
+        given,
+        encoding,
+        elen,
+    }
+}
+
 // The entry at a position, whatever the text buffer holds; past the last item an empty one.
+#[inline(always)]
 pub fn item(m: Model, rec: &[u32], i: u32) -> Entry
     ensures { (text : List ℕ) → item_of text result ≡ item_at (schema_of m rec.now text) i }
 {
@@ -44,6 +81,27 @@ pub fn item(m: Model, rec: &[u32], i: u32) -> Entry
         encoding: 0,
         elen: 0,
     }
+}
+
+// What there is of a text that does not lie in the buffer: never one that a document gave.
+#[cold]
+#[inline(never)]
+fn cut(text: &[u8], a: usize, n: usize) -> &[u8]
+    ensures { result.now ≡ piece text.now a n }
+{
+    texts::part(text, a, n)
+}
+
+// `n` bytes of the text buffer from `a` on.
+#[inline(always)]
+fn part(text: &[u8], a: usize, n: usize) -> &[u8]
+    ensures { result.now ≡ piece text.now a n }
+{
+    if a < text.len() && n <= text.len() - a {
+        let e = a + n;
+        return &text[a..e];
+    }
+    cut(text, a, n)
 }
 
 impl<'a> View<'a> {
@@ -141,6 +199,7 @@ impl<'a> View<'a> {
     }
 
     // The numbers of an item, and how long its texts are at most.
+    #[inline(always)]
     pub fn entry(&self, i: u32) -> Entry
         ensures { Shows result (item_at self.now i) }
     {

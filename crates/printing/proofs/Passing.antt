@@ -1,12 +1,14 @@
 -- Whole texts: one of which nothing fits is only counted, and one that fits is stored byte by byte.
-use mathlib.Core.Path.{◌≡◌, refl, sym, ◌∙◌}
-use mathlib.Core.List.{List, [], ◌∷◌}
-use Prim.Native.Nat.{ℕ, suc, ◌+◌, ◌≤◌, ◌<◌, min}
+use mathlib.Core.Path.{◌≡◌, refl, sym, ap, ◌∙◌}
+use mathlib.Core.List.{List, [], ◌∷◌, ◌++◌}
+use Prim.Native.Nat.{ℕ, zero, suc, ◌+◌, ◌-◌, ◌≤◌, ◌<◌, min}
 use native.Mathlib.Numerals.{add-one}
 use native.Mathlib.Omega.{arith}
-use lib.ListN.{length, get_or, set, take}
-use lib.Seq.{set_out, take-suc, take_all}
+use lib.ListN.{length, get_or, set, take, drop, length-drop, take-append-drop}
+use lib.Seq.{sets, set_out, set-set, set_comm, take-suc, take-add, take_all, length-take-le}
 use borrow.Author.Tests.{eq-eqb, ne_eqb}
+use Rattle.texts.specs.Text.{piece}
+use Rattle.words.proofs.Copying.{sets-append}
 use Rattle.printing.specs.Printed.{last, next, past, skipped, laid, Printed}
 use Rattle.printing.proofs.Sequencing.{blank, ◌▸◌, length-printed}
 
@@ -92,3 +94,62 @@ module _ {s out : List ℕ} {at : ℕ} {out' : List ℕ} {i : ℕ} (inv : Copyin
       rw (e, take_all (length s) s (omega arith)) at inv.sofar
 
 pub ruleset copying = (copying-length, copying-within, copying-end)
+
+-- ---- two runs, of which the second may lie over the first
+
+set-below : (vs l : List ℕ) (i j x : ℕ) → j < i → set (sets l i vs) j x ≡ sets (set l j x) i vs
+set-below [] l i j x h = refl
+set-below (v ∷ vs) l i j x h =
+    set-below vs (set l i v) (suc i) j x (omega arith) ∙ ap (λ m. sets m (suc i) vs) (set_comm l i j v x (λ e. omega arith))
+
+sets-over : (k : ℕ) (u d : List ℕ) (o : ℕ) → sets (sets d o (take k u)) o u ≡ sets d o u
+sets-over zero u d o = refl
+sets-over (suc k) [] d o = refl
+sets-over (suc k) (x ∷ u) d o =
+    ap (λ m. sets m (suc o) u) (set-below (take k u) (set d o x) (suc o) o x (omega arith) ∙ ap (λ m. sets m (suc o) (take k u)) (set-set d o x x))
+    ∙ sets-over k u (set d o x) (suc o)
+
+sets-again : (s d : List ℕ) (at i j : ℕ) → j ≤ i → j ≤ length s → sets (sets d at (take i s)) (at + j) (drop j s) ≡ sets d at s
+sets-again s d at i j h l =
+    let z : j + (i - j) ≡ i = omega arith in
+    let n : length (take j s) ≡ j = length-take-le j s l in
+    let front : take i s ≡ take j s ++ take (i - j) (drop j s) = ap (λ k. take k s) (sym z) ∙ take-add j (i - j) s in
+    let split : (t : List ℕ) → sets d at (take j s ++ t) ≡ sets (sets d at (take j s)) (at + j) t =
+    λ t. sets-append d at (take j s) t ∙ ap (λ k. sets (sets d at (take j s)) (at + k) t) n in
+    ap (λ m. sets m (at + j) (drop j s)) (ap (sets d at) front ∙ split (take (i - j) (drop j s)))
+    ∙ sets-over (i - j) (drop j s) (sets d at (take j s)) (at + j)
+    ∙ sym (split (drop j s)) ∙ ap (sets d at) (take-append-drop j s)
+
+laid-sets : (t out : List ℕ) (at : ℕ) → at + length t ≤ last → laid out at t ≡ sets out at t
+unfolding laid
+laid-sets [] out at h = refl
+laid-sets (b ∷ t) out at h =
+    let e : next at ≡ suc at = omega arith in rw e (laid-sets t (set out at b) (suc at) (omega arith))
+
+pub past-fits : (t : List ℕ) (at : ℕ) → at + length t ≤ last → past at t ≡ at + length t
+unfolding past
+past-fits [] at h = omega arith
+past-fits (b ∷ t) at h =
+    let e : next at ≡ suc at = omega arith in
+    let p = past-fits t (suc at) (omega arith) in rw e (omega (arith, p))
+
+module _ (n : ℕ) (s out : List ℕ) (at : ℕ) where
+  pub two-printed : at + length s ≤ length out → length out < last → n ≤ length s → length s ≤ n + n → {o₁ o₂ : List ℕ}
+      → o₁ ≡ sets out at (piece s 0 n) → o₂ ≡ sets o₁ (at + (length s - n)) (piece s (length s - n) n) → Printed out at o₂ (at + length s) s
+  two-printed h l a b p q =
+      let j = length s - n in
+      let rest : piece s j n ≡ drop j s = take_all n (drop j s) (omega (arith, length-drop j s)) in
+      let e = q ∙ ap (λ m. sets m (at + j) (piece s j n)) p ∙ ap (sets (sets out at (take n s)) (at + j)) rest
+      ∙ sets-again s out at n j (omega arith) (omega arith) in
+      record { is = e ∙ sym (laid-sets s out at (omega arith)); to = sym (past-fits s at (omega arith)) }
+
+-- a text that fits, and one more byte
+module _ {out : List ℕ} {at : ℕ} {out' : List ℕ} {p : ℕ} (s : List ℕ) (f : Printed out at out' p s) (h : at + length s < length out) (l : length out < last) where
+  then-place : p ≡ at + length s
+  then-place = f.to ∙ past-fits s at (omega arith)
+
+  pub then-within : p < length out'
+  then-within = omega (arith, then-place, length-printed f)
+
+  pub then-printed : (b : ℕ) → Printed out at (set out' p b) (p + 1) (s ++ b ∷ [])
+  then-printed b = f ▸ stored {b = b} then-within (omega (arith, length-printed f))

@@ -10,7 +10,7 @@
 // printing by methods alone took a tenth longer.
 #![tactic(auto)]
 
-ghost use Rattle.std.specs.Prelude.{List, ℕ, ◌≡◌, [], ◌∷◌, ◌+◌, ◌≤◌, length};
+ghost use Rattle.std.specs.Prelude.{List, ℕ, ◌≡◌, [], ◌∷◌, ◌++◌, ◌+◌, ◌≤◌, length};
 ghost use Rattle.texts.specs.Choice.{pick};
 ghost use Rattle.texts.specs.Text.{piece};
 ghost use Rattle.printing.specs.Printed.{Printed, next, skipped};
@@ -19,6 +19,7 @@ ghost use Rattle.printing.specs.Output.{Finishes};
 ghost use Rattle.printing.specs.Written.{Wrote, opened, moved};
 
 use refusals::Refusal;
+use words::copy_few;
 
 // The largest position, which no slice reaches; counting stays there.
 const LAST: usize = 0x8000_0000_0000_0000;
@@ -65,6 +66,13 @@ impl<'a> Output<'a> {
         ensures { Wrote self.old self.new s.now }
     {
         self.at = put_bytes(self.bytes, self.at, s);
+    }
+
+    // A text, then a byte: one test for room.
+    pub fn text_then(&mut self, s: &[u8], b: u8)
+        ensures { Wrote self.old self.new (s.now ++ b ∷ []) }
+    {
+        self.at = put_then(self.bytes, self.at, s, b);
     }
 
     // A number in decimal.
@@ -157,7 +165,7 @@ fn skip(at: usize, n: usize) -> usize
 
 // Prints the bytes of `s` where all of them fit: a loop with no test but its own.
 #[tactic(auto, using(crate::proofs::Passing::copying))]
-fn copy(out: &mut [u8], at: usize, s: &[u8]) -> usize
+fn copy_each(out: &mut [u8], at: usize, s: &[u8]) -> usize
     requires { at + length s.now ≤ length out.old }
     ensures { Printed out.old at out.new result s.now }
 {
@@ -165,6 +173,36 @@ fn copy(out: &mut [u8], at: usize, s: &[u8]) -> usize
         out[at + i] = s[i];
     }
     at + s.len()
+}
+
+// The same of `N` to 2 `N` bytes, as two runs of `N`, of which the second may lie over the first.
+fn copy_two<const N: usize>(out: &mut [u8], at: usize, s: &[u8]) -> usize
+    requires { (at + length s.now ≤ length out.old) × (N ≤ length s.now) × (length s.now ≤ N + N) }
+    ensures { Printed out.old at out.new result s.now }
+{
+    let n = s.len();
+    let last = n - N;
+    copy_few::<N>(s, 0, out, at);
+    copy_few::<N>(s, last, out, at + last);
+    at + n
+}
+
+// The same of any text: most have 4 to 16 bytes.
+fn copy(out: &mut [u8], at: usize, s: &[u8]) -> usize
+    requires { at + length s.now ≤ length out.old }
+    ensures { Printed out.old at out.new result s.now }
+{
+    let n = s.len();
+    if n < 4 {
+        return copy_each(out, at, s);
+    }
+    if n <= 8 {
+        return copy_two::<4>(out, at, s);
+    }
+    if n <= 16 {
+        return copy_two::<8>(out, at, s);
+    }
+    copy_each(out, at, s)
 }
 
 // Prints the bytes of `s` one by one, those that fit.
@@ -199,6 +237,28 @@ fn put_bytes(out: &mut [u8], at: usize, s: &[u8]) -> usize
         return copy(out, at, s);
     }
     put_cut(out, at, s)
+}
+
+// Prints the bytes of `s`, and one more, where not all of them fit.
+#[cold]
+#[inline(never)]
+fn put_then_cut(out: &mut [u8], at: usize, s: &[u8], b: u8) -> usize
+    ensures { Printed out.old at out.new result (s.now ++ b ∷ []) }
+{
+    let p = put_bytes(out, at, s);
+    put_byte(out, p, b)
+}
+
+// Prints the bytes of `s`, and one more.
+fn put_then(out: &mut [u8], at: usize, s: &[u8], b: u8) -> usize
+    ensures { Printed out.old at out.new result (s.now ++ b ∷ []) }
+{
+    if at < out.len() && s.len() < out.len() - at {
+        let p = copy(out, at, s);
+        out[p] = b;
+        return p + 1;
+    }
+    put_then_cut(out, at, s, b)
 }
 
 // Prints again the `n` bytes at `from`, which stand before `at`, where all of them fit: a loop inside the slice.

@@ -2,26 +2,30 @@
 use Rattle.std.specs.Prelude.{Option, Some, None}
 use mathlib.Core.Path.{◌≡◌, refl, sym, ap, ◌∙◌}
 use mathlib.Core.Bool.{Bool, true, false, not}
-use mathlib.Core.List.{List, [], ◌∷◌}
+use mathlib.Core.List.{List, [], ◌∷◌, ◌++◌}
 use Prim.Native.Nat.{ℕ, zero, suc, ◌+◌, ◌-◌, ◌%◌, ◌≤◌, ◌<◌}
 use native.Mathlib.Omega.{arith}
 use native.Mathlib.Nat.{add-zero}
-use lib.Dec.{eqb, ltb, leb→le}
-use lib.ListN.{length, drop, drop_of_length-le, length-drop}
+use lib.Dec.{T, eqb, ltb, leb→le}
+use lib.ListN.{length, take, drop, get_or, drop_of_length-le, length-drop}
+use lib.Seq.{drop-cons, drop-drop}
 use borrow.Author.Rules.{rules}
-use borrow.Author.Tests.{ltb-true, ltb-false}
-use Rattle.texts.specs.Text.{ascii, starts_with}
+use borrow.Author.Tests.{eq-eqb, ne_eqb, ltb-true, ltb-false}
+use Rattle.texts.specs.Choice.{◌and◌}
+use Rattle.texts.specs.Text.{ascii, piece, starts_with}
 use Rattle.texts.specs.Scan.{count_while, scan, until, is}
 use Rattle.texts.proofs.Choosing.{by-test}
-use Rattle.texts.proofs.Comparing.{starts-yes, starts-no}
-use Rattle.texts.proofs.Scanning.{count_yes, count_no}
-use Rattle.words.specs.Word.{word_of}
+use Rattle.texts.proofs.Comparing.{starts-yes, starts-no, starts-append}
+use Rattle.texts.proofs.Scanning.{Scanning, scan-start, byte-on, byte-stop, count_yes, count_no}
+use lib.Pow.{are_bytes}
+use Rattle.words.specs.Word.{word_of, IsHalf}
+use Rattle.words.proofs.Digits.{word-tells, bytes-are, front-is}
 use Rattle.words.specs.Standing.{ShortText, StandsShort, Lacks}
 use Rattle.words.proofs.Standing.{power-some}
 use Rattle.words.proofs.Pairing.{lacks-start}
 use Rattle.tags.specs.Find.{find_in, find_from}
-use Rattle.tags.proofs.Searching.{find-here, find-next, find_none, search-start, search-on, found_from, found_inside, found-past}
-use Rattle.saxlite.specs.Passing.{Stands, FoundAt}
+use Rattle.tags.proofs.Searching.{byte-stands, find-here, find-next, find_none, search-start, search-on, found_from, found_inside, found-past}
+use Rattle.saxlite.specs.Passing.{Stands, FoundAt, FirstAt, EndsAt}
 
 -- ---- a search goes on where the needle does not stand
 
@@ -65,6 +69,9 @@ module _ (n doc : List ℕ) (from : ℕ) {o : Option ℕ} (e : o ≡ find_from n
 here_found : (n doc : List ℕ) (from : ℕ) → from < length doc → starts_with n (drop from doc) ≡ true → FoundAt n doc from from
 here_found n doc from l t = record { is = λ h. find-here n (drop from doc) from t; none = λ h. absurd (omega arith) }
 
+pub end-from : {n doc : List ℕ} {from end : ℕ} → FoundAt n doc from end → end < length doc → from ≤ end
+end-from {n} {doc} {from} {end} f h = found_from n doc from end (f.is h)
+
 -- ---- places one by one
 
 pub short-stands : {n doc : List ℕ} {i modulus front : ℕ} {b : Bool} → StandsShort doc i modulus front b → ShortText n modulus front → Stands n doc i b
@@ -100,10 +107,33 @@ module _ {n doc : List ℕ} {from : ℕ} where
         pub lacks-four : Stands n doc (i + 3) false → Lacks n doc from (i + 4)
         lacks-four d = next lacks-three d (omega arith)
 
--- what the loops over the first places keep: so far the needle stands nowhere, and what is left to `stop` are fours, each place
+-- what the loop over the first places keeps: so far the needle stands nowhere, and what is left to `stop` are fours, each place
 -- with room for a word
 abbrev pub Nearing : (n doc : List ℕ) (from stop i : ℕ) → Type 0
 Nearing n doc from stop i = Lacks n doc from i × ((stop - i) % 4 ≡ 0) × (stop + 8 ≤ length doc)
+
+-- ---- two bytes
+
+byte-starts : (y b : ℕ) (u : List ℕ) → starts_with (y ∷ []) (b ∷ u) ≡ eqb b y
+unfolding starts_with
+byte-starts y b u = by-test (eqb b y) (λ t. starts-yes y b [] u t ∙ sym t) (λ f. starts-no y b [] u f ∙ sym f)
+
+module _ {x y : ℕ} {doc : List ℕ} {i : ℕ} (h : i + 2 ≤ length doc) where
+  pub pair-yes : get_or doc i 0 ≡ x → Stands (x ∷ y ∷ []) doc i (eqb (get_or doc (i + 1) 0) y)
+  pair-yes e =
+      let z : suc i ≡ i + 1 = omega arith in
+      let t : eqb (get_or doc i 0) x ≡ true = eq-eqb (get_or doc i 0) x e in
+      record {
+        is = rw (drop-cons doc i 0 (omega arith)) (starts-yes x (get_or doc i 0) (y ∷ []) (drop (suc i) doc) t)
+            ∙ ap (λ (k : ℕ). starts_with (y ∷ []) (drop k doc)) z
+            ∙ rw (drop-cons doc (i + 1) 0 (omega arith)) (byte-starts y (get_or doc (i + 1) 0) (drop (suc (i + 1)) doc));
+      }
+
+  pub pair-no : (get_or doc i 0 ≡ x → ⊥) → Stands (x ∷ y ∷ []) doc i false
+  pair-no f =
+      record {
+        is = rw (drop-cons doc i 0 (omega arith)) (starts-no x (get_or doc i 0) (y ∷ []) (drop (suc i) doc) (ne_eqb (get_or doc i 0) x f));
+      }
 
 -- ---- a scan for one byte
 
@@ -132,6 +162,165 @@ scan-found b doc from {r} e =
       none = λ h. count-nowhere b (drop from doc) from (omega (arith, length-drop from doc));
     }
 
+-- ---- four bytes
+
+front-stands : (t u : List ℕ) → take (length t) u ≡ t → starts_with t u ≡ true
+unfolding starts_with
+front-stands [] u e = refl
+front-stands (n ∷ t) [] e = absurd (let z : ◌≡◌ {A = ℕ} 0 1 = omega (arith, ap length e) in omega arith)
+front-stands (n ∷ t) (x ∷ u) e =
+    let p : x ≡ n = cc in
+    let q : take (length t) u ≡ t = cc in
+    starts-yes n x t u (eq-eqb x n p) ∙ front-stands t u q
+
+module _ (t : List ℕ) (b : T (are_bytes t)) (four : length t ≡ 4) (doc : List ℕ) (i : ℕ) {w : ℕ} (h : IsHalf (piece doc i 4) w) where
+  four-stand : eqb w (word_of t) ≡ starts_with t (drop i doc)
+  four-stand =
+      by-test (starts_with t (drop i doc))
+      (λ y. eq-eqb w (word_of t) (h.is ∙ ap word_of (ap (λ (n : ℕ). take n (drop i doc)) (sym four) ∙ front-is t (drop i doc) y)) ∙ sym y)
+      (λ f. ne_eqb w (word_of t) (λ e.
+      let same : piece doc i 4 ≡ t = word-tells (piece doc i 4) t (h.four ∙ sym four) h.bytes (bytes-are t b) (sym h.is ∙ e) in
+      let z : ◌≡◌ {A = ℕ} 0 1 = cc (front-stands t (drop i doc) (ap (λ (n : ℕ). take n (drop i doc)) four ∙ same)) in omega arith)
+      ∙ sym f)
+
+pub comment-begins : {doc : List ℕ} {i w : ℕ} → IsHalf (piece doc i 4) w → Stands (ascii "<!--") doc i (eqb w 757932348)
+unfolding word_of
+comment-begins {doc} {i} h = record { is = sym (four-stand (ascii "<!--") tt refl doc i h) }
+
+-- ---- by the last byte
+
+-- before the first place of a byte it does not stand, and there it does
+module _ (x : ℕ) where
+  unmet : (s : List ℕ) (m : ℕ) → m < count_while (until (is x)) s → starts_with (x ∷ []) (drop m s) ≡ false
+  unmet [] m h = absurd (omega arith)
+  unmet (b ∷ s) zero h =
+      by-test (eqb b x)
+      (λ t. absurd (omega (arith, count_no (until (is x)) b s (ap not t))))
+      (λ f. starts-no x b [] s f)
+  unmet (b ∷ s) (suc m) h =
+      by-test (eqb b x)
+      (λ t. absurd (omega (arith, count_no (until (is x)) b s (ap not t))))
+      (λ f. unmet s m (omega (arith, count_yes (until (is x)) b s (ap not f))))
+
+  met : (s : List ℕ) → count_while (until (is x)) s < length s → starts_with (x ∷ []) (drop (count_while (until (is x)) s) s) ≡ true
+  unfolding starts_with
+  met [] h = absurd (omega arith)
+  met (b ∷ s) h =
+      by-test (eqb b x)
+      (λ t. rw (count_no (until (is x)) b s (ap not t)) (starts-yes x b [] s t))
+      (λ f. rw (count_yes (until (is x)) b s (ap not f)) (met s (omega (arith, count_yes (until (is x)) b s (ap not f)))))
+
+-- a text in two parts
+parts : (w : List ℕ) (x : ℕ) (doc : List ℕ) (k : ℕ) → starts_with (w ++ (x ∷ [])) (drop k doc) ≡ (starts_with w (drop k doc) and starts_with (x ∷ []) (drop (k + length w) doc))
+parts w x doc k = starts-append w (x ∷ []) (drop k doc) ∙ ap (λ (u : List ℕ). starts_with w (drop k doc) and starts_with (x ∷ []) u) (drop-drop (length w) k doc)
+
+-- `due` is the first place of the byte that ends the needle, from where it may stand
+module _ (w : List ℕ) (x : ℕ) (doc : List ℕ) (from : ℕ) {due : ℕ} (e : due ≡ scan (until (is x)) doc (from + length w)) where
+  due-lacks : Lacks (w ++ (x ∷ [])) doc from (due - length w)
+  due-lacks =
+      record {
+        forward = omega (arith, e);
+        none = λ k a b.
+            let z : from + length w + (k - from) ≡ k + length w = omega (arith, a) in
+            let f : starts_with (x ∷ []) (drop (k + length w) doc) ≡ false =
+            ap (λ (j : ℕ). starts_with (x ∷ []) (drop j doc)) (sym z)
+            ∙ ap (starts_with (x ∷ [])) (sym (drop-drop (k - from) (from + length w) doc))
+            ∙ unmet x (drop (from + length w) doc) (k - from) (omega (arith, e))
+            in
+            parts w x doc k ∙ by-test (starts_with w (drop k doc)) (λ t. rw (t, f)) (λ g. rw g);
+      }
+
+  due-stands : due < length doc → starts_with w (drop (due - length w) doc) ≡ true → starts_with (w ++ (x ∷ [])) (drop (due - length w) doc) ≡ true
+  due-stands h t =
+      let m = count_while (until (is x)) (drop (from + length w) doc) in
+      let z : due - length w + length w ≡ from + length w + m = omega (arith, e) in
+      let f : starts_with (x ∷ []) (drop (due - length w + length w) doc) ≡ true =
+      ap (λ (j : ℕ). starts_with (x ∷ []) (drop j doc)) z
+      ∙ ap (starts_with (x ∷ [])) (sym (drop-drop m (from + length w) doc))
+      ∙ met x (drop (from + length w) doc) (omega (arith, e, length-drop (from + length w) doc))
+      in
+      parts w x doc (due - length w) ∙ rw (t, f)
+
+  due-here : due < length doc → starts_with w (drop (due - length w) doc) ≡ true → FoundAt (w ++ (x ∷ [])) doc from (due - length w)
+  due-here h t = lacks-here due-lacks (record { is = due-stands h t }) (omega (arith, h))
+
+  due-later : {r : ℕ} → FoundAt (w ++ (x ∷ [])) doc (due - length w) r → FoundAt (w ++ (x ∷ [])) doc from r
+  due-later f = lacks-found due-lacks f
+
+-- ---- what is told of an end
+
+some-same : {i j : ℕ} → Some i ≡ Some j → i ≡ j
+some-same e = cc
+
+some-none : {i : ℕ} → None ≡ Some i → ⊥
+some-none e = let z : ◌≡◌ {A = ℕ} 0 1 = cc in omega arith
+
+module _ {x : ℕ} {doc : List ℕ} {at : ℕ} where
+  pub first-some : {i : ℕ} → i ≡ scan (until (is x)) doc at → i < length doc → FirstAt x doc at (Some i)
+  first-some e h = record { is = λ s. (sym (some-same s) ∙ e, omega (arith, some-same s)) }
+
+  pub first-none : FirstAt x doc at None
+  first-none = record { is = λ s. absurd (some-none s) }
+
+  pub first-within : {o : Option ℕ} → FirstAt x doc at o → {i : ℕ} → o ≡ Some i → (at ≤ i) × (i < length doc)
+  first-within f s = let g = f.is s in (omega (arith, g.0), g.1)
+
+pub first-rest : (x : ℕ) (doc : List ℕ) (at i : ℕ) → Scanning (until (is x)) doc at i → {r : ℕ} → r ≡ scan (until (is x)) doc i → r ≡ scan (until (is x)) doc at
+first-rest x doc at i inv e = e ∙ inv.rest
+
+module _ {needle doc : List ℕ} {from : ℕ} where
+  ends-some : {i : ℕ} → FoundAt needle doc from i → i < length doc → EndsAt needle doc from (Some i)
+  ends-some {i} f h =
+      record { is = λ s. let g : (j : ℕ) → i ≡ j → FoundAt needle doc from j × (j < length doc) = λ j e. (rw (← e) f, omega (arith, e)) in g _ (some-same s) }
+
+  pub ends-none : EndsAt needle doc from None
+  ends-none = record { is = λ s. absurd (some-none s) }
+
+  pub ends-within : {o : Option ℕ} → EndsAt needle doc from o → {i : ℕ} → o ≡ Some i → (from ≤ i) × (i < length doc)
+  ends-within f {i} s = let g = f.is s in (found_from needle doc from i (g.0.is g.1), g.1)
+
+  -- the first place by itself
+  pub ends-here : Stands needle doc from true → from < length doc → EndsAt needle doc from (Some from)
+  ends-here t h = ends-some (lacks-here lacks-start t h) h
+
+  pub ends-later : Stands needle doc from false → {o : Option ℕ} → EndsAt needle doc (from + 1) o → EndsAt needle doc from o
+  ends-later t f = record { is = λ s. let g = f.is s in (lacks-found (lacks-one lacks-start t) g.0, g.1) }
+
+-- a comment's end, by its last byte
+module _ {doc : List ℕ} {from : ℕ} (h : from + 3 ≤ length doc) where
+  pub dashes-stand : get_or doc (from + 2) 0 ≡ 62 → {b : Bool} → Stands (45 ∷ 45 ∷ []) doc from b → Stands (ascii "-->") doc from b
+  dashes-stand e {b} s =
+      let t : starts_with (62 ∷ []) (drop (from + 2) doc) ≡ true = byte-stands 62 doc (from + 2) (omega arith) e in
+      record { is = parts (ascii "--") 62 doc from ∙ by-test b (λ y. rw (t, s.is, y)) (λ n. rw (t, s.is, n)) }
+
+  pub dashes-not : (get_or doc (from + 2) 0 ≡ 62 → ⊥) → Stands (ascii "-->") doc from false
+  dashes-not f =
+      let t : starts_with (62 ∷ []) (drop (from + 2) doc) ≡ false =
+      rw (drop-cons doc (from + 2) 0 (omega arith)) (starts-no 62 (get_or doc (from + 2) 0) [] (drop (suc (from + 2)) doc) (ne_eqb (get_or doc (from + 2) 0) 62 f))
+      in
+      record { is = parts (ascii "--") 62 doc from ∙ by-test (starts_with (ascii "--") (drop from doc)) (λ y. rw (y, t)) (λ n. rw n) }
+
+module _ {doc : List ℕ} {from : ℕ} {o : Option ℕ} {due : ℕ} where
+  module _ (f : FirstAt 62 doc (from + 2) o) (s : o ≡ Some due) where
+    pub comment-ends : Stands (45 ∷ 45 ∷ []) doc (due - 2) true → EndsAt (ascii "-->") doc from (Some (due - 2))
+    comment-ends t = let g = f.is s in ends-some (due-here (ascii "--") 62 doc from g.0 g.1 t.is) (omega (arith, g.1))
+
+    pub comment-later : {far : ℕ} → FoundAt (ascii "-->") doc (due - 2) far → far < length doc → EndsAt (ascii "-->") doc from (Some far)
+    comment-later l h = let g = f.is s in ends-some (due-later (ascii "--") 62 doc from g.0 l) h
+
+  module _ (f : FirstAt 62 doc (from + 1) o) (s : o ≡ Some due) where
+    pub instruction-ends : get_or doc (due - 1) 0 ≡ 63 → EndsAt (ascii "?>") doc from (Some (due - 1))
+    instruction-ends t =
+        let g = f.is s in
+        ends-some (due-here (ascii "?") 62 doc from g.0 g.1 (byte-stands 63 doc (due - 1) (omega (arith, g.1)) t)) (omega (arith, g.1))
+
+    pub instruction-later : {far : ℕ} → FoundAt (ascii "?>") doc (due - 1) far → far < length doc → EndsAt (ascii "?>") doc from (Some far)
+    instruction-later l h = let g = f.is s in ends-some (due-later (ascii "?") 62 doc from g.0 l) h
+
+-- what the loop over the first places keeps
+abbrev pub Nearby : (doc : List ℕ) (at stop i : ℕ) → Type 0
+Nearby doc at stop i = Scanning (until (is 62)) doc at i × ((stop - i) % 4 ≡ 0) × (stop + 8 ≤ length doc)
+
 -- ---- the texts, by their numbers
 
 pub short-comment-end : ShortText (ascii "-->") 16777216 4074797
@@ -146,4 +335,4 @@ pub short-declaration-end : ShortText (ascii ">") 256 62
 unfolding word_of
 short-declaration-end = record { few = leb→le 1 8 tt; power = refl; number = refl; bytes = tt }
 
-pub ruleset finding = (lacks-start, lacks-here, lacks-one, lacks-two, lacks-three, lacks-four, lacks-found, occurs-found, nowhere-found, short-stands, scan-found, short-comment-end, short-instruction-end, short-declaration-end, power-some, rules)
+pub ruleset finding = (ends-here, ends-later, dashes-stand, dashes-not, comment-begins, scan-start, byte-on, byte-stop, first-some, first-none, first-rest, ends-none, lacks-start, lacks-here, comment-ends, comment-later, instruction-ends, instruction-later, pair-yes, pair-no, lacks-one, lacks-two, lacks-three, lacks-four, lacks-found, occurs-found, nowhere-found, short-stands, scan-found, short-comment-end, short-instruction-end, short-declaration-end, power-some, rules)

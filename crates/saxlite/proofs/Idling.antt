@@ -1,5 +1,5 @@
 -- Laws of passing what changes nothing: each premise is what a call or a test says.
-use Rattle.std.specs.Prelude.{Some}
+use Rattle.std.specs.Prelude.{Option, Some}
 use mathlib.Core.Path.{◌≡◌, refl, sym, ap, ap₂, ◌∙◌}
 use mathlib.Core.Bool.{Bool, true, false}
 use mathlib.Core.List.{List, [], ◌∷◌, ◌++◌}
@@ -21,31 +21,16 @@ use Rattle.words.specs.Standing.{ShortText, StandsShort}
 use Rattle.refusals.specs.declared.Refusal.TheVariants.{OpenComment, OpenInstruction, OpenDeclaration}
 use Rattle.tags.specs.Find.{find_from}
 use Rattle.tags.specs.Names.{prefix_length}
-use Rattle.tags.proofs.Searching.{stands-within, scan-within, find-here}
+use Rattle.tags.proofs.Searching.{stands-within, scan-within}
 use Rattle.saxlite.specs.declared.step.Step.{Step}
 use Rattle.saxlite.specs.declared.step.Step.TheVariants.{Close, Skipped}
 use Rattle.saxlite.specs.Step.{step_at, markup_at}
-use Rattle.saxlite.specs.Passing.{Idles, text, skipped, nameless, Idle, stay, on, FoundAt, PastEnd}
+use Rattle.saxlite.specs.Passing.{Idles, text, skipped, nameless, Idle, stay, on, Stands, FirstAt, EndsAt}
 use Rattle.saxlite.proofs.Stepping.{past-found, close-ends, markup-comment, markup-instruction, markup-declaration, markup-close, step-markup, step-text}
+use Rattle.saxlite.proofs.Finding.{scan-found}
 use Rattle.saxlite.proofs.Moving.{text-within, close-within, skipped-within}
 
 -- ---- the texts, by their numbers
-
-short-comment : ShortText (ascii "<!--") 4294967296 757932348
-unfolding word_of
-short-comment = record { few = leb→le 4 8 tt; power = refl; number = refl; bytes = tt }
-
-short-empty : ShortText (ascii "<!---->") 72057594037927936 17501120610771260
-unfolding word_of
-short-empty = record { few = leb→le 7 8 tt; power = refl; number = refl; bytes = tt }
-
-short-declaration : ShortText (ascii "<!") 65536 8508
-unfolding word_of
-short-declaration = record { few = leb→le 2 8 tt; power = refl; number = refl; bytes = tt }
-
-short-instruction : ShortText (ascii "<?") 65536 16188
-unfolding word_of
-short-instruction = record { few = leb→le 2 8 tt; power = refl; number = refl; bytes = tt }
 
 short-close : ShortText (ascii "</>") 16777216 4075324
 unfolding word_of
@@ -158,7 +143,7 @@ module _ {doc : List ℕ} {collecting outside : Bool} where
   idle-one : {i j : ℕ} → Idles doc collecting outside i j → Idle doc collecting outside i j
   idle-one s = on s stay
 
-  pub idle-less : {i j : ℕ} → Idle doc collecting outside i j → (j ≡ i → ⊥) → {last : ℕ} → i ≤ last → last + 8 ≡ length doc → length doc - j < length doc - i
+  pub idle-less : {i j : ℕ} → Idle doc collecting outside i j → (j ≡ i → ⊥) → {last : ℕ} → i ≤ last → last + 32 ≡ length doc → length doc - j < length doc - i
   idle-less p n h l = omega (arith, idle-ahead p)
 
 -- what is passed where text is collected, or inside of an element, is passed elsewhere
@@ -187,34 +172,26 @@ text-idle doc {collecting} at c {r} e =
 pub text-within-end : (doc : List ℕ) (at : ℕ) → at < length doc → {r : ℕ} → r ≡ scan (until (is 60)) doc at → r ≤ length doc
 text-within-end doc at h e = rw e (scan-within (until (is 60)) doc at (omega arith))
 
--- markup: each b is what a comparison by words says
-module _ {doc : List ℕ} {at : ℕ} {outside : Bool} where
-  -- r is past what ends at `end`, or the place itself
-  skip-past : (n end r : ℕ) → (end < length doc → step_at doc at ≡ Skipped (end + n)) → PastEnd doc at end n r → Idle doc true outside at r
-  skip-past n end r f p =
-      by-test (ltb end (length doc))
-      (λ t. let h = ltb-true end (length doc) t in rw (p.past h) (idle-one (skipped (f h))))
-      (λ g. rw (p.stays (ltb-false end (length doc) g)) stay)
+-- a comment is told by two pairs of bytes
+pub pairs-stand : {doc : List ℕ} {at : ℕ} → Stands (ascii "<!") doc at true → {b : Bool} → Stands (ascii "--") doc (at + 2) b → Stands (ascii "<!--") doc at b
+pairs-stand {doc} {at} p q =
+    record { is = starts-append (ascii "<!") (ascii "--") (drop at doc) ∙ rw p.is (ap (starts_with (ascii "--")) (drop-drop 2 at doc) ∙ q.is) }
 
-  module _ {b₁ : Bool} (s₁ : StandsShort doc at 4294967296 757932348 b₁) where
-    pub comment-past : b₁ ≡ true → {end r : ℕ} → FoundAt (ascii "-->") doc (at + 4) end → PastEnd doc at end 3 r → Idle doc true outside at r
-    comment-past t {end} {r} f p = skip-past 3 end r (λ h. comment-is doc at (sym (s₁.is (ascii "<!--") short-comment) ∙ t) (f.is h)) p
+pub pairs-not : {doc : List ℕ} {at : ℕ} → Stands (ascii "<!") doc at false → Stands (ascii "<!--") doc at false
+pairs-not {doc} {at} p = record { is = starts-append (ascii "<!") (ascii "--") (drop at doc) ∙ rw p.is refl }
 
-    pub declaration-past : b₁ ≡ false → {b : Bool} → StandsShort doc at 65536 8508 b → b ≡ true → {end r : ℕ} → FoundAt (ascii ">") doc (at + 2) end → PastEnd doc at end 1 r → Idle doc true outside at r
-    declaration-past g s t {end} {r} f p =
-        skip-past 1 end r (λ h. declaration-is doc at (sym (s₁.is (ascii "<!--") short-comment) ∙ g) (sym (s.is (ascii "<!") short-declaration) ∙ t) (f.is h)) p
+-- markup whose step leads past what ends it; each b is what a comparison says
+module _ {doc : List ℕ} {at : ℕ} {o : Option ℕ} {end : ℕ} {outside : Bool} where
+  pub comment-past : Stands (ascii "<!--") doc at true → EndsAt (ascii "-->") doc (at + 4) o → o ≡ Some end → Idle doc true outside at (end + 3)
+  comment-past t f s = let g = f.is s in idle-one (skipped (comment-is doc at t.is (g.0.is g.1)))
 
-  pub instruction-past : {b : Bool} → StandsShort doc at 65536 16188 b → b ≡ true → {end r : ℕ} → FoundAt (ascii "?>") doc (at + 2) end → PastEnd doc at end 2 r → Idle doc true outside at r
-  instruction-past s t {end} {r} f p = skip-past 2 end r (λ h. instruction-is doc at (sym (s.is (ascii "<?") short-instruction) ∙ t) (f.is h)) p
+  pub declaration-past : Stands (ascii "<!") doc at true → Stands (ascii "--") doc (at + 2) false → FirstAt 62 doc (at + 2) o → o ≡ Some end → Idle doc true outside at (end + 1)
+  declaration-past t n f s = let g = f.is s in idle-one (skipped (declaration-is doc at ((pairs-stand t n).is) t.is ((scan-found 62 doc (at + 2) g.0).is g.1)))
 
-  pub empty-past : {b : Bool} → StandsShort doc at 72057594037927936 17501120610771260 b → b ≡ true → Idle doc true outside at (at + 7)
-  empty-past s t =
-      let v : starts_with (ascii "<!---->") (drop at doc) ≡ true = sym (s.is (ascii "<!---->") short-empty) ∙ t in
-      let w : starts_with (ascii "-->") (drop (at + 4) doc) ≡ true = ap (starts_with (ascii "-->")) (sym (drop-drop 4 at doc)) ∙ rest-stands (ascii "<!--") (ascii "-->") (drop at doc) v in
-      let z : at + 4 + 3 ≡ at + 7 = omega arith in
-      idle-one (skipped (comment-is doc at (front-stands (ascii "<!--") (ascii "-->") (drop at doc) v) (find-here (ascii "-->") (drop (at + 4) doc) (at + 4) w) ∙ ap Skipped z))
+  pub instruction-past : Stands (ascii "<?") doc at true → EndsAt (ascii "?>") doc (at + 2) o → o ≡ Some end → Idle doc true outside at (end + 2)
+  instruction-past t f s = let g = f.is s in idle-one (skipped (instruction-is doc at t.is (g.0.is g.1)))
 
-  pub close-past : {b : Bool} → StandsShort doc at 16777216 4075324 b → b ≡ true → outside ≡ true → Idle doc true outside at (at + 3)
-  close-past s t o = idle-one (nameless o (close-is doc at (sym (s.is (ascii "</>") short-close) ∙ t)))
+pub close-past : {doc : List ℕ} {at : ℕ} {outside b : Bool} → StandsShort doc at 16777216 4075324 b → b ≡ true → outside ≡ true → Idle doc true outside at (at + 3)
+close-past {doc} {at} s t o = idle-one (nameless o (close-is doc at (sym (s.is (ascii "</>") short-close) ∙ t)))
 
-pub ruleset passing = (idle-stay, idle_then, idle-less, idle-collected, idle-inside, text-idle, text-within-end, comment-past, declaration-past, instruction-past, empty-past, close-past, rules)
+pub ruleset passing = (idle-stay, idle_then, idle-less, idle-collected, idle-inside, text-idle, text-within-end, pairs-stand, pairs-not, comment-past, declaration-past, instruction-past, close-past, rules)

@@ -1,7 +1,7 @@
 -- Laws of the reader: what its own proofs cite, and what the crates above need.
 mod Stepping
 pub mod Moving
-mod Reading
+pub mod Reading
 mod Noting
 mod Tagged
 mod Finding

@@ -1,6 +1,7 @@
 -- What is passed because it changes nothing. Internal.
-use Rattle.std.specs.Prelude.{◌≡◌, Bool, true, false, List, ℕ, ◌+◌, ◌≤◌, ◌<◌, length, drop, Some, None}
+use Rattle.std.specs.Prelude.{◌≡◌, Bool, true, false, List, ℕ, ◌+◌, ◌≤◌, ◌<◌, length, drop, Option, Some, None}
 use Rattle.texts.specs.Text.{starts_with}
+use Rattle.texts.specs.Scan.{scan, until, is as byte_is}
 use Rattle.refusals.specs.declared.Refusal.{Refusal}
 use Rattle.tags.specs.Find.{find_from}
 use Rattle.saxlite.specs.declared.step.Step.{Step}
@@ -28,10 +29,13 @@ pub record FoundAt (needle doc : List ℕ) (from r : ℕ) : Type 0 where
   pub is : r < length doc → find_from needle doc from ≡ Some r
   pub none : length doc ≤ r → find_from needle doc from ≡ None
 
--- r is n bytes past the end of what stands at a place, or the place, where that does not end within the document
-pub record PastEnd (doc : List ℕ) (at end n r : ℕ) : Type 0 where
-  pub past : end < length doc → r ≡ end + n
-  pub stays : length doc ≤ end → r ≡ at
+-- where something is told, it is the first x from one place on
+pub record FirstAt (x : ℕ) (doc : List ℕ) (at : ℕ) (o : Option ℕ) : Type 0 where
+  pub is : {i : ℕ} → o ≡ Some i → (i ≡ scan (until (byte_is x)) doc at) × (i < length doc)
+
+-- where something is told, it is the first place from one on where the needle stands
+pub record EndsAt (needle doc : List ℕ) (from : ℕ) (o : Option ℕ) : Type 0 where
+  pub is : {i : ℕ} → o ≡ Some i → FoundAt needle doc from i × (i < length doc)
 
 -- the step past the n bytes at `end`, or a refusal, where what is open does not end within the document
 pub record StepPast (doc : List ℕ) (end n : ℕ) (refusal : Refusal) (r : Step) : Type 0 where

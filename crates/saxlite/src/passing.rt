@@ -6,13 +6,13 @@
 // of what is passed asks for one alone.
 #![tactic(auto, using(crate::proofs::Finding::finding, crate::proofs::Idling::passing))]
 
-ghost use Rattle.std.specs.Prelude.{true, false, List, ℕ, ◌+◌, ◌≤◌, ◌<◌, length};
+ghost use Rattle.std.specs.Prelude.{◌≡◌, true, false, List, [], ◌∷◌, ℕ, ◌+◌, ◌%◌, ◌≤◌, ◌<◌, length};
 ghost use Rattle.texts.specs.Text.{ascii};
 ghost use Rattle.words.specs.Standing.{ShortText};
-ghost use Rattle.saxlite.specs.Passing.{Idle, Stands, FoundAt, PastEnd};
+ghost use Rattle.saxlite.specs.Passing.{Idle, Stands, FoundAt, FirstAt, EndsAt};
 
 use tags::scan::{byte_from, find};
-use words::{stands_short, text_from};
+use words::{half_at, stands_short, text_from};
 
 // Where `needle` first stands from `from` on, or the document's length.
 fn found(doc: &[u8], from: usize, needle: &[u8]) -> usize
@@ -43,6 +43,18 @@ fn found_far<const N: usize>(
         }
     }
     found(doc, near, needle)
+}
+
+// Whether these two bytes stand at `i`. Each is compared by itself: at a comparison of both with one number, which has an
+// operand of two bytes, the processor's decoder waits.
+fn pair_stands(doc: &[u8], i: usize, first: u8, second: u8) -> bool
+    requires { i + 2 ≤ length doc.now }
+    ensures { Stands (first ∷ second ∷ []) doc.now i result }
+{
+    if doc[i] == first {
+        return doc[i + 1] == second;
+    }
+    false
 }
 
 // What ends markup that is passed over.
@@ -79,7 +91,7 @@ impl MarkupEnd for InstructionEnd {
     ghost needle = { ascii "?>" };
 
     fn stands(doc: &[u8], i: usize) -> bool {
-        stands_short(doc, i, 0x1_0000, 0x3e3f)
+        pair_stands(doc, i, b'?', b'>')
     }
 
     fn far(doc: &[u8], from: usize) -> usize {
@@ -101,9 +113,8 @@ impl MarkupEnd for DeclarationEnd {
     }
 }
 
-// Where the markup that is open at `from` ends: the first sixteen places one by one, as comments are often short, and then by
-// words. A search by words, whose answers wait for each other, costs as much as a dozen places one by one, which the processor
-// predicts. The reader, which meets one only where the loop below has not passed it, asks by words at once.
+// Where the markup that is open at `from` ends: the first sixteen places one by one, and then by words. The reader, which meets
+// such markup only where the loops below have not passed it, asks by words at once.
 fn markup_end<E: MarkupEnd>(doc: &[u8], from: usize) -> usize
     requires { from ≤ length doc.now }
     ensures { FoundAt E.needle doc.now from result }
@@ -132,31 +143,195 @@ fn markup_end<E: MarkupEnd>(doc: &[u8], from: usize) -> usize
     E::far(doc, i)
 }
 
-// Past the `n` bytes at `end`, or at `at`, where nothing ends.
-fn past_end(doc: &[u8], at: usize, end: usize, n: usize) -> usize
-    requires { n ≤ 8 }
-    ensures { PastEnd doc.now at end n result }
+// Where the first '>' from `at` on stands, with which all such markup ends: `N` places one by one, which the processor predicts,
+// and then by words, whose answers wait for each other.
+#[inline(always)]
+fn bracket_from<const N: usize>(doc: &[u8], at: usize) -> Option<usize>
+    requires { (N % 4 ≡ 0) × (at + N + 8 ≤ length doc.now) }
+    ensures { FirstAt 62 doc.now at result }
 {
-    if end < doc.len() { end + n } else { at }
+    let stop = at + N;
+    let mut i = at;
+    // kept: a `while`, since its steps are of four places.
+    while i < stop {
+        if doc[i] == b'>' {
+            return Some(i);
+        }
+        if doc[i + 1] == b'>' {
+            return Some(i + 1);
+        }
+        if doc[i + 2] == b'>' {
+            return Some(i + 2);
+        }
+        if doc[i + 3] == b'>' {
+            return Some(i + 3);
+        }
+        i += 4;
+    }
+    let far = byte_from(doc, i, b'>');
+    if far < doc.len() { Some(far) } else { None }
 }
 
-// Past the markup at `at`, where it changes nothing. An empty comment is told by one comparison.
+// The same for instructions: their first eight places with no loop, as the compiler lays these out, take a fifth less.
+#[inline(always)]
+fn bracket_near(doc: &[u8], at: usize) -> Option<usize>
+    requires { at + 16 ≤ length doc.now }
+    ensures { FirstAt 62 doc.now at result }
+{
+    for k in 0..8 {
+        if doc[at + k] == b'>' {
+            return Some(at + k);
+        }
+    }
+    let far = byte_from(doc, at + 8, b'>');
+    if far < doc.len() { Some(far) } else { None }
+}
+
+// Whether a comment that is open at `from` is empty, by its '>' first.
+fn comment_is_empty(doc: &[u8], from: usize) -> bool
+    requires { from + 3 ≤ length doc.now }
+    ensures { Stands (ascii "-->") doc.now from result }
+{
+    if doc[from + 2] == b'>' {
+        return pair_stands(doc, from, b'-', b'-');
+    }
+    false
+}
+
+// Where what ends a comment first stands from `from` on: at the first '>', if two '-' stand before it.
+#[inline(always)]
+fn dashes_from(doc: &[u8], from: usize) -> Option<usize>
+    requires { from + 20 ≤ length doc.now }
+    ensures { EndsAt (ascii "-->") doc.now from result }
+{
+    match bracket_from::<8>(doc, from + 2) {
+        Some(due) => {
+            let end = due - 2;
+            if pair_stands(doc, end, b'-', b'-') {
+                return Some(end);
+            }
+            let far = markup_end::<CommentEnd>(doc, end);
+            if far < doc.len() { Some(far) } else { None }
+        }
+        None => None,
+    }
+}
+
+// Where the comment that is open at `from` ends.
+#[inline(always)]
+fn comment_end(doc: &[u8], from: usize) -> Option<usize>
+    requires { from + 28 ≤ length doc.now }
+    ensures { EndsAt (ascii "-->") doc.now from result }
+{
+    if comment_is_empty(doc, from) {
+        return Some(from);
+    }
+    dashes_from(doc, from + 1)
+}
+
+// Where the instruction that is open at `from` ends: at the first '>', if a '?' stands before it.
+#[inline(always)]
+fn instruction_end(doc: &[u8], from: usize) -> Option<usize>
+    requires { from + 28 ≤ length doc.now }
+    ensures { EndsAt (ascii "?>") doc.now from result }
+{
+    match bracket_near(doc, from + 1) {
+        Some(due) => {
+            let end = due - 1;
+            if doc[end] == b'?' {
+                return Some(end);
+            }
+            let far = markup_end::<InstructionEnd>(doc, end);
+            if far < doc.len() { Some(far) } else { None }
+        }
+        None => None,
+    }
+}
+
+// Whether a comment begins at `i`. By half a word: from a whole one the compiler would take the bytes that are compared next.
+fn comment_begins(doc: &[u8], i: usize) -> bool
+    requires { i + 4 ≤ length doc.now }
+    ensures { Stands (ascii "<!--") doc.now i result }
+{
+    half_at(doc, i) == 0x2d2d_213c
+}
+
+// Past the comments at `at`, one behind the other.
+fn past_comments(doc: &[u8], at: usize) -> usize
+    requires { at + 32 ≤ length doc.now }
+    ensures { Idle doc.now true false at result }
+{
+    let last = doc.len() - 32;
+    let mut i = at;
+    // kept: a `while`, since its steps are comments.
+    while i <= last {
+        if !comment_begins(doc, i) {
+            return i;
+        }
+        match comment_end(doc, i + 4) {
+            Some(end) => i = end + 3,
+            None => return i,
+        }
+    }
+    i
+}
+
+// Past the instructions at `at`, one behind the other.
+fn past_instructions(doc: &[u8], at: usize) -> usize
+    requires { at + 32 ≤ length doc.now }
+    ensures { Idle doc.now true false at result }
+{
+    let last = doc.len() - 32;
+    let mut i = at;
+    // kept: a `while`, since its steps are instructions.
+    while i <= last {
+        if !pair_stands(doc, i, b'<', b'?') {
+            return i;
+        }
+        match instruction_end(doc, i + 2) {
+            Some(end) => i = end + 2,
+            None => return i,
+        }
+    }
+    i
+}
+
+// Past the declarations at `at`, one behind the other.
+fn past_declarations(doc: &[u8], at: usize) -> usize
+    requires { at + 32 ≤ length doc.now }
+    ensures { Idle doc.now true false at result }
+{
+    let last = doc.len() - 32;
+    let mut i = at;
+    // kept: a `while`, since its steps are declarations.
+    while i <= last {
+        if !pair_stands(doc, i, b'<', b'!') {
+            return i;
+        }
+        if pair_stands(doc, i + 2, b'-', b'-') {
+            return i;
+        }
+        match bracket_from::<16>(doc, i + 2) {
+            Some(end) => i = end + 1,
+            None => return i,
+        }
+    }
+    i
+}
+
+// Past the markup at `at`, where it changes nothing.
 fn past_markup(doc: &[u8], at: usize, outside: bool) -> usize
-    requires { at + 8 ≤ length doc.now }
+    requires { at + 32 ≤ length doc.now }
     ensures { Idle doc.now true outside at result }
 {
-    if stands_short(doc, at, 0x1_0000_0000, 0x2d2d_213c) {
-        if stands_short(doc, at, 0x100_0000_0000_0000, 0x3e_2d2d_2d2d_213c) {
-            return at + 7;
+    if doc[at + 1] == b'!' {
+        if comment_begins(doc, at) {
+            return past_comments(doc, at);
         }
-        let from = at + 4;
-        return past_end(doc, at, markup_end::<CommentEnd>(doc, from), 3);
+        return past_declarations(doc, at);
     }
-    if stands_short(doc, at, 0x1_0000, 0x213c) {
-        return past_end(doc, at, markup_end::<DeclarationEnd>(doc, at + 2), 1);
-    }
-    if stands_short(doc, at, 0x1_0000, 0x3f3c) {
-        return past_end(doc, at, markup_end::<InstructionEnd>(doc, at + 2), 2);
+    if doc[at + 1] == b'?' {
+        return past_instructions(doc, at);
     }
     if outside {
         if stands_short(doc, at, 0x100_0000, 0x3e_2f3c) {
@@ -178,7 +353,7 @@ fn past_text(doc: &[u8], at: usize, collecting: bool) -> usize
 
 // Past what stands at `at`. A tag that opens is told by its first letter, which is none of those that begin other markup.
 fn past_one(doc: &[u8], at: usize, collecting: bool, outside: bool) -> usize
-    requires { at + 8 ≤ length doc.now }
+    requires { at + 32 ≤ length doc.now }
     ensures { Idle doc.now collecting outside at result }
 {
     if doc[at] == b'<' {
@@ -190,14 +365,14 @@ fn past_one(doc: &[u8], at: usize, collecting: bool, outside: bool) -> usize
     past_text(doc, at, collecting)
 }
 
-// From `at` on past all that changes nothing, but for what begins in the last seven bytes.
+// From `at` on past all that changes nothing, but for markup in the last 31 bytes.
 pub fn past_idle(doc: &[u8], at: usize, collecting: bool, outside: bool) -> usize
     ensures { Idle doc.now collecting outside at result }
 {
-    if doc.len() < 8 {
+    if doc.len() < 32 {
         return past_text(doc, at, collecting);
     }
-    let last = doc.len() - 8;
+    let last = doc.len() - 32;
     let mut i = at;
     // kept: a `while`, since its steps are pieces of markup and text.
     while i <= last {

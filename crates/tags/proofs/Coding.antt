@@ -1,7 +1,7 @@
 -- Laws of the numbers of names: which of them matter in a tag, and what is noted of an attribute by its number.
 use Rattle.tags.specs.declared.tag.Ending.{Ending}
 use Rattle.texts.specs.declared.Range.{Range}
-use Rattle.std.specs.Prelude.{Some, Option, Result, Ok, Err}
+use Rattle.std.specs.Prelude.{Some, None, Option, Result, Ok, Err}
 use mathlib.Core.Path.{◌≡◌, refl, sym, ap, ◌∙◌}
 use mathlib.Core.Bool.{Bool, true, false, not}
 use mathlib.Core.List.{List, [], ◌∷◌}
@@ -10,7 +10,7 @@ use native.Mathlib.Nat.{zero-add}
 use native.Mathlib.Omega.{arith}
 use lib.Dec.{T, eqb, leb, leb→le}
 use lib.ListN.{length}
-use borrow.Author.Tests.{ne_eqb, le-ltb}
+use borrow.Author.Tests.{eq-eqb, ne_eqb, le-ltb}
 use Rattle.texts.specs.Choice.{pick}
 use Rattle.texts.specs.Lists.{all}
 use Rattle.texts.specs.Text.{ascii, piece, same}
@@ -29,7 +29,7 @@ use Rattle.tags.specs.declared.tag.TagKind.TheVariants.{Schema, «Type», Enum, 
 use Rattle.tags.specs.Names.{prefix_length, local_name, is_xmlns}
 use Rattle.tags.specs.Attributes.{tag_part_at, tag_at, later, attribute_at}
 use Rattle.tags.specs.Noting.{Keys, no_notes, found_at, value_if_named, keys_of, NotedWith, NotedBy}
-use Rattle.tags.specs.Known.{known_name, keys_by, codes, CodesOf, QuickAt, NamedAs, NotedMore}
+use Rattle.tags.specs.Known.{known_name, keys_by, codes, CodesOf, Apart, QuickAt, NamedAs, Declares, NotedMore}
 use Rattle.tags.proofs.Tagging.{Going, part-less, part-value, going_on, going_end, going-bad}
 use Rattle.tags.proofs.Looking.{found-value, Looking, looking-start, looking-on, looking-end, looking-bad}
 use Rattle.tags.proofs.Knowing.{up-each, goes, plain_name, known-plain, goes-all, goes_other}
@@ -125,6 +125,44 @@ module _ (code : ℕ) (h : 0 < code) (l : code < 18) (value len : ℕ) (was : No
         third = known-noted code h l value len k.third cs.third was.third was.len3 t.third e₃ y₃ z₃;
         fourth = known-noted code h l value len k.fourth cs.fourth was.fourth was.len4 t.fourth e₄ y₄ z₄;
       }
+
+-- ---- each name on its own
+
+module _ (code : ℕ) (h : 0 < code) (l : code < 18) (value len : ℕ) (was : Notes) (cs : Codes) (a : Apart cs) (k : Keys) (t : CodesOf k cs) where
+  -- what a comparison with another number says, where one has said yes
+  other : (c d : ℕ) → code ≡ c → eqb c d ≡ false → false ≡ eqb code d
+  other c d e f = sym (ap (λ x. eqb x d) e ∙ f)
+
+  earlier : (c d : ℕ) → code ≡ d → eqb c d ≡ false → false ≡ eqb code c
+  earlier c d e f = sym (ne_eqb code c (λ z. let q : eqb c d ≡ true = eq-eqb c d (sym z ∙ e) in let w : ◌≡◌ {A = ℕ} 0 1 = cc in omega arith))
+
+  pub known-first : code ≡ cs.first → NotedMore (known_name code) value len k was (record { first = value + 1; len1 = len; second = was.second; len2 = was.len2; third = was.third; len3 = was.len3; fourth = was.fourth; len4 = was.len4 })
+  known-first e = known_more code h l value len was cs (sym (eq-eqb code cs.first e)) (other _ _ e a.first-second) (other _ _ e a.first-third) (other _ _ e a.first-fourth) refl refl refl refl refl refl refl refl k t
+
+  pub known-second : code ≡ cs.second → NotedMore (known_name code) value len k was (record { first = was.first; len1 = was.len1; second = value + 1; len2 = len; third = was.third; len3 = was.len3; fourth = was.fourth; len4 = was.len4 })
+  known-second e = known_more code h l value len was cs (earlier _ _ e a.first-second) (sym (eq-eqb code cs.second e)) (other _ _ e a.second-third) (other _ _ e a.second-fourth) refl refl refl refl refl refl refl refl k t
+
+  pub known-third : code ≡ cs.third → NotedMore (known_name code) value len k was (record { first = was.first; len1 = was.len1; second = was.second; len2 = was.len2; third = value + 1; len3 = len; fourth = was.fourth; len4 = was.len4 })
+  known-third e = known_more code h l value len was cs (earlier _ _ e a.first-third) (earlier _ _ e a.second-third) (sym (eq-eqb code cs.third e)) (other _ _ e (a.third-fourth (omega arith))) refl refl refl refl refl refl refl refl k t
+
+  pub known-fourth : code ≡ cs.fourth → (code ≡ cs.third → ⊥) → NotedMore (known_name code) value len k was (record { first = was.first; len1 = was.len1; second = was.second; len2 = was.len2; third = was.third; len3 = was.len3; fourth = value + 1; len4 = len })
+  known-fourth e n = known_more code h l value len was cs (earlier _ _ e a.first-fourth) (earlier _ _ e a.second-fourth) (sym (ne_eqb code cs.third n)) (sym (eq-eqb code cs.fourth e)) refl refl refl refl refl refl refl refl k t
+
+  pub known-nowhere : (code ≡ cs.first → ⊥) → (code ≡ cs.second → ⊥) → (code ≡ cs.third → ⊥) → (code ≡ cs.fourth → ⊥) → NotedMore (known_name code) value len k was was
+  known-nowhere n o p q = known_more code h l value len was cs (sym (ne_eqb code cs.first n)) (sym (ne_eqb code cs.second o)) (sym (ne_eqb code cs.third p)) (sym (ne_eqb code cs.fourth q)) refl refl refl refl refl refl refl refl k t
+
+-- the numbers of a kind's names are apart
+pub apart-schema : Apart (record { first = 2; second = 8; third = 9; fourth = 0 })
+apart-schema = record { first-second = refl; first-third = refl; first-fourth = refl; second-third = refl; second-fourth = refl; third-fourth = λ h. refl }
+
+pub apart-type : Apart (record { first = 4; second = 1; third = 5; fourth = 7 })
+apart-type = record { first-second = refl; first-third = refl; first-fourth = refl; second-third = refl; second-fourth = refl; third-fourth = λ h. refl }
+
+pub apart-enum : Apart (record { first = 1; second = 6; third = 0; fourth = 0 })
+apart-enum = record { first-second = refl; first-third = refl; first-fourth = refl; second-third = refl; second-fourth = refl; third-fourth = λ h. absurd (omega arith) }
+
+pub apart-other : Apart (record { first = 2; second = 1; third = 3; fourth = 0 })
+apart-other = record { first-second = refl; first-third = refl; first-fourth = refl; second-third = refl; second-fourth = refl; third-fourth = λ h. refl }
 
 -- a name that matters in no tag changes nothing
 pub known_past : (code : ℕ) → 9 < code → code < 18 → (value len : ℕ) (was : Notes) (cs : Codes) (k : Keys) → CodesOf k cs → NotedMore (known_name code) value len k was was
@@ -231,6 +269,20 @@ module _ {doc : List ℕ} {at : ℕ} {name : List ℕ} {i : ℕ} {found : Option
 
   pub looked-bad : {refusal : Refusal} → p ≡ Err refusal → r ≡ attribute_at doc at name
   looked-bad h = s ∙ looking-bad inv place e h
+
+-- whether an attribute declares a namespace
+module _ {doc : List ℕ} {name n : ℕ} {code : Option ℕ} where
+  pub declares-known : {k : ℕ} → code ≡ Some k → Declares doc name n code false
+  declares-known e = record { yes = λ h. absurd (let z : ◌≡◌ {A = ℕ} 0 1 = cc in omega arith); no = λ h f. absurd (let z : ◌≡◌ {A = ℕ} 0 1 = cc in omega arith) }
+
+  pub declares-told : {b : Bool} → b ≡ is_xmlns (piece doc name n) → Declares doc name n code b
+  declares-told e = record { yes = λ h. sym e ∙ h; no = λ h f. sym e ∙ h }
+
+  pub declares-none : {b : Bool} → Declares doc name n code b → b ≡ false → code ≡ None → is_xmlns (piece doc name n) ≡ false
+  declares-none d f e = d.no f e
+
+  pub declares-not : {b : Bool} → Declares doc name n code b → b ≡ false → Declares doc name n code false
+  declares-not d f = rw f at d
 
 -- the names that matter by another name
 pub by-keys : (doc : List ℕ) (at : ℕ) {noted : Notes} {k j : Keys} → k ≡ j → NotedBy k doc at noted → NotedBy j doc at noted

@@ -12,6 +12,7 @@ mod Knowing
 mod Telling
 pub mod Coding
 mod Declaring
+mod Dropping
 pub mod Begun
 mod Laws
 mod Trials

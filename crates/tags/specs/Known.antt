@@ -12,6 +12,7 @@ use Rattle.tags.specs.declared.tag.Quick.{Quick}
 use Rattle.tags.specs.declared.tag.TagKind.{TagKind}
 use Rattle.tags.specs.declared.tag.TagKind.TheVariants.{Schema, «Type», Enum, Other}
 use Rattle.tags.specs.declared.tag.Notes.{Notes}
+use Rattle.tags.specs.Names.{is_xmlns}
 use Rattle.tags.specs.Attributes.{tag_part_at, later}
 use Rattle.tags.specs.Noting.{Keys, schema_keys, type_keys, enum_keys, field_keys, found_at, value_if_named}
 
@@ -87,6 +88,15 @@ pub record CodesOf (k : Keys) (c : Codes) : Type 0 where
   pub third : T (codes k.third c.third)
   pub fourth : T (codes k.fourth c.fourth)
 
+-- an attribute has the number of one of them at most
+pub record Apart (c : Codes) : Type 0 where
+  pub first-second : eqb c.first c.second ≡ false
+  pub first-third : eqb c.first c.third ≡ false
+  pub first-fourth : eqb c.first c.fourth ≡ false
+  pub second-third : eqb c.second c.third ≡ false
+  pub second-fourth : eqb c.second c.fourth ≡ false
+  pub third-fourth : 0 < c.third → eqb c.third c.fourth ≡ false
+
 -- ---- a part of a tag
 
 -- the attribute has the name of that number
@@ -102,6 +112,11 @@ pub record QuickAt (doc : List ℕ) (at place : ℕ) (r : Quick) : Type 0 where
 -- a raw name is that of the number, if there is one
 pub record NamedAs (doc : List ℕ) (name n : ℕ) (code : Option ℕ) : Type 0 where
   pub named : (k : ℕ) → code ≡ Some k → (0 < k) × (k < 18) × (piece doc name n ≡ known_name k)
+
+-- r is whether an attribute of that raw name and number declares a namespace; none of a known name does
+pub record Declares (doc : List ℕ) (name n : ℕ) (code : Option ℕ) (r : Bool) : Type 0 where
+  pub yes : r ≡ true → is_xmlns (piece doc name n) ≡ true
+  pub no : r ≡ false → code ≡ None → is_xmlns (piece doc name n) ≡ false
 
 -- what is noted under the four names after one more attribute with that raw name
 pub record NotedMore (raw : List ℕ) (value len : ℕ) (k : Keys) (was r : Notes) : Type 0 where

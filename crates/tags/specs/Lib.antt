@@ -5,3 +5,4 @@ pub mod Attributes
 pub mod Noting
 pub mod Known
 pub mod Beginning
+pub mod Dropping

@@ -6,7 +6,7 @@
 #![tactic(auto, using(crate::proofs::Laws::telling))]
 
 ghost use Rattle.std.specs.Prelude.{◌≡◌, ◌+◌, ◌≤◌, length};
-ghost use Rattle.tags.specs.Known.{KnownAt, keys_by, CodesOf, ToldShort, ToldLong, ToldText};
+ghost use Rattle.tags.specs.Known.{KnownAt, keys_by, CodesOf, Apart, ToldShort, ToldLong, ToldText};
 
 use crate::tag::TagKind;
 use words::{stands_long, stands_short};
@@ -32,7 +32,8 @@ pub struct Codes {
 }
 
 pub fn codes_of(kind: TagKind) -> Codes
-    ensures { CodesOf (keys_by kind) result }
+    ensures are { CodesOf (keys_by kind) result }
+    ensures apart { Apart result }
 {
     match kind {
         TagKind::Schema => Codes {

@@ -9,7 +9,7 @@ ghost use Rattle.classes.specs.Class.{is_space, is_tag_name_end, is_attribute_na
 ghost use Rattle.tags.specs.Find.{find_from};
 ghost use Rattle.tags.specs.Names.{prefix_length, is_xmlns};
 
-use classes::{is_attribute_name_end, is_name_stop, is_space, is_tag_name_end};
+use classes::{compared, is_attribute_name_end, is_name_stop, is_space, is_tag_name_end};
 use texts::scan::{ByteTest, scan_fours};
 use words::stands_short;
 
@@ -25,6 +25,17 @@ impl ByteTest for Spaces {
 }
 
 #[derive(Clone, Copy)]
+struct FarSpaces;
+
+impl ByteTest for FarSpaces {
+    ghost test = { is_space };
+
+    fn passes(&self, b: u8) -> bool {
+        compared::is_space(b)
+    }
+}
+
+#[derive(Clone, Copy)]
 struct TagNames;
 
 impl ByteTest for TagNames {
@@ -32,6 +43,17 @@ impl ByteTest for TagNames {
 
     fn passes(&self, b: u8) -> bool {
         !is_tag_name_end(b)
+    }
+}
+
+#[derive(Clone, Copy)]
+struct FarTagNames;
+
+impl ByteTest for FarTagNames {
+    ghost test = { until is_tag_name_end };
+
+    fn passes(&self, b: u8) -> bool {
+        !compared::is_tag_name_end(b)
     }
 }
 
@@ -48,6 +70,17 @@ impl ByteTest for NameParts {
 }
 
 #[derive(Clone, Copy)]
+struct FarNameParts;
+
+impl ByteTest for FarNameParts {
+    ghost test = { until is_name_stop };
+
+    fn passes(&self, b: u8) -> bool {
+        !compared::is_name_stop(b)
+    }
+}
+
+#[derive(Clone, Copy)]
 struct AttributeNames;
 
 impl ByteTest for AttributeNames {
@@ -58,7 +91,19 @@ impl ByteTest for AttributeNames {
     }
 }
 
+#[derive(Clone, Copy)]
+struct FarAttributeNames;
+
+impl ByteTest for FarAttributeNames {
+    ghost test = { until is_attribute_name_end };
+
+    fn passes(&self, b: u8) -> bool {
+        !compared::is_attribute_name_end(b)
+    }
+}
+
 // Past the spaces at `at`: where a tag has none, as mostly, one byte tells it, and where it has one, two.
+#[inline(always)]
 pub fn skip_space(doc: &[u8], at: usize) -> usize
     ensures { result ≡ scan is_space doc.now at }
 {
@@ -72,7 +117,7 @@ pub fn skip_space(doc: &[u8], at: usize) -> usize
                 return i;
             }
         }
-        return scan_fours(doc, i, &Spaces);
+        return scan_fours(doc, i, &Spaces, &FarSpaces);
     }
     at
 }
@@ -81,14 +126,14 @@ pub fn skip_space(doc: &[u8], at: usize) -> usize
 pub fn tag_name_end(doc: &[u8], at: usize) -> usize
     ensures { result ≡ scan (until is_tag_name_end) doc.now at }
 {
-    scan_fours(doc, at, &TagNames)
+    scan_fours(doc, at, &TagNames, &FarTagNames)
 }
 
 // Where the raw name at `at` ends or first has a colon.
 fn name_stop(doc: &[u8], at: usize) -> usize
     ensures { result ≡ scan (until is_name_stop) doc.now at }
 {
-    scan_fours(doc, at, &NameParts)
+    scan_fours(doc, at, &NameParts, &FarNameParts)
 }
 
 // A raw name: where it ends, and how many bytes it loses.
@@ -118,19 +163,20 @@ pub fn raw_name(doc: &[u8], at: usize) -> Raw
 // Where the attribute name at `at` ends. "xmlns" is told by a word: with '=' behind it, at once. Each way has a return of its own,
 // so that the processor guesses the way, and waits for no choice between two places.
 #[tactic(auto, using(crate::proofs::Declaring::declaring))]
+#[inline(always)]
 pub fn attribute_name_end(doc: &[u8], at: usize) -> usize
     ensures { result ≡ scan (until is_attribute_name_end) doc.now at }
 {
     if doc.len() < 8 || doc.len() - 8 < at {
-        return scan_fours(doc, at, &AttributeNames);
+        return scan_fours(doc, at, &AttributeNames, &FarAttributeNames);
     }
     if stands_short(doc, at, 0x100_0000_0000, 0x73_6e6c_6d78) {
         if doc[at + 5] == b'=' {
             return at + 5;
         }
-        return scan_fours(doc, at + 5, &AttributeNames);
+        return scan_fours(doc, at + 5, &AttributeNames, &FarAttributeNames);
     }
-    scan_fours(doc, at, &AttributeNames)
+    scan_fours(doc, at, &AttributeNames, &FarAttributeNames)
 }
 
 // Where the first `b` from `at` on stands, or the end.
@@ -177,6 +223,7 @@ pub fn is_xmlns(name: &[u8]) -> bool
 
 // Whether the raw name of `n` bytes at `raw` declares a namespace, by a word where there is room for one.
 #[tactic(auto, using(crate::proofs::Declaring::declaring))]
+#[inline(always)]
 pub fn is_xmlns_at(doc: &[u8], raw: usize, n: usize) -> bool
     ensures { result ≡ is_xmlns (piece doc.now raw n) }
 {

@@ -7,10 +7,12 @@ ghost use Rattle.texts.specs.Text.{piece};
 ghost use Rattle.tags.specs.Names.{is_xmlns};
 ghost use Rattle.tags.specs.Attributes.{quoted_at, value_at, attribute_part_at, tag_part_at, tag_at, attribute_at};
 ghost use Rattle.tags.specs.Noting.{Keys, no_notes, found_at, noted_of, NotedWith, NotedBy, keys_of};
-ghost use Rattle.tags.specs.Known.{known_name, kind_by, keys_by, CodesOf, QuickAt, NamedAs, NotedMore};
+ghost use Rattle.tags.specs.Known.{known_name, kind_by, keys_by, CodesOf, Apart, QuickAt, NamedAs, Declares, NotedMore};
 
-use crate::known::{Codes, codes_of, known_at};
-use crate::scan::{attribute_name_end, byte_from, is_xmlns_at, prefix_len, skip_space};
+use crate::known::{codes_of, known_at};
+use crate::namespaces::past_declarations;
+use crate::noting::{RawAttribute, is_declaration, noted_by, noted_one};
+use crate::scan::{attribute_name_end, byte_from, skip_space};
 use refusals::Refusal;
 use texts::Range;
 
@@ -235,130 +237,6 @@ fn quick_part(doc: &[u8], at: usize, place: usize) -> Quick
     }
 }
 
-// This one where `on` says so, else the earlier one.
-fn latest(on: bool, this: usize, earlier: usize) -> usize
-    ensures { result ≡ pick on this earlier }
-{
-    if on { this } else { earlier }
-}
-
-// What is noted with one more value, under the names that it has: 1 + its place, and its length.
-fn noted_where(is1: bool, is2: bool, is3: bool, is4: bool, value: Range, earlier: Notes) -> Notes
-    requires { value.from < 2 ^ 63 }
-    ensures { (result.first ≡ pick is1 (value.from + 1) earlier.first) × (result.len1 ≡ pick is1 value.len earlier.len1) × (result.second ≡ pick is2 (value.from + 1) earlier.second) × (result.len2 ≡ pick is2 value.len earlier.len2) × (result.third ≡ pick is3 (value.from + 1) earlier.third) × (result.len3 ≡ pick is3 value.len earlier.len3) × (result.fourth ≡ pick is4 (value.from + 1) earlier.fourth) × (result.len4 ≡ pick is4 value.len earlier.len4) }
-{
-    let at = value.from + 1;
-    Notes {
-        first: latest(is1, at, earlier.first),
-        len1: latest(is1, value.len, earlier.len1),
-        second: latest(is2, at, earlier.second),
-        len2: latest(is2, value.len, earlier.len2),
-        third: latest(is3, at, earlier.third),
-        len3: latest(is3, value.len, earlier.len3),
-        fourth: latest(is4, at, earlier.fourth),
-        len4: latest(is4, value.len, earlier.len4),
-    }
-}
-
-// Where an attribute's raw name and its raw value lie.
-#[derive(Clone, Copy)]
-struct RawAttribute {
-    name: Range,
-    value: Range,
-}
-
-// What is noted with one more attribute, which declares no namespace.
-fn noted_with(
-    doc: &[u8],
-    a: RawAttribute,
-    first: &[u8],
-    second: &[u8],
-    third: &[u8],
-    fourth: &[u8],
-    earlier: Notes,
-) -> Notes
-    requires { (a.value.from < length doc.now) × (is_xmlns (piece doc.now a.name.from a.name.len) ≡ false) }
-    ensures { NotedWith (piece doc.now a.name.from a.name.len) a.value.from a.value.len first.now second.now third.now fourth.now earlier result }
-{
-    let whole = texts::part(doc, a.name.from, a.name.len);
-    let lost = prefix_len(whole);
-    let name = texts::part(whole, lost, a.name.len);
-    let is1 = texts::equal(name, first);
-    let is2 = texts::equal(name, second);
-    let is3 = texts::equal(name, third);
-    let is4 = texts::equal(name, fourth);
-    noted_where(is1, is2, is3, is4, a.value, earlier)
-}
-
-// What is noted under one name with one more attribute; one that declares a namespace counts for nothing.
-fn noted_one(doc: &[u8], a: RawAttribute, name: &[u8], earlier: Notes) -> Notes
-    requires { a.value.from < length doc.now }
-    ensures { NotedWith (piece doc.now a.name.from a.name.len) a.value.from a.value.len name.now [] [] [] earlier result }
-{
-    if is_xmlns_at(doc, a.name.from, a.name.len) {
-        return earlier;
-    }
-    noted_with(doc, a, name, b"", b"", b"", earlier)
-}
-
-// What is noted with a known attribute.
-fn noted_known(code: usize, codes: Codes, value: Range, earlier: Notes) -> Notes
-    requires { (0 < code) × (code < 18) × (value.from < 2 ^ 63) }
-    ensures { (k : Keys) → CodesOf k codes → NotedMore (known_name code) value.from value.len k earlier result }
-{
-    // Names that matter in no tag.
-    if 9 < code {
-        return earlier;
-    }
-    let is1 = code == codes.first;
-    let is2 = code == codes.second;
-    let is3 = code == codes.third;
-    let is4 = code == codes.fourth;
-    noted_where(is1, is2, is3, is4, value, earlier)
-}
-
-// The same with an attribute of another name, which declares no namespace, in a tag of that kind.
-fn noted_other(doc: &[u8], a: RawAttribute, kind: TagKind, earlier: Notes) -> Notes
-    requires { (a.value.from < length doc.now) × (is_xmlns (piece doc.now a.name.from a.name.len) ≡ false) }
-    ensures { NotedMore (piece doc.now a.name.from a.name.len) a.value.from a.value.len (keys_by kind) earlier result }
-{
-    match kind {
-        TagKind::Schema => noted_with(doc, a, b"id", b"version", b"package", b"", earlier),
-        TagKind::Type => noted_with(
-            doc,
-            a,
-            b"length",
-            b"name",
-            b"primitiveType",
-            b"characterEncoding",
-            earlier,
-        ),
-        TagKind::Enum => noted_with(doc, a, b"name", b"encodingType", b"", b"", earlier),
-        TagKind::Other => noted_with(doc, a, b"id", b"name", b"type", b"", earlier),
-    }
-}
-
-// What is noted with one more attribute, of a known name or another; one that declares a namespace counts for nothing.
-fn noted_by(
-    doc: &[u8],
-    a: RawAttribute,
-    code: Option<usize>,
-    codes: Codes,
-    kind: TagKind,
-    earlier: Notes,
-) -> Notes
-    requires { (a.value.from < length doc.now) × CodesOf (keys_by kind) codes × NamedAs doc.now a.name.from a.name.len code }
-    ensures { NotedMore (piece doc.now a.name.from a.name.len) a.value.from a.value.len (keys_by kind) earlier result }
-{
-    if let Some(known) = code {
-        return noted_known(known, codes, a.value, earlier);
-    }
-    if is_xmlns_at(doc, a.name.from, a.name.len) {
-        return earlier;
-    }
-    noted_other(doc, a, kind, earlier)
-}
-
 // Nothing found.
 pub fn nothing() -> Notes
     ensures { result ≡ no_notes }
@@ -397,7 +275,8 @@ pub fn noted_of(notes: Notes) -> Noted
     }
 }
 
-// The tag whose attributes begin at `at`: how it ends, and the raw values of the last attributes of four names.
+// The tag whose attributes begin at `at`: how it ends, and the raw values of the last attributes of four names. Behind an attribute
+// that declares a namespace others are likely.
 pub fn tag_noting(doc: &[u8], at: usize, place: usize, kind: TagKind) -> Whole
     ensures { (result.ending ≡ (tag_at doc.now at place).ending) × NotedBy (keys_by kind) doc.now at result.noted }
 {
@@ -427,8 +306,12 @@ pub fn tag_noting(doc: &[u8], at: usize, place: usize, kind: TagKind) -> Whole
                         len: value_len,
                     },
                 };
-                noted = noted_by(doc, a, code, codes, kind, noted);
-                i = next;
+                if is_declaration(doc, a.name, code) {
+                    i = past_declarations(doc, next);
+                } else {
+                    noted = noted_by(doc, a, code, codes, kind, noted);
+                    i = next;
+                }
             }
             Ok(TagPart::TagEnd(ending)) => {
                 return Whole {

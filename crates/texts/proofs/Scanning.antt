@@ -7,6 +7,7 @@ use Prim.Native.Nat.{ℕ, suc, ◌+◌, ◌≤◌, ◌<◌}
 use native.Mathlib.Nat.{add-zero, add-suc, suc-add}
 use native.Mathlib.Numerals.{add-one}
 use native.Mathlib.Omega.{arith}
+use mir.Val.{bool_byte}
 use lib.Bits.{bit_or, or_add_and, and_le_l, and_le_r}
 use lib.ListN.{length, get_or, drop_of_length-le}
 use lib.Seq.{drop-cons}
@@ -72,6 +73,22 @@ module _ {s : List ℕ} {at i : ℕ} (inv : Scanning is_ascii s at i) (h : i < l
 
 or-below : (a b : ℕ) → bit_or a b < 128 → (a < 128) × (b < 128)
 or-below a b h = (omega (arith, or_add_and a b, and_le_r a b), omega (arith, or_add_and a b, and_le_l a b))
+
+or-none : (a b : ℕ) → bit_or a b ≡ 0 → (a ≡ 0) × (b ≡ 0)
+or-none a b h = (omega (arith, or_add_and a b, and_le_r a b), omega (arith, or_add_and a b, and_le_l a b))
+
+-- k bytes from i on of which none fails, and one byte more; f is whether it fails
+pub passes-on : (p : ℕ → Bool) (s : List ℕ) (i k failed : ℕ) {b : Bool} {f : ℕ} → i + k < length s → (failed ≡ 0 → scan p s (i + k) ≡ scan p s i)
+    → b ≡ p (get_or s (i + k) 0) → f ≡ bool_byte (not b) → bit_or failed f ≡ 0 → scan p s (i + (k + 1)) ≡ scan p s i
+passes-on p s i k failed {b} {f} h inv e q z =
+    let both = or-none failed f z in
+    let at : Scanning p s i (i + k) = record { rest = inv both.0 } in
+    let t : i + k + 1 ≡ i + (k + 1) = omega arith in
+    (rw t at (scan-on at h e (passed b (sym q ∙ both.1)))).rest
+  where
+    passed : (b : Bool) → bool_byte (not b) ≡ 0 → b ≡ true
+    passed true w = refl
+    passed false w = absurd (omega arith)
 
 -- the bits of k bytes from i on, and one byte more
 pub bits-on : (s : List ℕ) (i k all : ℕ) → i + k < length s → (all < 128 → scan is_ascii s (i + k) ≡ scan is_ascii s i)

@@ -123,7 +123,8 @@ fn past_blocks<const N: usize>(s: &[u8], from: usize) -> usize
 pub fn ascii_end(s: &[u8]) -> usize
     ensures { result ≡ scan is_ascii s.now 0 }
 {
-    let wide = past_blocks::<128>(s, 0);
+    let far = past_blocks::<512>(s, 0);
+    let wide = past_blocks::<128>(s, far);
     let near = past_blocks::<8>(s, wide);
     scan_each(s, near, &Ascii)
 }

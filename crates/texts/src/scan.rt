@@ -1,5 +1,5 @@
 // Scans: how far a run of bytes goes that pass a test.
-ghost use Rattle.std.specs.Prelude.{◌≡◌, Bool, ℕ};
+ghost use Rattle.std.specs.Prelude.{◌≡◌, true, Bool, ℕ, ◌+◌, ◌≤◌, ◌<◌, length};
 ghost use Rattle.texts.specs.Scan.{scan};
 
 // A test of bytes.
@@ -24,18 +24,60 @@ pub fn scan_each<T: ByteTest>(s: &[u8], from: usize, by: &T) -> usize
     from.max(s.len())
 }
 
-// The same, with one test of the end for four bytes. Each byte has a return of its own: the processor guesses it, and waits
-// for no choice between places.
-pub fn scan_fours<T: ByteTest>(s: &[u8], from: usize, by: &T) -> usize
+// Whether the `N` bytes from `i` on pass, with no branch: of a test that is made of comparisons it is vector code. By a byte and not by
+// a bool, of which the compiler would keep a bit for each comparison.
+fn all_pass<T: ByteTest, const N: usize>(s: &[u8], i: usize, by: &T) -> bool
+    requires { i + N ≤ length s.now }
+    ensures { result ≡ true → scan T.test s.now (i + N) ≡ scan T.test s.now i }
+{
+    let mut failed: u8 = 0;
+    for k in 0..N {
+        failed |= u8::from(!by.passes(s[i + k]));
+    }
+    failed == 0
+}
+
+// From `from` on past blocks of sixteen bytes that pass, for a run that is long.
+fn past_far<T: ByteTest>(s: &[u8], from: usize, by: &T) -> usize
+    ensures { scan T.test s.now result ≡ scan T.test s.now from }
+{
+    if s.len() < 16 {
+        return from;
+    }
+    let last = s.len() - 16;
+    let mut i = from;
+    // kept: a `while`, since its steps are of sixteen bytes.
+    while i <= last {
+        if !all_pass::<T, 16>(s, i, by) {
+            return i;
+        }
+        i += 16;
+    }
+    i
+}
+
+// The same as `scan_each`, behind blocks of sixteen bytes that another test passes, which says the same.
+#[inline(never)]
+fn scan_long<T: ByteTest, F: ByteTest>(s: &[u8], from: usize, by: &T, far: &F) -> usize
+    requires { F.test ≡ T.test }
     ensures { result ≡ scan T.test s.now from }
 {
-    if s.len() < 4 {
+    scan_each(s, past_far(s, from, far), by)
+}
+
+// The same, where a run is likely to be short: with one test of the end for its first 64 bytes. Each byte has a return of its own: the
+// processor guesses it, and waits for no choice between places.
+pub fn scan_fours<T: ByteTest, F: ByteTest>(s: &[u8], from: usize, by: &T, far: &F) -> usize
+    requires { F.test ≡ T.test }
+    ensures { result ≡ scan T.test s.now from }
+{
+    if s.len() < 68 || s.len() - 68 < from {
         return scan_each(s, from, by);
     }
-    let last = s.len() - 4;
+    let stop = from + 64;
     let mut i = from;
     // kept: a `while`, since its steps are of four bytes.
-    while i <= last {
+    while i < stop {
         if !by.passes(s[i]) {
             return i;
         }
@@ -50,5 +92,5 @@ pub fn scan_fours<T: ByteTest>(s: &[u8], from: usize, by: &T) -> usize
         }
         i += 4;
     }
-    scan_each(s, i, by)
+    scan_long(s, i, by, far)
 }

@@ -4,7 +4,6 @@ use mathlib.Core.Bool.{Bool, true, false}
 use mathlib.Core.List.{List}
 use Prim.Native.Nat.{ℕ, zero, suc, ◌+◌, ◌≤◌, ◌<◌}
 use native.Mathlib.Omega.{arith}
-use lib.Dec.{leb}
 use lib.ListN.{length}
 use Rattle.std.specs.Prelude.{Option, Some, None}
 use borrow.Author.Tests.{leb-false}
@@ -19,6 +18,7 @@ use Rattle.saxlite.specs.declared.reader.Cursor.{Cursor}
 use Rattle.saxlite.specs.declared.reader.Read.{Read}
 use Rattle.saxlite.specs.Step.{step_at}
 use Rattle.saxlite.specs.Reader.{read_step, owed_close, read_at, at_end}
+use Rattle.saxlite.proofs.Reading.{read-owed, read-step, free-end}
 use Rattle.saxlite.proofs.Moving.{text-within, close-within, skipped-within, end-past, open-within, open-named, open-past}
 use Rattle.builder.specs.Builder.{Builder, Outcome, on, refused}
 use Rattle.builder.specs.declared.state.Limits.{Limits}
@@ -74,25 +74,13 @@ by-step doc c h (move.Refused refusal) e =
     record { space = omega arith; inside = tt; less = λ b. absurd (no b); within = λ b. absurd (no b); grows = λ b. absurd (no b) }
 
 module _ (doc : List ℕ) (c : Cursor) where
-  pub read-owed : {o : Owed} → c.owed ≡ Some o → read_at doc c ≡ owed_close c.at o
-  unfolding read_at
-  read-owed e = rw e refl
-
-  pub read-free : c.owed ≡ None → read_at doc c ≡ read_step c.at (step_at doc c.at)
-  unfolding read_at
-  read-free e = rw e refl
-
-  pub end-free : c.owed ≡ None → at_end doc c ≡ leb (length doc) c.at
-  unfolding at_end
-  end-free e = rw e refl
-
   pub moves : c.at ≤ length doc → at_end doc c ≡ false → Next doc c (read_at doc c)
   unfolding owed_close
   moves h f = go c.owed refl
     where
       go : (o : Option Owed) → c.owed ≡ o → Next doc c (read_at doc c)
-      go (Some o) e = subst (λ (r : Read). Next doc c r) (sym (read-owed e)) (record { space = omega arith; inside = tt; less = λ b. omega (arith, ap owing e); within = λ b. h; grows = λ b. omega arith })
-      go None e = subst (λ (r : Read). Next doc c r) (sym (read-free e)) (by-step doc c (leb-false (length doc) c.at (sym (end-free e) ∙ f)) (step_at doc c.at) refl)
+      go (Some o) e = subst (λ (r : Read). Next doc c r) (read-owed doc c e refl) (record { space = omega arith; inside = tt; less = λ b. omega (arith, ap owing e); within = λ b. h; grows = λ b. omega arith })
+      go None e = subst (λ (r : Read). Next doc c r) (read-step doc c e refl refl) (by-step doc c (leb-false (length doc) c.at (free-end doc c e ∙ f)) (step_at doc c.at) refl)
 
 -- ---- more fuel than that changes nothing
 

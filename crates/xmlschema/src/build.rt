@@ -107,6 +107,7 @@ fn past_text(reader: &mut Reader<'_>, s: State)
 }
 
 // Reads a document whose length and bytes, and the buffers, are tested.
+#[inline(never)]
 fn read_tested(l: Limits, doc: &[u8], rec: &mut [u32], text: &mut [u8]) -> Result<Model, Refusal>
     requires { (length doc.now ≤ 32768) × (16384 ≤ length rec.old) × (65536 ≤ length text.old) × (l.items ≤ 1024) × (l.depth ≤ 64) }
     ensures { shown result rec.new text.new ≡ reading l doc.now }

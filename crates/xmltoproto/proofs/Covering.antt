@@ -59,10 +59,6 @@ module _ (s : Schema) (i : ℕ) (e : Entry) (h : Shows e (item_at s i)) where
   unfolding item_of
   second_short = rw (← ap (λ (x : Item). x.second) h.is) (piece-short h.text e.second e.slen)
 
-  kind-seen : e.kind ≡ (item_at s i).kind
-  unfolding item_of
-  kind-seen = ap (λ (x : Item). x.kind) h.is
-
   owner-seen : e.owner ≡ (item_at s i).owner
   unfolding item_of
   owner-seen = ap (λ (x : Item). x.owner) h.is
@@ -121,8 +117,8 @@ field-typed-most s it n p z ed f t g c =
     by-declaration s it n p z ed (rw (f, ← g.is) (c.least g.text _ _ z.name z.number)) c.small
 
 module _ (s : Schema) (i : ℕ) (e : Entry) (h : Shows e (item_at s i)) where
-  pub sized : e.number < 4294967296 → Sized (item_at s i) e.nlen e.slen
-  sized u = record { name = name-short s i e h; second = second_short s i e h; number = number_short s i e h u }
+  pub sized : (t : Entry) → Shows t (item_at s i) → e.number < 4294967296 → Sized (item_at s i) e.nlen t.slen
+  sized t g u = record { name = name-short s i e h; second = second_short s i t g; number = number_short s i e h u }
 
   pub value-covered : (o : Entry) → Shows o (item_at s e.owner) → e.nlen < 4294967296 → e.slen < 4294967296 → o.nlen < 4294967296
       → Covers (8 + 2 * o.nlen + 2 * e.nlen + e.slen) (value_most (item_at s (item_at s i).owner) (item_at s i))
@@ -135,51 +131,52 @@ module _ (s : Schema) (i : ℕ) (e : Entry) (h : Shows e (item_at s i)) where
 
 -- ---- the share of the item
 
-module _ (s : Schema) (i : ℕ) (e : Entry) (h : Shows e (item_at s i)) where
-  pub kind-told : (k : ℕ) → e.kind ≡ k → (item_at s i).kind ≡ k
-  kind-told k q = sym (kind-seen s i e h) ∙ q
+-- q is the item's kind
+module _ (s : Schema) (i : ℕ) {q : ℕ} (eq : q ≡ (item_at s i).kind) where
+  pub kind-told : (k : ℕ) → q ≡ k → (item_at s i).kind ≡ k
+  kind-told k f = sym eq ∙ f
 
-  pub share-field : e.kind ≡ 9 → {r : ℕ} → Covers r (field_most s (item_at s i)) → Covers r (share s i)
+  pub share-field : q ≡ 9 → {r : ℕ} → Covers r (field_most s (item_at s i)) → Covers r (share s i)
   unfolding share
   share-field k c = record { least = rw (kind-told 9 k) (omega (arith, c.least)); small = c.small }
 
-  pub share-value : e.kind ≡ 6 → {r : ℕ} → Covers r (value_most (item_at s (item_at s i).owner) (item_at s i)) → Covers r (share s i)
+  pub share-value : q ≡ 6 → {r : ℕ} → Covers r (value_most (item_at s (item_at s i).owner) (item_at s i)) → Covers r (share s i)
   unfolding share
   share-value k c = record { least = rw (kind-told 6 k) (omega (arith, c.least)); small = c.small }
 
-  module _ (ln : e.nlen < 4294967296) where
-    pub share-enum : e.kind ≡ 5 → Covers (11 + e.nlen) (share s i)
+  module _ (e : Entry) (h : Shows e (item_at s i)) (ln : e.nlen < 4294967296) where
+    pub share-enum : q ≡ 5 → Covers (11 + e.nlen) (share s i)
     unfolding share
     share-enum k = record { least = rw (kind-told 5 k) (omega (arith, name-short s i e h)); small = omega arith }
 
-    pub share-composite : e.kind ≡ 4 → Covers (14 + e.nlen) (share s i)
+    pub share-composite : q ≡ 4 → Covers (14 + e.nlen) (share s i)
     unfolding share
     share-composite k = record { least = rw (kind-told 4 k) (omega (arith, name-short s i e h)); small = omega arith }
 
-    pub share-ref : e.kind ≡ 3 → e.slen < 4294967296 → {r : ℕ} → r ≡ named_most e.nlen 10 e.slen → Covers r (share s i)
+    pub share-ref : q ≡ 3 → e.slen < 4294967296 → {r : ℕ} → r ≡ named_most e.nlen 10 e.slen → Covers r (share s i)
     unfolding share
-    share-ref k l q = record { least = rw (kind-told 3 k) (omega (arith, name-short s i e h, second_short s i e h)); small = omega arith }
+    share-ref k l w = record { least = rw (kind-told 3 k) (omega (arith, name-short s i e h, second_short s i e h)); small = omega arith }
 
-    pub share-member : e.kind ≡ 2 → {r : ℕ} → CoversLine r e.nlen e → Covers r (share s i)
+    pub share-member : q ≡ 2 → {r : ℕ} → CoversLine r e.nlen e → Covers r (share s i)
     unfolding share
     share-member k {r} c =
         let l : member_most (item_at s i) ≤ r = rw (← h.is) (c.least h.text _ 10 (rw (h.is) (name-short s i e h)) (omega arith)) in
         record { least = rw (kind-told 2 k) (omega arith); small = c.small }
 
     module _ (lk : e.number < 4294967296) where
-      pub share-message : e.kind ≡ 7 → Covers (55 + e.nlen) (share s i)
+      pub share-message : q ≡ 7 → Covers (55 + e.nlen) (share s i)
       unfolding share
       share-message k = record { least = rw (kind-told 7 k) (omega (arith, name-short s i e h, number_short s i e h lk)); small = omega arith }
 
-      pub share-group : e.kind ≡ 8 → Covers (44 + 4 * e.nlen) (share s i)
+      pub share-group : q ≡ 8 → Covers (44 + 4 * e.nlen) (share s i)
       unfolding share
       share-group k = record { least = rw (kind-told 8 k) (omega (arith, name-short s i e h, number_short s i e h lk)); small = omega arith }
 
-  pub share-none : (e.kind ≡ 2 → ⊥) → (e.kind ≡ 3 → ⊥) → (e.kind ≡ 4 → ⊥) → (e.kind ≡ 5 → ⊥) → (e.kind ≡ 6 → ⊥) → (e.kind ≡ 7 → ⊥) → (e.kind ≡ 8 → ⊥) → (e.kind ≡ 9 → ⊥) → Covers 0 (share s i)
+  pub share-none : (q ≡ 2 → ⊥) → (q ≡ 3 → ⊥) → (q ≡ 4 → ⊥) → (q ≡ 5 → ⊥) → (q ≡ 6 → ⊥) → (q ≡ 7 → ⊥) → (q ≡ 8 → ⊥) → (q ≡ 9 → ⊥) → Covers 0 (share s i)
   unfolding share
   share-none n2 n3 n4 n5 n6 n7 n8 n9 =
       record {
-        least = rw (← kind-seen s i e h) (rw (ne_eqb e.kind 2 n2, ne_eqb e.kind 3 n3, ne_eqb e.kind 4 n4, ne_eqb e.kind 5 n5, ne_eqb e.kind 6 n6, ne_eqb e.kind 7 n7, ne_eqb e.kind 8 n8, ne_eqb e.kind 9 n9) (omega arith));
+        least = rw (← eq) (rw (ne_eqb q 2 n2, ne_eqb q 3 n3, ne_eqb q 4 n4, ne_eqb q 5 n5, ne_eqb q 6 n6, ne_eqb q 7 n7, ne_eqb q 8 n8, ne_eqb q 9 n9) (omega arith));
         small = omega arith;
       }
 

@@ -7,7 +7,7 @@ ghost use Rattle.printing.specs.Decimal.{decimal};
 ghost use Rattle.model.specs.Schema.{item_at, a_field};
 ghost use Rattle.model.specs.Shown.{Shows};
 ghost use Rattle.xmltoproto.specs.Source.{source};
-ghost use Rattle.xmltoproto.specs.Bound.{named_most, value_most, field_most, share, Sized, Covers, CoversLine};
+ghost use Rattle.xmltoproto.specs.Bound.{named_most, value_most, field_most, share, Covers, CoversLine};
 
 use index::seen::{Declaration, Index};
 use model::{COMPOSITE, ENUM, Entry, FIELD, GROUP, MEMBER, MESSAGE, REF, VALUE};
@@ -31,15 +31,16 @@ fn typed_most(n: u32, t: Entry) -> usize
 }
 
 // kept: what `field_declared` asks is asked here and of the two below; by `declared` a conversion takes 2 % more.
-// The field at `i`, with a name of `n` bytes and a type name of `word`, which may be a built-in's where it is not declared.
-fn field_most(s: &Index<'_>, i: u32, n: u32, word: u32) -> usize
-    requires { (length s.now.items ≤ 1024) × ((item_at s.now i).kind ≡ a_field) × Sized (item_at s.now i) n word }
+// The field at `i`, whose type name may be a built-in's where it is not declared.
+fn field_most(s: &Index<'_>, i: u32) -> usize
+    requires { (length s.now.items ≤ 1024) × ((item_at s.now i).kind ≡ a_field) }
     ensures { Covers result (field_most s.now (item_at s.now i)) }
 {
+    let n = s.entry(i).nlen;
     match s.field_declared(i) {
-        Some(Declaration::Named) => named_most(n, word),
+        Some(Declaration::Named) => named_most(n, s.entry(i).slen),
         Some(Declaration::Typed(t)) => typed_most(n, s.entry(t)),
-        None => named_most(n, word) + 29,
+        None => named_most(n, s.entry(i).slen) + 29,
     }
 }
 
@@ -53,23 +54,28 @@ fn value_most(s: &Index<'_>, v: Entry, i: u32) -> usize
 }
 
 // What the item at `i` adds.
-// kept: the kind is a word (model), so that whatever picks the bound is this `match`, of a formula an arm.
+// kept: the kind is a word (model), so that whatever picks the bound is this `match`, of a formula an arm; each arm asks
+// for the entry, as the words that an arm does not use are not read then.
 fn item_most(s: &Index<'_>, i: u32) -> usize
     requires { (length s.now.items ≤ 1024) }
     ensures { Covers result (share s.now i) }
 {
-    let e = s.entry(i);
-    let name = e.nlen as usize;
-    let kind = e.kind;
+    let kind = s.kind(i);
     match kind {
-        MEMBER => typed_most(e.nlen, e),
-        REF => named_most(e.nlen, e.slen),
-        COMPOSITE => 14 + name,
-        ENUM => 11 + name,
-        VALUE => value_most(s, e, i),
-        MESSAGE => 55 + name,
-        GROUP => 44 + 4 * name,
-        FIELD => field_most(s, i, e.nlen, e.slen),
+        MEMBER => {
+            let e = s.entry(i);
+            typed_most(e.nlen, e)
+        }
+        REF => {
+            let e = s.entry(i);
+            named_most(e.nlen, e.slen)
+        }
+        COMPOSITE => 14 + s.entry(i).nlen as usize,
+        ENUM => 11 + s.entry(i).nlen as usize,
+        VALUE => value_most(s, s.entry(i), i),
+        MESSAGE => 55 + s.entry(i).nlen as usize,
+        GROUP => 44 + 4 * (s.entry(i).nlen as usize),
+        FIELD => field_most(s, i),
         _ => 0,
     }
 }

@@ -34,25 +34,17 @@ fn write_ref(out: &mut Output<'_>, s: &Index<'_>, i: u32, number: u32)
     write_line(out, false, Shape::Plain, type_name, b"", name, number);
 }
 
-// How many members a composite has.
-fn members_in(s: &Index<'_>, c: u32) -> u32
-    ensures { Members s.now c result }
-{
-    let mut k = 0;
-    for i in s.children(MEMBER, c) {
-        k += 1;
-    }
-    k
-}
-
-fn write_members(out: &mut Output<'_>, s: &Index<'_>, c: u32)
-    ensures { Wrote out.old out.new (numbered (λ n i. member_text n (item_at s.now i)) 1 (under a_member c s.now)) }
+// The members, and how many there are.
+fn write_members(out: &mut Output<'_>, s: &Index<'_>, c: u32) -> u32
+    ensures text { Wrote out.old out.new (numbered (λ n i. member_text n (item_at s.now i)) 1 (under a_member c s.now)) }
+    ensures count { Members s.now c result }
 {
     let mut k = 0;
     for i in s.children(MEMBER, c) {
         k += 1;
         write_member(out, s, i, k);
     }
+    k
 }
 
 // The refs, numbered on from the composite's `members`.
@@ -70,8 +62,7 @@ fn write_refs(out: &mut Output<'_>, s: &Index<'_>, c: u32, members: u32)
 fn write_parts(out: &mut Output<'_>, s: &Index<'_>, c: u32)
     ensures { Wrote out.old out.new (part_texts s.now c) }
 {
-    let members = members_in(s, c);
-    write_members(out, s, c);
+    let members = write_members(out, s, c);
     write_refs(out, s, c, members);
 }
 

@@ -1,7 +1,9 @@
 // One line of a message: its note, type, name, number and option.
 #![tactic(auto, using(printing::proofs::Writing::writing))]
 
-ghost use Rattle.std.specs.Prelude.{◌<◌};
+ghost use Rattle.std.specs.Prelude.{◌++◌, ◌<◌};
+ghost use Rattle.texts.specs.Choice.{pick};
+ghost use Rattle.texts.specs.Text.{ascii};
 ghost use Rattle.printing.specs.Decimal.{decimal};
 ghost use Rattle.printing.specs.Written.{Wrote};
 ghost use Rattle.conversions.specs.Conversions.{camel_to_snake};
@@ -40,6 +42,7 @@ fn write_tens(out: &mut Output<'_>, n: u32)
 }
 
 // A number, most often of few digits, for which there is no recursion.
+#[inline(always)]
 fn write_number(out: &mut Output<'_>, n: u32)
     ensures { Wrote out.old out.new (decimal n) }
 {
@@ -54,6 +57,8 @@ fn write_number(out: &mut Output<'_>, n: u32)
 }
 
 // The comment that names an encoding: few lines have one, so its texts are kept out of the way of the others.
+#[cold]
+#[inline(never)]
 fn write_foreign(out: &mut Output<'_>, deep: bool, encoding: &[u8])
     ensures { Wrote out.old out.new (note_line (indent_of deep) (note_on encoding.now)) }
 {
@@ -77,38 +82,67 @@ fn write_note(out: &mut Output<'_>, deep: bool, shape: Shape, encoding: &[u8])
     }
 }
 
-fn write_word(out: &mut Output<'_>, shape: Shape, primitive: &[u8])
-    ensures { Wrote out.old out.new (word_in shape primitive.now) }
+// One of two texts.
+fn write_either(out: &mut Output<'_>, first: bool, a: &[u8], b: &[u8])
+    ensures { Wrote out.old out.new (pick first a.now b.now) }
 {
-    match shape {
-        Shape::Text(_) => out.text(b"string"),
-        Shape::Foreign(_) => out.text(b"bytes"),
-        Shape::Raw(_) => out.text(b"bytes"),
-        Shape::Signed => out.text(b"int32"),
-        Shape::Unsigned => out.text(b"uint32"),
-        Shape::Plain => out.text(primitive),
+    if first {
+        out.text(a);
+    } else {
+        out.text(b);
     }
 }
 
+// The indent, the proto type and a space: one text where the type is known, for which there is one test for room.
+fn write_front(out: &mut Output<'_>, deep: bool, shape: Shape, primitive: &[u8])
+    ensures { Wrote out.old out.new (indent_of deep ++ word_in shape primitive.now ++ ascii " ") }
+{
+    match shape {
+        Shape::Text(_) => write_either(out, deep, b"    string ", b"  string "),
+        Shape::Foreign(_) => write_either(out, deep, b"    bytes ", b"  bytes "),
+        Shape::Raw(_) => write_either(out, deep, b"    bytes ", b"  bytes "),
+        Shape::Signed => write_either(out, deep, b"    int32 ", b"  int32 "),
+        Shape::Unsigned => write_either(out, deep, b"    uint32 ", b"  uint32 "),
+        Shape::Plain => {
+            write_indent(out, deep);
+            out.text_then(primitive, b' ');
+        }
+    }
+}
+
+// The number of a line, behind its name.
+fn write_numbered(out: &mut Output<'_>, n: u32)
+    ensures { Wrote out.old out.new (ascii " = " ++ decimal n) }
+{
+    if n < 10 {
+        out.text_then(b" = ", 48 + n as u8);
+    } else {
+        out.text(b" = ");
+        write_number(out, n);
+    }
+}
+
+// ---- the end of a line: its option, if any
+
 fn write_length(out: &mut Output<'_>, n: u32)
-    ensures { Wrote out.old out.new (length_option n) }
+    ensures { Wrote out.old out.new (length_option n ++ ascii ";\n") }
 {
     out.text(b" [(sbe.length) = ");
-    out.decimal(n);
-    out.text(b"]");
+    write_number(out, n);
+    out.text(b"];\n");
 }
 
 fn write_encoding(out: &mut Output<'_>, primitive: &[u8])
-    ensures { Wrote out.old out.new (encoding_option primitive.now) }
+    ensures { Wrote out.old out.new (encoding_option primitive.now ++ ascii ";\n") }
 {
     out.text(b" [(sbe.encoding) = \"");
     out.text(primitive);
-    out.text(b"\"]");
+    out.text(b"\"];\n");
 }
 
 #[tactic(auto, unfolding(crate::specs::Source::bracketed, crate::specs::Shapes::length_option, crate::specs::Shapes::encoding_option), using(printing::proofs::Writing::writing))]
-fn write_option(out: &mut Output<'_>, shape: Shape, primitive: &[u8])
-    ensures { Wrote out.old out.new (bracketed (option_in shape primitive.now)) }
+fn write_end(out: &mut Output<'_>, shape: Shape, primitive: &[u8])
+    ensures { Wrote out.old out.new (bracketed (option_in shape primitive.now) ++ ascii ";\n") }
 {
     match shape {
         Shape::Text(n) => write_length(out, n),
@@ -116,13 +150,34 @@ fn write_option(out: &mut Output<'_>, shape: Shape, primitive: &[u8])
         Shape::Raw(n) => write_length(out, n),
         Shape::Signed => write_encoding(out, primitive),
         Shape::Unsigned => write_encoding(out, primitive),
-        Shape::Plain => (),
+        Shape::Plain => out.text(b";\n"),
     }
 }
 
-// The line of a shape over a primitive and an encoding; the name is converted to snake case. It is written through an
-// output of its own over the same loan, whose position stays in a register.
-#[tactic(auto, unfolding(printing::specs::Written::written, crate::specs::Source::line), using(printing::proofs::Writing::writing))]
+// A line between its note and its end; the name is converted to snake case. It is written through an output of its own
+// over the same loan, whose position stays in a register.
+#[tactic(auto, unfolding(printing::specs::Written::written), using(printing::proofs::Writing::writing))]
+fn write_middle(
+    out: &mut Output<'_>,
+    deep: bool,
+    shape: Shape,
+    primitive: &[u8],
+    name: &[u8],
+    number: u32,
+)
+    ensures { Wrote out.old out.new (indent_of deep ++ word_in shape primitive.now ++ ascii " " ++ camel_to_snake name.now ++ (ascii " = " ++ decimal number)) }
+{
+    let mut o = Output {
+        bytes: out.bytes,
+        at: out.at,
+    };
+    write_front(&mut o, deep, shape, primitive);
+    write_snake(&mut o, name);
+    write_numbered(&mut o, number);
+    out.at = o.at;
+}
+
+// The line of a shape over a primitive and an encoding.
 pub fn write_line(
     out: &mut Output<'_>,
     deep: bool,
@@ -134,18 +189,7 @@ pub fn write_line(
 )
     ensures { Wrote out.old out.new (line (indent_of deep) (proto_in shape primitive.now encoding.now) (camel_to_snake name.now) number) }
 {
-    let mut o = Output {
-        bytes: out.bytes,
-        at: out.at,
-    };
-    write_note(&mut o, deep, shape, encoding);
-    write_indent(&mut o, deep);
-    write_word(&mut o, shape, primitive);
-    o.text(b" ");
-    write_snake(&mut o, name);
-    o.text(b" = ");
-    write_number(&mut o, number);
-    write_option(&mut o, shape, primitive);
-    o.text(b";\n");
-    out.at = o.at;
+    write_note(out, deep, shape, encoding);
+    write_middle(out, deep, shape, primitive, name, number);
+    write_end(out, shape, primitive);
 }

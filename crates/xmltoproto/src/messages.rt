@@ -30,6 +30,8 @@ fn write_undeclared(out: &mut Output<'_>, deep: bool, type_name: &[u8], name: &[
 }
 
 // Of a schema with more items than the index holds, or of an item that is no field: by the model's own searches.
+#[cold]
+#[inline(never)]
 fn write_unsettled(out: &mut Output<'_>, s: &Index<'_>, deep: bool, i: u32)
     ensures { Wrote out.old out.new (field_text s.now (indent_of deep) (item_at s.now i)) }
 {

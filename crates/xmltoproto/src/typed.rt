@@ -14,6 +14,7 @@ use index::seen::Index;
 use printing::Output;
 
 // The line of the type or member at `i`, under a name and a number.
+#[inline(always)]
 pub fn write_typed(
     out: &mut Output<'_>,
     s: &Index<'_>,

@@ -10,7 +10,7 @@ ghost use Rattle.xmltoproto.specs.Shapes.{form, proto_in, meaning_in};
 
 use charsets::is_compatible;
 use index::seen::Declaration;
-use texts::{equal, is_among};
+use words::same_name;
 
 // How a type prints: as text or as bytes of a length, as a wider integer under an option, or as its
 // primitive stands.
@@ -43,6 +43,19 @@ const BUILT_INS: [&[u8]; 11] = [
     b"double", b"char",
 ];
 
+// Whether a text is one of these. Inlined, it compares with each by a word or two.
+#[inline(always)]
+fn is_among(s: &[u8], texts: &[&[u8]]) -> bool
+    ensures { result ≡ among s.now (map (λ t. t.now) texts.now) }
+{
+    for text in texts {
+        if same_name(s, text) {
+            return true;
+        }
+    }
+    false
+}
+
 fn is_byte(primitive: &[u8]) -> bool
     ensures { result ≡ is_byte (form primitive.now 0 []) }
 {
@@ -64,7 +77,7 @@ pub fn is_array(primitive: &[u8], size: u32) -> bool
     ensures { result ≡ is_array (form primitive.now size []) }
 {
     if 1 < size {
-        if equal(primitive, b"char") {
+        if same_name(primitive, b"char") {
             return false;
         }
         return !is_byte(primitive);
@@ -84,10 +97,11 @@ fn primitive_shape(p: &[u8]) -> Shape
     Shape::Plain
 }
 
+#[inline(always)]
 pub fn shape_of(primitive: &[u8], size: u32, encoding: &[u8]) -> Shape
     ensures { proto_in result primitive.now encoding.now ≡ proto_of (form primitive.now size encoding.now) }
 {
-    if equal(primitive, b"char") {
+    if same_name(primitive, b"char") {
         let n = chars_in(size);
         if is_compatible(encoding) {
             return Shape::Text(n);

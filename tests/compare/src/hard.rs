@@ -314,8 +314,48 @@ fn short() -> Vec<(String, String)> {
     documents
 }
 
+/// Runs of bytes that are told one by one up to some length and by many at once beyond: names, spaces, and what declares a namespace.
+fn runs() -> Vec<(String, String)> {
+    let mut documents = Vec::new();
+    for n in [2, 4, 8, 12, 15, 16, 17, 20, 24, 31, 32, 33, 40, 48] {
+        let (text, digits, spaces) = ("x".repeat(n), "7".repeat(n), " ".repeat(n));
+        let mut add =
+            |kind: &str, document: String| documents.push((format!("{kind} of {n} bytes"), document));
+        add("attribute names", tag("<a ", &format!("{text}='' ")));
+        add("attribute names without an end", most("<a", |_| format!(" {digits}=''"), "", 9_999));
+        add("prefixes of attributes", tag("<a ", &format!("{text}:b='' ")));
+        add("prefixes that are declared", tag("<a ", &format!("xmlns:{text}='' ")));
+        add(
+            "prefixes that are declared without an end",
+            most("<a", |_| format!(" xmlns:{text}='a'"), "", 9_999),
+        );
+        add("names closed at once", full(&format!("<{text}/>")));
+        add("names opened and closed", full(&format!("<{text}></{text}>")));
+        add("prefixes of names", full(&format!("<{text}:a/>")));
+        add("spaces in tags", full(&format!("<a{spaces}/>")));
+        add("spaces between attributes", tag("<a", &format!("{spaces}b=''")));
+        add("spaces between xmlns", most("<a", |_| format!("{spaces}xmlns=''"), "", 9_999));
+        add("spaces around '='", tag("<a ", &format!("xmlns{spaces}={spaces}'' ")));
+        add("texts between tags", full(&format!("{text}<a/>")));
+    }
+    documents.extend(
+        [
+            ("attributes xmlns and others in turns", tag("<a ", "xmlns='' b='' ")),
+            ("attributes xmlns and others that begin alike", tag("<a ", "xmlns='' xmlnsa='' ")),
+            ("attributes that begin as xmlns does", tag("<a ", "xmlnsa='' ")),
+            ("attributes of one letter x", tag("<a ", "x='' ")),
+            ("tags of one xmlns", full("<a xmlns='a'/>")),
+            ("tags of two xmlns", full("<a xmlns='a' xmlns:b='b'/>")),
+            ("tags of two xmlns without an end", most("", |_| "<a xmlns='a' xmlns:b='b'".into(), "", 9_999)),
+            ("fields of one xmlns", full("<field xmlns='a' id=\"1\"/>")),
+        ]
+        .map(|(name, document)| (name.to_owned(), document)),
+    );
+    documents
+}
+
 /// Every document that may be slow for either side.
 pub fn all() -> Vec<(String, String)> {
     let named = |(name, document): (&str, String)| (name.to_owned(), document);
-    hard().into_iter().chain(little()).map(named).chain(short()).collect()
+    hard().into_iter().chain(little()).map(named).chain(short()).chain(runs()).collect()
 }

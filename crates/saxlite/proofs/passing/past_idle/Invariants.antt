@@ -5,7 +5,7 @@ use Rattle.saxlite.specs.Passing.{Idle}
 use Rattle.saxlite.proofs.passing.past_idle.Given as goal
 
 abbrev pub invariant-loop-i : goal.invariant-loop-i
-invariant-loop-i l = Idle l.doc l.collecting l.outside l.at l.i × (l.last + 8 ≡ length l.doc)
+invariant-loop-i l = Idle l.doc l.collecting l.outside l.at l.i × (l.last + 32 ≡ length l.doc)
 
 abbrev pub decreases-loop-i : goal.decreases-loop-i
 decreases-loop-i l = length l.doc - l.i

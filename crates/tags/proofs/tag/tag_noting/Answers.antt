@@ -1,6 +1,10 @@
 -- kept: `search` finds these with the set named here, and not by an attribute with it.
-use mathlib.Core.Path.{◌∙◌, ap}
+use mathlib.Core.Path.{refl, sym, ◌∙◌, ap}
+use native.Mathlib.Omega.{arith}
 use Rattle.std.specs.Prelude.{Ok}
+use Rattle.tags.proofs.Coding.{quick-less, quick-on, all-on}
+use Rattle.tags.proofs.Declaring.{declares-more}
+use Rattle.tags.proofs.Dropping.{going-past, all-past}
 use Rattle.tags.proofs.Laws.{laws}
 use Rattle.tags.proofs.tag.tag_noting.Goals as goal
 
@@ -13,10 +17,23 @@ loop-name-smaller c = let f = c.in-Ok-Attribute.is ∙ ap Ok (rw c.in-Ok-Attribu
 pub loop-name-preserved : goal.loop-name-preserved
 loop-name-preserved c =
     let f = c.in-Ok-Attribute.is ∙ ap Ok (rw c.in-Ok-Attribute.is at c.in-Ok-Attribute.field-0-is) in
-    (search laws, search laws, search laws)
+    (search laws, search laws, search laws, search laws)
 
 pub returns-in-Ok-TagEnd : goal.returns-in-Ok-TagEnd
 returns-in-Ok-TagEnd c = let f = c.in-Ok-TagEnd.is ∙ ap Ok (rw c.in-Ok-TagEnd.is at c.in-Ok-TagEnd.field-0-is) in search laws
 
 pub returns-in-Err : goal.returns-in-Err
 returns-in-Err c = search laws
+
+pub loop-name-smaller-then-is_declaration : goal.loop-name-smaller-then-is_declaration
+loop-name-smaller-then-is_declaration c =
+    let f = c.in-Ok-Attribute.is ∙ ap Ok (rw c.in-Ok-Attribute.is at c.in-Ok-Attribute.field-0-is) in
+    omega (arith, quick-less _ c.args.at _ _ c.quick_part-code.ensures f, c.past_declarations-i.ensures.forward)
+
+pub loop-name-preserved-then-is_declaration : goal.loop-name-preserved-then-is_declaration
+loop-name-preserved-then-is_declaration c =
+    let f = c.in-Ok-Attribute.is ∙ ap Ok (rw c.in-Ok-Attribute.is at c.in-Ok-Attribute.field-0-is) in
+    let q = c.quick_part-code.ensures in
+    let m = declares-more c.args.doc.now c.in-Ok-Attribute.name c.in-Ok-Attribute.name_len _ _ _ c.loop-name.noted (sym (c.is_declaration.ensures.yes c.if-is_declaration.true)) refl in
+    let u = c.past_declarations-i.ensures in
+    (going-past (quick-on _ _ _ _ q c.loop-name.invariant.0 f) u, all-past (all-on _ _ _ _ q c.loop-name.invariant.1 f m) u, c.loop-name.invariant.2, c.loop-name.invariant.3)

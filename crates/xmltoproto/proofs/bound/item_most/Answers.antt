@@ -31,4 +31,4 @@ pub returns-in-9 : goal.returns-in-9
 returns-in-9 c = search bounds
 
 pub returns-in_default : goal.returns-in_default
-returns-in_default c = share-none _ _ _ c.entry-e.ensures (search rules) (search rules) (search rules) (search rules) (search rules) (search rules) (search rules) (search rules)
+returns-in_default c = share-none _ _ c.kind-kind.ensures (search rules) (search rules) (search rules) (search rules) (search rules) (search rules) (search rules) (search rules)

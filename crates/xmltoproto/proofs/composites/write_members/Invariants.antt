@@ -1,10 +1,12 @@
 use Rattle.std.proofs.Common.{length}
 use Rattle.model.specs.Search.{ahead}
 use Rattle.model.proofs.Searching.{owned_so}
-use Rattle.xmltoproto.proofs.Looping.{Numbering}
+use Rattle.xmltoproto.proofs.Looping.{Counting, Numbering}
 use Rattle.model.specs.Schema.{item_at, under, a_member}
 use Rattle.xmltoproto.specs.Source.{member_text}
 use Rattle.xmltoproto.proofs.composites.write_members.Given as goal
 
 abbrev pub invariant-loop-i : goal.invariant-loop-i
-invariant-loop-i l = Numbering (λ n i. member_text n (item_at l.s i)) 0 (under a_member l.c l.s) (ahead (owned_so l.i-iterator.kind l.i-iterator.owner) l.i-iterator.from l.i-iterator.index.now) (length l.s.items) l.k l.initial.out l.out
+invariant-loop-i l =
+    Counting (under a_member l.c l.s) (ahead (owned_so l.i-iterator.kind l.i-iterator.owner) l.i-iterator.from l.i-iterator.index.now) l.k
+    × Numbering (λ n i. member_text n (item_at l.s i)) 0 (under a_member l.c l.s) (ahead (owned_so l.i-iterator.kind l.i-iterator.owner) l.i-iterator.from l.i-iterator.index.now) (length l.s.items) l.k l.initial.out l.out

@@ -1,7 +1,5 @@
-use Rattle.printing.proofs.Writing.{◌▹◌}
-use Rattle.xmltoproto.specs.Shapes.{encoding_option}
+use Rattle.xmltoproto.proofs.Laying.{encoding-printed}
 use Rattle.xmltoproto.proofs.line.write_encoding.Goals as goal
 
 pub returns : goal.returns
-unfolding encoding_option
-returns c = c.text.ensures ▹ c.text-2.ensures ▹ c.text-3.ensures
+returns c = encoding-printed _ c.text.ensures c.text-2.ensures c.text-3.ensures

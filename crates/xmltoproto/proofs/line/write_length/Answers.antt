@@ -1,7 +1,5 @@
-use Rattle.printing.proofs.Writing.{◌▹◌}
-use Rattle.xmltoproto.specs.Shapes.{length_option}
+use Rattle.xmltoproto.proofs.Laying.{length-printed}
 use Rattle.xmltoproto.proofs.line.write_length.Goals as goal
 
 pub returns : goal.returns
-unfolding length_option
-returns c = c.text.ensures ▹ c.decimal.ensures ▹ c.text-2.ensures
+returns c = length-printed _ c.text.ensures c.write_number.ensures c.text-2.ensures

@@ -1,6 +1,6 @@
 -- kept: `search` finds these with the set named here, and not by an attribute with it.
 use Rattle.tags.proofs.Laws.{laws}
-use Rattle.tags.proofs.tag.noted_other.Goals as goal
+use Rattle.tags.proofs.noting.noted_other.Goals as goal
 
 pub returns-in-Type : goal.returns-in-Type
 returns-in-Type c = search laws

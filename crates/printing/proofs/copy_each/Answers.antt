@@ -1,6 +1,6 @@
 use native.Mathlib.Omega.{arith}
 use Rattle.printing.proofs.Passing.{copying-start, copying-on}
-use Rattle.printing.proofs.copy.Goals as goal
+use Rattle.printing.proofs.copy_each.Goals as goal
 
 pub loop-i-init : goal.loop-i-init
 loop-i-init c = copying-start (omega arith) (omega arith)

@@ -1,0 +1,7 @@
+use mathlib.Core.Path.{◌≡◌}
+use Prim.Native.Nat.{◌+◌}
+use Rattle.texts.specs.Scan.{scan}
+use Rattle.texts.proofs.scan.all_pass.Given as goal
+
+abbrev pub invariant-loop-k : goal.invariant-loop-k
+invariant-loop-k g l = l.failed ≡ 0 → scan g.T.ByteTest.test l.s (l.i + l.k) ≡ scan g.T.ByteTest.test l.s l.i
