@@ -1,62 +1,82 @@
 -- Laws of the reader: what it yields at a cursor, and that it moves on.
-use mathlib.Core.Path.{◌≡◌, ◌∙◌}
-use mathlib.Core.Bool.{true, false}
+use Rattle.std.specs.Prelude.{Option, Some, None, Result, Ok, Err}
+use mathlib.Core.Path.{◌≡◌, refl, ap, ◌∙◌}
+use mathlib.Core.Bool.{false}
 use mathlib.Core.List.{List}
-use Prim.Native.Nat.{ℕ}
-use Rattle.std.specs.Prelude.{Some, None}
-use lib.Dec.{leb}
+use Prim.Native.Nat.{ℕ, ◌≤◌}
+use native.Mathlib.Omega.{arith}
 use lib.ListN.{length}
 use borrow.Author.Rules.{rules}
 use Rattle.refusals.specs.declared.Refusal.{Refusal}
-use Rattle.saxlite.specs.declared.step.Step.{Step}
-use Rattle.saxlite.specs.declared.step.Step.TheVariants as step
-use Rattle.saxlite.specs.declared.reader.Event.TheVariants.{Text, Open, Close, Skipped, End, Refused}
-use Rattle.saxlite.specs.declared.reader.Cursor.{Cursor}
-use Rattle.saxlite.specs.declared.reader.Owed.{Owed}
-use Rattle.saxlite.specs.declared.reader.Read.{Read}
-use Rattle.saxlite.specs.Step.{step_at}
-use Rattle.saxlite.specs.Reader.{cursor_at, read_step, owed_close, read_at, at_end}
+use Rattle.saxlite.specs.Passing.{is_silent, Passed, PassedAll}
+use Rattle.saxlite.specs.Reader.{bare, owing, to_come, Here, Asked, Yields}
+use Rattle.saxlite.specs.Events.{events_from}
+use Rattle.saxlite.specs.declared.event.Event.TheVariants.{Close}
+use Rattle.saxlite.specs.declared.event.Owed.{Owed}
+use Rattle.saxlite.specs.declared.event.Cursor.{Cursor}
+use Rattle.saxlite.specs.declared.event.Read.{Read}
+use Rattle.saxlite.specs.declared.reader.Reader.{Reader}
+use Rattle.saxlite.proofs.Following.{from_end}
 
 module _ (doc : List ℕ) (c : Cursor) where
-  pub read-owed : {o : Owed} → c.owed ≡ Some o → {r : Read} → r ≡ owed_close c.at o → r ≡ read_at doc c
-  unfolding read_at
-  read-owed t e = e ∙ rw t
+  -- an owed close
+  pub asked-owed : {o : Owed} → c.owed ≡ Some o → {r : Read} → r ≡ bare (Close o.name o.len) o.place c.at → Asked doc c (Ok (Some r))
+  asked-owed t e =
+      rw e
+      (record {
+        is = rw t refl;
+        moves = record { grows = omega arith; less = omega (arith, ap owing t); within = λ h. h; inside = tt; noted = tt };
+      })
 
-  pub read-step : c.owed ≡ None → {s : Step} → s ≡ step_at doc c.at → {r : Read} → r ≡ read_step c.at s → r ≡ read_at doc c
-  unfolding read_at
-  read-step t es er = er ∙ rw (t, es)
+  -- where none is owed, past markup that is no event
+  module _ (t : c.owed ≡ None) where
+    come : to_come doc c ≡ events_from doc c.at
+    come = rw t refl
 
-  pub owed-end : {o : Owed} → c.owed ≡ Some o → false ≡ at_end doc c
-  unfolding at_end
-  owed-end t = rw t
+    pub asked-broken : {p : Result ℕ Refusal} → PassedAll doc c.at p → {q : Refusal} → p ≡ Err q → Asked doc c (Err q)
+    asked-broken a e = record { is = come ∙ (rw e at a).broken; moves = tt }
 
-  pub free-end : c.owed ≡ None → leb (length doc) c.at ≡ at_end doc c
-  unfolding at_end
-  free-end t = rw t
+    module _ {p : Result ℕ Refusal} (a : PassedAll doc c.at p) {i : ℕ} (e : p ≡ Ok i) where
+      passed : Passed doc c.at i × (is_silent doc i ≡ false)
+      passed = (rw e at a).on
 
--- by the step that stands there
-module _ (at : ℕ) (s : Step) (k : Cursor) where
-  pub by-text : (from len next : ℕ) → s ≡ step.Text from len next → k ≡ cursor_at next → record { event = Text from len; place = at; cursor = k } ≡ read_step at s
-  by-text from len next e f = rw (e, f)
+      pub passed-loud : is_silent doc i ≡ false
+      passed-loud = passed.1
 
-  pub by-close : (name n next : ℕ) → s ≡ step.Close name n next → k ≡ cursor_at next → record { event = Close name n; place = at; cursor = k } ≡ read_step at s
-  by-close name n next e f = rw (e, f)
+      pub asked-end : length doc ≤ i → Asked doc c (Ok None)
+      asked-end h = record { is = come ∙ passed.0.is ∙ from_end doc h; moves = tt }
 
-  pub by-skipped : (next : ℕ) → s ≡ step.Skipped next → k ≡ cursor_at next → record { event = Skipped; place = at; cursor = k } ≡ read_step at s
-  by-skipped next e f = rw (e, f)
+      module _ {h : Result Read Refusal} (x : Here (events_from doc i) doc i h) where
+        pub asked-bad : {q : Refusal} → h ≡ Err q → Asked doc c (Err q)
+        asked-bad f = record { is = come ∙ passed.0.is ∙ (rw f at x).is; moves = tt }
 
-  pub by_end : s ≡ step.End → k ≡ cursor_at at → record { event = End; place = at; cursor = k } ≡ read_step at s
-  by_end e f = rw (e, f)
+        pub asked-read : {r : Read} → h ≡ Ok r → Asked doc c (Ok (Some r))
+        asked-read {r} f =
+            let m = (rw f at x).moves in
+            let z : owing c.owed ≡ 0 = ap owing t in
+            record {
+              is = come ∙ passed.0.is ∙ (rw f at x).is;
+              moves =
+                  record {
+                    grows = omega (arith, passed.0.forward, m.grows);
+                    less = omega (arith, passed.0.forward, m.less, z);
+                    within = λ l. m.within (passed.0.within l);
+                    inside = m.inside;
+                    noted = m.noted;
+                  };
+            }
 
-  pub by-refused : (q : Refusal) → s ≡ step.Refused q → k ≡ cursor_at at → record { event = Refused q; place = at; cursor = k } ≡ read_step at s
-  by-refused q e f = rw (e, f)
+-- a reader, by what is read at its cursor
+module _ {r r' : Reader} {a : Result (Option Read) Refusal} (x : Asked r.doc.now r.cursor a) (d : r'.doc ≡ r.doc) where
+  pub yields-bad : {q : Refusal} → a ≡ Err q → Yields r r' (Err q)
+  yields-bad e = record { doc = d; is = (rw e at x).is; moves = tt }
 
-module _ (at : ℕ) (s : Step) (name n attributes next : ℕ) where
-  pub by-open : s ≡ step.Open name n attributes next false → record { event = Open name n attributes next; place = at; cursor = cursor_at next } ≡ read_step at s
-  by-open e = rw e
+  pub yields-none : {o : Option Read} → a ≡ Ok o → o ≡ None → Yields r r' (Ok None)
+  yields-none e f = record { doc = d; is = (rw (e ∙ ap Ok f) at x).is; moves = tt }
 
-  pub by-owing : s ≡ step.Open name n attributes next true
-      → record { event = Open name n attributes next; place = at; cursor = record { at = next; owed = Some (record { place = at; name = name; len = n }) } } ≡ read_step at s
-  by-owing e = rw e
+  pub yields-told : {o : Option Read} → a ≡ Ok o → {k : Read} → o ≡ Some k → r'.cursor ≡ k.cursor → Yields r r' (Ok (Some k.told))
+  yields-told e f c =
+      let y = rw (e ∙ ap Ok f) at x in
+      record { doc = d; is = y.is ∙ rw c refl; moves = rw c y.moves }
 
-pub ruleset reading = (read-owed, read-step, owed-end, free-end, by-text, by-close, by-skipped, by_end, by-refused, by-open, by-owing, rules)
+pub ruleset reading = (asked-owed, asked-broken, passed-loud, asked-end, asked-bad, asked-read, yields-bad, yields-none, yields-told, rules)

@@ -1,44 +1,33 @@
--- Trials of 01, computed from the definitions.
+-- The events of small documents, computed from the definitions.
 use mathlib.Core.Path.{◌≡◌, refl}
-use mathlib.Core.Bool.{true, false}
 use mathlib.Core.List.{List, [], ◌∷◌}
 use Rattle.texts.specs.Text.{ascii, same, starts_with}
 use Rattle.classes.specs.Class.{is_space, is_tag_name_end, is_attribute_name_end}
-use Rattle.refusals.specs.declared.Refusal.TheVariants.{OpenComment, NoTagName, NoAttributeName, NoEquals, OpenValue}
+use Rattle.refusals.specs.declared.Refusal.TheVariants.{OpenComment, NoTagName, NoAttributeName, NoEquals}
 use Rattle.tags.specs.Find.{find_in}
 use Rattle.tags.specs.Names.{prefix_length, is_xmlns}
 use Rattle.tags.specs.Attributes.{quoted_at, value_at, attribute_part_at, tag_part_at, with_part, tag_within}
-use Rattle.saxlite.specs.declared.step.Step.{Step}
-use Rattle.saxlite.specs.declared.step.Step.TheVariants.{Text, Open, Close, Refused}
-use Rattle.saxlite.specs.Step.{text_at, past_end, skipped_to, close_at, open_with, open_at, markup_at, step_at}
+use Rattle.saxlite.specs.Event.{Events, closes, next, done, broken}
+use Rattle.saxlite.specs.Events.{text_at, past, past_end, close_at, open_by, open_at, events_at, events_within, events}
 
--- the step at the front of each document
-pub steps : List Step
-steps =
-    step_at (ascii "</>") 0
-    ∷ step_at (ascii "<!-->") 0
-    ∷ step_at (ascii "<") 0
-    ∷ step_at (ascii "<a b>") 0
-    ∷ step_at (ascii "<a/ >") 0
-    ∷ step_at (ascii "<:>") 0
-    ∷ step_at (ascii "<a b = 'c") 0
-    ∷ step_at (ascii "x:y</a>") 0
-    ∷ step_at (ascii "</p:a >") 0
-    ∷ step_at (ascii "<p:a b='1'c=\"2\" />") 0
+pub trials : List Events
+trials =
+    events (ascii "</>")
+    ∷ events (ascii "<!-->")
+    ∷ events (ascii "<")
+    ∷ events (ascii "<a b>")
+    ∷ events (ascii "<a/ >")
+    ∷ events (ascii "<!----><?a?><!b></p:a >")
     ∷ []
 
-pub trials :
-    steps ≡
-    Close 2 0 3
-    ∷ Refused (OpenComment 0)
-    ∷ Refused (NoTagName 1 0)
-    ∷ Refused (NoEquals 4 0)
-    ∷ Refused (NoAttributeName 2 0)
-    ∷ Open 2 0 2 3 false
-    ∷ Refused (OpenValue 8 0)
-    ∷ Text 0 3 3
-    ∷ Close 4 1 7
-    ∷ Open 3 1 4 18 true
+pub told :
+    trials ≡
+    next 0 (closes []) done
+    ∷ broken (OpenComment 0)
+    ∷ broken (NoTagName 1 0)
+    ∷ broken (NoEquals 4 0)
+    ∷ broken (NoAttributeName 2 0)
+    ∷ next 16 (closes (ascii "a")) done
     ∷ []
-unfolding steps step_at markup_at open_at open_with close_at skipped_to past_end text_at find_in tag_within with_part tag_part_at attribute_part_at value_at quoted_at prefix_length is_xmlns same starts_with is_space is_tag_name_end is_attribute_name_end
-trials = refl
+unfolding trials events_within events_at open_at open_by close_at past_end past text_at find_in tag_within with_part tag_part_at attribute_part_at value_at quoted_at prefix_length is_xmlns same starts_with is_space is_tag_name_end is_attribute_name_end
+told = refl

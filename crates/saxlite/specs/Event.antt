@@ -1,28 +1,32 @@
--- Events: what a step means to those who read a document through it.
+-- Events: what a reader of markup yields, one at a time.
 use Rattle.std.specs.Prelude.{List, ℕ, Option, Some, None}
 use Rattle.texts.specs.Text.{piece}
 use Rattle.entities.specs.Entities.{decoded}
 use Rattle.texts.specs.declared.Range.{Range}
+use Rattle.refusals.specs.declared.Refusal.{Refusal}
 use Rattle.tags.specs.Attributes.{attribute_at}
-use Rattle.saxlite.specs.declared.step.Step.{Step}
-use Rattle.saxlite.specs.declared.step.Step.TheVariants.{Text, Open, Close, Skipped, End, Refused}
 
--- text, decoded; an open with its local name and its attributes, as a function from a name to the decoded value; a close
+-- the attributes of a tag: under a local name the decoded value, if there is one
+abbrev pub Attributes : Type 0
+Attributes = List ℕ → Option (List ℕ)
+
+-- text, decoded; an open tag with its local name and its attributes; a close tag with its local name
 pub data Event : Type 0 where
   text : List ℕ → Event
-  opened : List ℕ → (List ℕ → Option (List ℕ)) → Event
-  closed : List ℕ → Event
+  opens : List ℕ → Attributes → Event
+  closes : List ℕ → Event
+
+-- the events of a document one after another, each behind its place; at last the document's end, or what it is refused by
+pub data Events : Type 0 where
+  done : Events
+  broken : Refusal → Events
+  next : ℕ → Event → Events → Events
 
 -- what a look-up found, decoded
 abbrev pub value_in : List ℕ → Option Range → Option (List ℕ)
 value_in doc (Some found) = Some (decoded (piece doc found.from found.len))
 value_in doc None = None
 
--- the event that a step gives, if it gives one
-abbrev pub event_in : List ℕ → Step → Option Event
-event_in doc (Text from len next) = Some (text (decoded (piece doc from len)))
-event_in doc (Open name n attributes next self-closed) = Some (opened (piece doc name n) (λ a. value_in doc (attribute_at doc attributes a)))
-event_in doc (Close name n next) = Some (closed (piece doc name n))
-event_in doc (Skipped next) = None
-event_in doc End = None
-event_in doc (Refused refusal) = None
+-- the attributes of the tag whose attributes begin at a place
+abbrev pub attributes_in : List ℕ → ℕ → Attributes
+attributes_in doc attributes key = value_in doc (attribute_at doc attributes key)

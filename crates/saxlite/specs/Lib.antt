@@ -1,6 +1,6 @@
--- 01, "Reading markup": what the reader answers at each place of a document.
-pub mod Step
+-- Reading markup: the events of a document. A customer reads Event, Events and Fuel; Reader and Passing are internal.
 pub mod Event
+pub mod Events
+pub mod Fuel
 pub mod Reader
-pub mod Noting
 pub mod Passing

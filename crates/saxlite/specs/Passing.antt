@@ -1,24 +1,33 @@
--- What is passed because it changes nothing. Internal.
-use Rattle.std.specs.Prelude.{◌≡◌, Bool, true, false, List, ℕ, ◌+◌, ◌≤◌, ◌<◌, length, drop, Option, Some, None}
+-- Markup that is passed because it is no event: comments, instructions, declarations. Internal.
+use Rattle.std.specs.Prelude.{◌≡◌, Bool, false, List, ℕ, ◌+◌, ◌≤◌, ◌<◌, length, drop, Option, Some, None, Result, Ok, Err, IfOk}
+use Rattle.std.specs.Result.{IfErr}
+use Rattle.texts.specs.Choice.{◌or◌}
 use Rattle.texts.specs.Text.{starts_with}
 use Rattle.texts.specs.Scan.{scan, until, is as byte_is}
 use Rattle.refusals.specs.declared.Refusal.{Refusal}
-use Rattle.tags.specs.Find.{find_from}
-use Rattle.saxlite.specs.declared.step.Step.{Step}
-use Rattle.saxlite.specs.declared.step.Step.TheVariants.{Text, Close, Skipped, Refused}
-use Rattle.saxlite.specs.Step.{step_at}
+use Rattle.tags.specs.Find.{stands, find_from}
+use Rattle.saxlite.specs.Event.{broken}
+use Rattle.saxlite.specs.Events.{events_from}
 
--- the step of the reader at i leads to j and changes nothing: it is text and none is collected, or skipped, or a close of no name
--- outside of every element
-pub data Idles (doc : List ℕ) (collecting outside : Bool) (i j : ℕ) : Type 0 where
-  text : {from len : ℕ} → collecting ≡ false → step_at doc i ≡ Text from len j → Idles doc collecting outside i j
-  skipped : step_at doc i ≡ Skipped j → Idles doc collecting outside i j
-  nameless : {name : ℕ} → outside ≡ true → step_at doc i ≡ Close name 0 j → Idles doc collecting outside i j
+-- the events are the same from r on as from `at` on
+pub record Passed (doc : List ℕ) (at r : ℕ) : Type 0 where
+  pub is : events_from doc at ≡ events_from doc r
+  pub forward : at ≤ r
+  pub within : at ≤ length doc → r ≤ length doc
 
--- any number of such steps leads from one place to another. None is as good as many: what was not passed is read
-pub data Idle (doc : List ℕ) (collecting outside : Bool) : ℕ → ℕ → Type 0 where
-  stay : {i : ℕ} → Idle doc collecting outside i i
-  on : {i j k : ℕ} → Idles doc collecting outside i j → Idle doc collecting outside j k → Idle doc collecting outside i k
+-- markup that is no event begins at a place
+unfoldable pub is_silent : List ℕ → ℕ → Bool
+is_silent doc at = stands "<!" doc at or stands "<?" doc at
+
+-- past one such piece of markup or more, or refused since it does not end
+pub record PassedSome (doc : List ℕ) (at : ℕ) (r : Result ℕ Refusal) : Type 0 where
+  pub on : IfOk r (λ i. Passed doc at i × (at < i) × (i ≤ length doc))
+  pub broken : IfErr r (λ q. events_from doc at ≡ broken q)
+
+-- past all of it
+pub record PassedAll (doc : List ℕ) (at : ℕ) (r : Result ℕ Refusal) : Type 0 where
+  pub on : IfOk r (λ i. Passed doc at i × (is_silent doc i ≡ false))
+  pub broken : IfErr r (λ q. events_from doc at ≡ broken q)
 
 -- whether the needle stands at a place
 pub record Stands (needle doc : List ℕ) (i : ℕ) (r : Bool) : Type 0 where
@@ -37,7 +46,7 @@ pub record FirstAt (x : ℕ) (doc : List ℕ) (at : ℕ) (o : Option ℕ) : Type
 pub record EndsAt (needle doc : List ℕ) (from : ℕ) (o : Option ℕ) : Type 0 where
   pub is : {i : ℕ} → o ≡ Some i → FoundAt needle doc from i × (i < length doc)
 
--- the step past the n bytes at `end`, or a refusal, where what is open does not end within the document
-pub record StepPast (doc : List ℕ) (end n : ℕ) (refusal : Refusal) (r : Step) : Type 0 where
-  pub past : end < length doc → r ≡ Skipped (end + n)
-  pub refused : length doc ≤ end → r ≡ Refused refusal
+-- past the n bytes at `end`, or a refusal, where what is open does not end within the document
+pub record EndPassed (doc : List ℕ) (end n : ℕ) (refusal : Refusal) (r : Result ℕ Refusal) : Type 0 where
+  pub past : end < length doc → r ≡ Ok (end + n)
+  pub refused : length doc ≤ end → r ≡ Err refusal

@@ -1,19 +1,16 @@
-// A reader of markup, by position.
-//
-// `step::step_at` tells what stands at a place of the document: text, an open tag, a close tag,
-// markup that is passed over, the end, or a refusal (11 to 20). An open tag has been read whole (`tags`)
-// before it is told of: `step::step_noting` tells with it the values that its element looks up.
-// `reader::Reader` holds the document and yields one event at a time. `passing` goes past what changes
-// nothing, as comments and text that nobody collects, in one loop.
-//
-// A reader and a cursor require nothing of a caller. Each promise is one equation with a definition of specs/, on all inputs:
-// specs/Step.antt and specs/Reader.antt, after 01, "Reading markup". What a step means is specs/Event.antt,
-// with texts and values decoded (`entities`). `passing` promises that it passed such steps alone (specs/Passing.antt).
-// Every step moves forward and stays within the document (proofs/Moving.antt).
-//
-// kept: a document and a place in it are two parameters, as in tags.
+//! A reader of markup: the events of a document, one at a time.
+//!
+//! `reader::Reader` holds the document and where it stands. `next` yields text, an open tag with what its element looks up, or a
+//! close tag; a self-closed tag is an open, then a close. `passing` goes past comments, instructions and declarations, which
+//! are no events; `markup` reads what stands at a place; `event` has the types.
+//!
+//! A reader requires nothing of its caller. What it promises, on all inputs, is one equation with the events of the document
+//! (specs/Event.antt, specs/Events.antt): what `next` answers, before what is still to come, is what was to come (`Yields`,
+//! specs/Reader.antt). `fuel` names the law that these definitions never end for want of fuel.
 #![tactic(auto)]
 
-pub mod passing;
+pub mod event;
+pub mod fuel;
+mod markup;
+mod passing;
 pub mod reader;
-pub mod step;

@@ -1,16 +1,12 @@
-// Past what changes nothing, in one loop: text that nobody collects, comments, instructions, declarations, and closes of no
-// name outside of every element. Each is a step of the reader (specs/Passing.antt), and here a turn of its driver less. This
-// is for speed alone: what is not passed is read. Where markup that is skipped ends, the reader asks here too.
-//
-// kept: whether text is collected, and whether no element is open, are two parameters. The state tells both anew between two turns, and half
-// of what is passed asks for one alone.
-#![tactic(auto, using(crate::proofs::Finding::finding, crate::proofs::Idling::passing))]
+//! Past markup that is no event, comments, instructions and declarations: rows of them in a loop each, and any one of them by words.
+#![tactic(auto, using(crate::proofs::Finding::finding, crate::proofs::Silence::passing))]
 
-ghost use Rattle.std.specs.Prelude.{◌≡◌, true, false, List, [], ◌∷◌, ℕ, ◌+◌, ◌%◌, ◌≤◌, ◌<◌, length};
+ghost use Rattle.std.specs.Prelude.{◌≡◌, true, List, [], ◌∷◌, ℕ, ◌+◌, ◌%◌, ◌≤◌, ◌<◌, length};
 ghost use Rattle.texts.specs.Text.{ascii};
 ghost use Rattle.words.specs.Standing.{ShortText};
-ghost use Rattle.saxlite.specs.Passing.{Idle, Stands, FoundAt, FirstAt, EndsAt};
+ghost use Rattle.saxlite.specs.Passing.{Passed, PassedSome, PassedAll, is_silent, Stands, FoundAt, FirstAt, EndsAt, EndPassed};
 
+use refusals::Refusal;
 use tags::scan::{byte_from, find};
 use words::{half_at, stands_short, text_from};
 
@@ -259,7 +255,7 @@ fn comment_begins(doc: &[u8], i: usize) -> bool
 // Past the comments at `at`, one behind the other.
 fn past_comments(doc: &[u8], at: usize) -> usize
     requires { at + 32 ≤ length doc.now }
-    ensures { Idle doc.now true false at result }
+    ensures { Passed doc.now at result }
 {
     let last = doc.len() - 32;
     let mut i = at;
@@ -279,7 +275,7 @@ fn past_comments(doc: &[u8], at: usize) -> usize
 // Past the instructions at `at`, one behind the other.
 fn past_instructions(doc: &[u8], at: usize) -> usize
     requires { at + 32 ≤ length doc.now }
-    ensures { Idle doc.now true false at result }
+    ensures { Passed doc.now at result }
 {
     let last = doc.len() - 32;
     let mut i = at;
@@ -299,7 +295,7 @@ fn past_instructions(doc: &[u8], at: usize) -> usize
 // Past the declarations at `at`, one behind the other.
 fn past_declarations(doc: &[u8], at: usize) -> usize
     requires { at + 32 ≤ length doc.now }
-    ensures { Idle doc.now true false at result }
+    ensures { Passed doc.now at result }
 {
     let last = doc.len() - 32;
     let mut i = at;
@@ -319,122 +315,79 @@ fn past_declarations(doc: &[u8], at: usize) -> usize
     i
 }
 
-// Past the markup at `at`, where it changes nothing.
-fn past_markup(doc: &[u8], at: usize, outside: bool) -> usize
+// Past a row of the markup that begins at `at`.
+fn past_row(doc: &[u8], at: usize) -> usize
     requires { at + 32 ≤ length doc.now }
-    ensures { Idle doc.now true outside at result }
+    ensures { Passed doc.now at result }
 {
-    if doc[at + 1] == b'!' {
-        if comment_begins(doc, at) {
-            return past_comments(doc, at);
-        }
-        return past_declarations(doc, at);
-    }
     if doc[at + 1] == b'?' {
         return past_instructions(doc, at);
     }
-    if outside {
-        if stands_short(doc, at, 0x100_0000, 0x3e_2f3c) {
-            return at + 3;
+    if comment_begins(doc, at) {
+        return past_comments(doc, at);
+    }
+    past_declarations(doc, at)
+}
+
+// ---- anywhere in the document
+
+// Past the `n` bytes at `end`, or refused where nothing ends.
+fn past_end(doc: &[u8], end: usize, n: usize, refusal: Refusal) -> Result<usize, Refusal>
+    requires { n ≤ 8 }
+    ensures { EndPassed doc.now end n refusal result }
+{
+    if end < doc.len() {
+        return Ok(end + n);
+    }
+    Err(refusal)
+}
+
+// Past the one piece of markup at `at`.
+fn past_piece(doc: &[u8], at: usize) -> Result<usize, Refusal>
+    requires { is_silent doc.now at ≡ true }
+    ensures { PassedSome doc.now at result }
+{
+    if texts::starts_with(doc, at, b"<!--") {
+        let end = CommentEnd::far(doc, at + 4);
+        return past_end(doc, end, 3, Refusal::OpenComment { at });
+    }
+    if texts::starts_with(doc, at, b"<?") {
+        let end = InstructionEnd::far(doc, at + 2);
+        return past_end(doc, end, 2, Refusal::OpenInstruction { at });
+    }
+    let end = DeclarationEnd::far(doc, at + 2);
+    past_end(doc, end, 1, Refusal::OpenDeclaration { at })
+}
+
+// Past the markup at `at`, and what of its row can be passed with it.
+fn past_some(doc: &[u8], at: usize) -> Result<usize, Refusal>
+    requires { is_silent doc.now at ≡ true }
+    ensures { PassedSome doc.now at result }
+{
+    if 32 <= doc.len() - at {
+        let next = past_row(doc, at);
+        if at < next {
+            return Ok(next);
         }
     }
-    at
+    past_piece(doc, at)
 }
 
-// Past the text at `at`, where none is collected.
-fn past_text(doc: &[u8], at: usize, collecting: bool) -> usize
-    ensures { Idle doc.now collecting false at result }
+// Whether markup that is no event begins at `at`.
+fn is_silent(doc: &[u8], at: usize) -> bool
+    ensures { result ≡ is_silent doc.now at }
 {
-    if collecting {
-        return at;
-    }
-    byte_from(doc, at, b'<')
+    texts::starts_with(doc, at, b"<!") || texts::starts_with(doc, at, b"<?")
 }
 
-// Past what stands at `at`. A tag that opens is told by its first letter, which is none of those that begin other markup.
-fn past_one(doc: &[u8], at: usize, collecting: bool, outside: bool) -> usize
-    requires { at + 32 ≤ length doc.now }
-    ensures { Idle doc.now collecting outside at result }
+// From `at` on past all markup that is no event, or refused where some of it does not end.
+pub(crate) fn past_silent(doc: &[u8], at: usize) -> Result<usize, Refusal>
+    ensures { PassedAll doc.now at result }
 {
-    if doc[at] == b'<' {
-        if b'@' <= doc[at + 1] {
-            return at;
-        }
-        return past_markup(doc, at, outside);
-    }
-    past_text(doc, at, collecting)
-}
-
-// From `at` on past all that changes nothing, but for markup in the last 31 bytes.
-pub fn past_idle(doc: &[u8], at: usize, collecting: bool, outside: bool) -> usize
-    ensures { Idle doc.now collecting outside at result }
-{
-    if doc.len() < 32 {
-        return past_text(doc, at, collecting);
-    }
-    let last = doc.len() - 32;
     let mut i = at;
-    // kept: a `while`, since its steps are pieces of markup and text.
-    while i <= last {
-        let next = past_one(doc, i, collecting, outside);
-        if next == i {
-            return i;
-        }
-        i = next;
+    // kept: a `while`, since its steps are pieces of markup.
+    while is_silent(doc, i) {
+        i = past_some(doc, i)?;
     }
-    past_text(doc, i, collecting)
-}
-
-// The same as `past_text`, for a place where most often a tag stands.
-fn text_end(doc: &[u8], at: usize, collecting: bool) -> usize
-    requires { at < length doc.now }
-    ensures { Idle doc.now collecting false at result × (result ≤ length doc.now) }
-{
-    if collecting {
-        return at;
-    }
-    if doc[at] == b'<' {
-        return at;
-    }
-    byte_from(doc, at, b'<')
-}
-
-// Whether markup that may be passed begins at `at`.
-fn may_pass(doc: &[u8], at: usize, outside: bool) -> bool
-    requires { at + 8 ≤ length doc.now }
-{
-    let b = doc[at + 1];
-    if b'@' <= b {
-        return false;
-    }
-    if b == b'/' {
-        return outside;
-    }
-    doc[at] == b'<'
-}
-
-// `past_idle`, called from a function of its own: a slice that is lent on to a call is kept in memory by the compiler wherever
-// its lender uses it, and the lender of this one stands in the driver's loop.
-fn past_more(doc: &[u8], at: usize, collecting: bool, outside: bool) -> usize
-    ensures { Idle doc.now collecting outside at result }
-{
-    past_idle(doc, at, collecting, outside)
-}
-
-// The same as `past_idle`, for between two tags: the loop is entered only where it is likely to pass something. `past_idle`
-// has two callers, so that the compiler keeps it out of the driver's loop.
-pub fn past_between(doc: &[u8], at: usize, collecting: bool, outside: bool) -> usize
-    ensures { Idle doc.now collecting outside at result }
-{
-    if doc.len() <= at {
-        return at;
-    }
-    let i = text_end(doc, at, collecting);
-    if doc.len() - i < 8 {
-        return i;
-    }
-    if may_pass(doc, i, outside) {
-        return past_more(doc, i, collecting, outside);
-    }
-    i
+    Ok(i)
 }

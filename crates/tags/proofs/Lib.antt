@@ -2,7 +2,7 @@
 pub mod Searching
 pub mod Naming
 mod Parting
-mod Tagging
+pub mod Tagging
 mod Placeless
 mod Looking
 mod Stopping

@@ -1,13 +1,13 @@
 use native.Mathlib.Omega.{arith}
 use Rattle.saxlite.proofs.Finding.{ends-within}
-use Rattle.saxlite.proofs.Idling.{idle_then, comment-past}
+use Rattle.saxlite.proofs.Silence.{passed_then, comment-past}
 use Rattle.saxlite.proofs.passing.past_comments.Goals as goal
 
 pub loop-i-smaller : goal.loop-i-smaller
 loop-i-smaller c = omega (arith, ends-within c.comment_end.ensures c.in-Some.is)
 
 pub loop-i-preserved : goal.loop-i-preserved
-loop-i-preserved c = (idle_then c.loop-i.invariant.0 (comment-past (rw c.if-not-comment_begins.false at c.comment_begins.ensures) c.comment_end.ensures c.in-Some.is), omega arith)
+loop-i-preserved c = (passed_then c.loop-i.invariant.0 (comment-past (rw c.if-not-comment_begins.false at c.comment_begins.ensures) c.comment_end.ensures c.in-Some.is), omega arith)
 
 pub overflow_add-i-in-Some : goal.overflow_add-i-in-Some
 overflow_add-i-in-Some c = omega (arith, ends-within c.comment_end.ensures c.in-Some.is)

@@ -1,12 +1,11 @@
 use mathlib.Core.Path.{◌≡◌}
-use mathlib.Core.Bool.{true, false}
 use Prim.Native.Nat.{◌+◌, ◌-◌}
 use lib.ListN.{length}
-use Rattle.saxlite.specs.Passing.{Idle}
+use Rattle.saxlite.specs.Passing.{Passed}
 use Rattle.saxlite.proofs.passing.past_comments.Given as goal
 
 abbrev pub invariant-loop-i : goal.invariant-loop-i
-invariant-loop-i l = Idle l.doc true false l.at l.i × (l.last + 32 ≡ length l.doc)
+invariant-loop-i l = Passed l.doc l.at l.i × (l.last + 32 ≡ length l.doc)
 
 abbrev pub decreases-loop-i : goal.decreases-loop-i
 decreases-loop-i l = length l.doc - l.i

@@ -1,0 +1,171 @@
+-- Laws of what stands at a place: text, a close tag, an open tag. Each premise is what a call or a test says.
+use Rattle.std.specs.Prelude.{Some, None, Result, Ok, Err}
+use mathlib.Core.Path.{◌≡◌, refl, sym, ap, ◌∙◌}
+use mathlib.Core.Bool.{Bool, true, false}
+use mathlib.Core.List.{List, []}
+use Prim.Native.Nat.{ℕ, ◌+◌, ◌-◌, ◌≤◌, ◌<◌}
+use native.Mathlib.Omega.{arith}
+use lib.ListN.{length, drop}
+use borrow.Author.Tests.{eq-eqb, ne_eqb}
+use borrow.Author.Rules.{rules}
+use Rattle.texts.specs.Choice.{pick}
+use Rattle.texts.specs.Text.{ascii, piece, starts_with}
+use Rattle.texts.specs.Scan.{scan, until, is}
+use Rattle.texts.proofs.Scanning.{scan-from}
+use Rattle.classes.specs.Class.{is_space, is_tag_name_end}
+use Rattle.refusals.specs.declared.Refusal.{Refusal}
+use Rattle.refusals.specs.declared.Refusal.TheVariants.{NoCloseTagEnd, NoTagName}
+use Rattle.tags.specs.declared.tag.Ending.{Ending}
+use Rattle.tags.specs.declared.tag.Whole.{Whole}
+use Rattle.tags.specs.declared.beginning.Opening.{Opening}
+use Rattle.tags.specs.declared.beginning.Beginning.{Beginning}
+use Rattle.tags.specs.Names.{prefix_length, local_name}
+use Rattle.tags.specs.Attributes.{tag_at}
+use Rattle.tags.specs.Noting.{NotedBy}
+use Rattle.tags.specs.Known.{keys_by}
+use Rattle.tags.specs.Beginning.{Opens, BeginsAt}
+use Rattle.tags.proofs.Searching.{stands-within, stands_on, stands-fits, scan-within, scan-moves}
+use Rattle.tags.proofs.Naming.{local-range, lost-within, lost-fits}
+use Rattle.tags.proofs.Coding.{by-keys}
+use Rattle.tags.proofs.Ranges.{ending-past, ending-inside}
+use Rattle.tags.proofs.Begun.{closing-within, closing-fits, closing-next-fits, closing-lost, closing-local-fits, closing-ends, closing-due, closing-stands, closing-prefix, begun-from, begun-lost, begun-fits}
+use Rattle.saxlite.specs.Event.{Events, opens, closes, next, attributes_in}
+use Rattle.saxlite.specs.Events.{text_at, close_at, open_by, open_at, events_at, events_from}
+use Rattle.saxlite.specs.Passing.{is_silent}
+use Rattle.saxlite.specs.Reader.{bare, behind, owed_before, owing, Here}
+use Rattle.saxlite.specs.declared.event.Event.TheVariants.{Text, Open, Close}
+use Rattle.saxlite.specs.declared.event.Owed.{Owed}
+use Rattle.saxlite.specs.declared.event.Cursor.{Cursor}
+use Rattle.saxlite.specs.declared.event.Read.{Read}
+use Rattle.saxlite.proofs.Following.{from-on}
+use Rattle.saxlite.proofs.Silence.{front-not, second-differs, silent-not}
+
+-- ---- text
+
+pub text-told : (doc : List ℕ) (at : ℕ) → at < length doc → starts_with (ascii "<") (drop at doc) ≡ false → {end : ℕ} → end ≡ scan (until (is 60)) doc at
+    → {r : Read} → r ≡ bare (Text at (end - at)) at end → Here (text_at (events_from doc) doc at) doc at (Ok r)
+unfolding text_at
+text-told doc at h f {end} e k =
+    let m : at < end = rw e (scan-moves 60 doc at h f) in
+    let w : end ≤ length doc = rw e (scan-within (until (is 60)) doc at (omega arith)) in
+    rw k
+    (record {
+      is = rw (← e) refl;
+      moves = record { grows = omega arith; less = omega arith; within = λ l. w; inside = tt; noted = tt };
+    })
+
+-- ---- a close tag
+
+module _ (doc : List ℕ) (at : ℕ) {end : ℕ} (e : end ≡ scan (until is_tag_name_end) doc (at + 2)) {due : ℕ} (d : due ≡ scan is_space doc end) {b : Bool} (s : b ≡ starts_with (ascii ">") (drop due doc)) where
+  pub close-told : b ≡ true → {w : List ℕ} → w ≡ piece doc (at + 2) (end - (at + 2)) → {lost : ℕ} → lost ≡ prefix_length w
+      → {r : Read} → r ≡ bare (Close (at + 2 + lost) (end - (at + 2) - lost)) at (due + 1) → Here (close_at (events_from doc) doc at) doc at (Ok r)
+  unfolding close_at
+  close-told t {w} p {lost} l k =
+      let n : piece doc (at + 2 + lost) (end - (at + 2) - lost) ≡ local_name (piece doc (at + 2) (end - (at + 2))) = rw (l, p) (local-range doc (at + 2) (end - (at + 2))) in
+      let h : due + 1 ≤ length doc = stands-within (ascii ">") doc due (sym s ∙ t) (omega arith) in
+      let f : at + 2 ≤ due = omega (arith, e, d, scan-from (until is_tag_name_end) doc (at + 2), scan-from is_space doc end) in
+      rw k
+      (record {
+        is = rw (← e, ← d, ← s, t) (ap (λ m. next at (closes m) (events_from doc (due + 1))) (sym n));
+        moves = record { grows = omega arith; less = omega arith; within = λ z. h; inside = tt; noted = tt };
+      })
+
+  pub close-open : b ≡ false → Here (close_at (events_from doc) doc at) doc at (Err (NoCloseTagEnd due at))
+  unfolding close_at
+  close-open t = record { is = rw (← e, ← d, ← s, t) refl; moves = tt }
+
+pub known-told : (doc : List ℕ) (at : ℕ) {k : Opening} → Opens 62 doc (at + 2) k
+    → {r : Read} → r ≡ bare (Close (at + 2 + k.lost) (k.len - k.lost)) at (at + 2 + k.len + 1) → Here (close_at (events_from doc) doc at) doc at (Ok r)
+known-told doc at {k} b e =
+    let z : at + 2 + k.len - (at + 2) ≡ k.len = omega arith in
+    close-told doc at (closing-ends doc at b) (closing-due doc at b) (closing-stands doc at b) refl refl (closing-prefix doc at b ∙ rw z refl) (e ∙ rw z refl)
+
+-- ---- an open tag
+
+owing-most : (closed : Bool) (o : Owed) → owing (pick closed (Some o) None) ≤ 1
+owing-most true o = omega arith
+owing-most false o = omega arith
+
+owed-behind : (doc : List ℕ) (at : ℕ) (name : List ℕ) (o : Owed) (closed : Bool) (more : Events) → o.place ≡ at → piece doc o.name o.len ≡ name
+    → pick closed (next at (closes name) more) more ≡ owed_before doc (pick closed (Some o) None) more
+owed-behind doc at name o true more p n = rw (p, n) refl
+owed-behind doc at name o false more p n = refl
+
+module _ (doc : List ℕ) (at : ℕ) (h : at + 1 ≤ length doc) {b : Beginning} (a : BeginsAt doc (at + 1) b) where
+  pub open-unnamed : b.end ≡ at + 1 → Here (open_at (events_from doc) doc at) doc at (Err (NoTagName (at + 1) at))
+  unfolding open_at
+  open-unnamed q = record { is = rw (← a.ends, eq-eqb b.end (at + 1) q) refl; moves = tt }
+
+  module _ (q : b.end ≡ at + 1 → ⊥) {w : Whole} (t : (w.ending ≡ (tag_at doc b.end at).ending) × NotedBy (keys_by b.kind) doc b.end w.noted) where
+    pub open-broken : {refusal : Refusal} → w.ending ≡ Err refusal → Here (open_at (events_from doc) doc at) doc at (Err refusal)
+    unfolding open_at open_by
+    open-broken f = record { is = rw (← a.ends, ne_eqb b.end (at + 1) q, ← t.0, f) refl; moves = tt }
+
+    abbrev local : ℕ
+    local = at + 1 + b.lost
+
+    abbrev long : ℕ
+    long = b.end - (at + 1) - b.lost
+
+    pub open-told : {ending : Ending} → w.ending ≡ Ok ending → {c : Cursor} → c ≡ behind ending (record { place = at; name = local; len = long })
+        → Here (open_at (events_from doc) doc at) doc at (Ok (record { told = record { event = Open local long b.end ending.next; place = at; noted = w.noted }; cursor = c }))
+    unfolding open_at open_by
+    open-told {ending} f {c} k =
+        let n : piece doc local long ≡ local_name (piece doc (at + 1) (b.end - (at + 1))) = rw a.lost (local-range doc (at + 1) (b.end - (at + 1))) in
+        let g : (tag_at doc b.end at).ending ≡ Ok ending = sym t.0 ∙ f in
+        let m : b.end < ending.next = ending-past doc b.end at g in
+        let i : ending.next ≤ length doc = ending-inside doc b.end at g in
+        let s : at + 1 ≤ b.end = begun-from doc (at + 1) a in
+        let l : b.lost ≤ b.end - (at + 1) = begun-lost doc (at + 1) a in
+        record {
+          is =
+              rw (← a.ends, ne_eqb b.end (at + 1) q, g, ← n, k)
+              (ap (next at (opens (piece doc local long) (attributes_in doc b.end))) (owed-behind doc at (piece doc local long) (record { place = at; name = local; len = long }) ending.self_closed (events_from doc ending.next) refl refl));
+          moves =
+              record {
+                grows = rw k (omega arith);
+                less = rw k (omega (arith, owing-most ending.self_closed (record { place = at; name = local; len = long })));
+                within = λ z. rw k i;
+                inside = (record { place = at; closed = ending.self_closed; is = g }, omega arith);
+                noted = by-keys doc b.end a.kind t.1;
+              };
+        }
+
+-- ---- what is told at a place
+
+module _ (doc : List ℕ) (at : ℕ) (h : at < length doc) {r : Result Read Refusal} {b : Bool} (e : b ≡ starts_with (ascii "<") (drop at doc)) where
+  pub here-text : b ≡ false → Here (text_at (events_from doc) doc at) doc at r → Here (events_from doc at) doc at r
+  unfolding events_at
+  here-text t x =
+      let f : starts_with (ascii "<") (drop at doc) ≡ false = sym e ∙ t in
+      record {
+        is =
+            from-on doc h
+            ∙ rw (front-not (ascii "<") (ascii "!--") (drop at doc) f, front-not (ascii "<") (ascii "?") (drop at doc) f, front-not (ascii "<") (ascii "!") (drop at doc) f, front-not (ascii "<") (ascii "/") (drop at doc) f, f) x.is;
+        moves = x.moves;
+      }
+
+  module _ (t : b ≡ true) {c : Bool} (g : c ≡ starts_with (ascii "</") (drop at doc)) where
+    pub here-close : c ≡ true → Here (close_at (events_from doc) doc at) doc at r → Here (events_from doc at) doc at r
+    unfolding events_at
+    here-close y x =
+        let k : starts_with (ascii "</") (drop at doc) ≡ true = sym g ∙ y in
+        record {
+          is = from-on doc h ∙ rw (second-differs 60 47 33 (ascii "--") (drop at doc) refl k, second-differs 60 47 63 [] (drop at doc) refl k, second-differs 60 47 33 [] (drop at doc) refl k, k) x.is;
+          moves = x.moves;
+        }
+
+    pub here-open : c ≡ false → is_silent doc at ≡ false → Here (open_at (events_from doc) doc at) doc at r → Here (events_from doc at) doc at r
+    unfolding events_at
+    here-open n q x =
+        let s = silent-not doc at q in
+        record {
+          is = from-on doc h ∙ rw (front-not (ascii "<!") (ascii "--") (drop at doc) s.0, s.1, s.0, ← g, n, ← e, t) x.is;
+          moves = x.moves;
+        }
+
+-- '</' stands within the document
+pub close-stands : (doc : List ℕ) (at : ℕ) {c : Bool} → c ≡ starts_with (ascii "</") (drop at doc) → c ≡ true → at + 2 ≤ length doc
+close-stands doc at g y = stands-within (ascii "</") doc at (sym g ∙ y) (omega arith)
+
+pub ruleset telling = (stands_on, stands-fits, lost-within, lost-fits, closing-fits, closing-next-fits, closing-lost, closing-local-fits, begun-from, begun-lost, begun-fits, text-told, close-told, close-open, known-told, open-unnamed, open-broken, open-told, here-text, here-close, here-open, close-stands, rules)

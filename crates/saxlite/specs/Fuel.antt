@@ -1,0 +1,13 @@
+-- The definitions of reading count pieces and parts to be seen to end. None of them ever ends because that count is used up.
+use Rattle.std.specs.Prelude.{◌≡◌, List, ℕ, ◌<◌, length}
+use Rattle.tags.specs.Attributes.{tag_within, tag_at}
+use Rattle.saxlite.specs.Event.{Events}
+use Rattle.saxlite.specs.Events.{events_within, events}
+
+-- a document's events are the same whatever stands for a count used up, and for every larger count
+abbrev pub EventsEnd : Type 0
+EventsEnd = (doc : List ℕ) (spent : Events) (k : ℕ) → length doc < k → events_within spent k doc 0 ≡ events doc
+
+-- and so is a tag
+abbrev pub TagsEnd : Type 0
+TagsEnd = (doc : List ℕ) (at place k : ℕ) → length doc < k → tag_within k doc at place ≡ tag_at doc at place

@@ -1,0 +1,84 @@
+//! Events by ranges of the document, and where the reader goes on behind one.
+#![tactic(auto)]
+
+ghost use Rattle.std.specs.Prelude.{◌≡◌};
+ghost use Rattle.saxlite.specs.Reader.{cursor_at, bare};
+
+use tags::tag::{Notes, nothing};
+
+/// What the reader yields. Ranges are of the document.
+#[derive(Clone, Copy)]
+pub enum Event {
+    /// Text, which is still to be decoded.
+    Text {
+        from: usize,
+        len: usize,
+    },
+    /// An open tag: its local name, where its attributes begin, right behind its raw name, and where it ends.
+    Open {
+        name: usize,
+        name_len: usize,
+        attributes: usize,
+        next: usize,
+    },
+    /// A close tag, or the close of a self-closed one: its local name.
+    Close {
+        name: usize,
+        name_len: usize,
+    },
+}
+
+/// An event, the place of its `<` or of its first byte, and what was noted of a tag that is opened.
+#[derive(Clone, Copy)]
+pub struct Told {
+    pub event: Event,
+    pub place: usize,
+    pub noted: Notes,
+}
+
+/// The close that the self-closed tag at `place` owes.
+#[derive(Clone, Copy)]
+pub struct Owed {
+    pub place: usize,
+    pub name: usize,
+    pub len: usize,
+}
+
+/// Where the reader stands, and the close that it yields before it goes on there.
+#[derive(Clone, Copy)]
+pub struct Cursor {
+    pub at: usize,
+    pub owed: Option<Owed>,
+}
+
+/// An event, and where the reader goes on.
+#[derive(Clone, Copy)]
+pub struct Read {
+    pub told: Told,
+    pub cursor: Cursor,
+}
+
+impl Cursor {
+    /// At a place, with no close owed.
+    pub fn at(at: usize) -> Cursor
+        ensures { result ≡ cursor_at at }
+    {
+        Cursor { at, owed: None }
+    }
+}
+
+impl Read {
+    /// An event that opens nothing, behind which the reader goes on at `next`.
+    pub(crate) fn bare(event: Event, place: usize, next: usize) -> Read
+        ensures { result ≡ bare event place next }
+    {
+        Read {
+            told: Told {
+                event,
+                place,
+                noted: nothing(),
+            },
+            cursor: Cursor::at(next),
+        }
+    }
+}

@@ -1,0 +1,124 @@
+//! What stands at a place of the document: text, a close tag or an open tag. An open tag is read whole before it is told of.
+#![tactic(auto, using(crate::proofs::Telling::telling))]
+
+ghost use Rattle.std.specs.Prelude.{◌≡◌, false, ◌+◌, ◌≤◌, ◌<◌, length, drop};
+ghost use Rattle.texts.specs.Text.{ascii, starts_with};
+ghost use Rattle.saxlite.specs.Events.{events_from, text_at, close_at, open_at};
+ghost use Rattle.saxlite.specs.Reader.{behind, Here};
+ghost use Rattle.saxlite.specs.Passing.{is_silent};
+
+use crate::event::{Cursor, Event, Owed, Read, Told};
+use refusals::Refusal;
+use tags::beginning::{begin_at, closing_at};
+use tags::scan::{byte_from, prefix_len, skip_space, tag_name_end};
+use tags::tag::{Ending, tag_noting};
+
+/// The text at `at`.
+fn read_text(doc: &[u8], at: usize) -> Result<Read, Refusal>
+    requires { (at < length doc.now) × (starts_with (ascii "<") (drop at doc.now) ≡ false) }
+    ensures { Here (text_at (events_from doc.now) doc.now at) doc.now at result }
+{
+    let end = byte_from(doc, at, b'<');
+    let len = end - at;
+    Ok(Read::bare(Event::Text { from: at, len }, at, end))
+}
+
+/// The close tag at `at`, of any name.
+fn read_any_close(doc: &[u8], at: usize) -> Result<Read, Refusal>
+    requires { at + 2 ≤ length doc.now }
+    ensures { Here (close_at (events_from doc.now) doc.now at) doc.now at result }
+{
+    let start = at + 2;
+    let end = tag_name_end(doc, start);
+    let due = skip_space(doc, end);
+    if texts::starts_with(doc, due, b">") {
+        let next = due + 1;
+        let n = end - start;
+        let lost = prefix_len(texts::part(doc, start, n));
+        let name = start + lost;
+        let name_len = n - lost;
+        return Ok(Read::bare(Event::Close { name, name_len }, at, next));
+    }
+    Err(Refusal::NoCloseTagEnd {
+        offset: due,
+        place: at,
+    })
+}
+
+/// The close tag at `at`: at once, where its name is known.
+fn read_close(doc: &[u8], at: usize) -> Result<Read, Refusal>
+    requires { at + 2 ≤ length doc.now }
+    ensures { Here (close_at (events_from doc.now) doc.now at) doc.now at result }
+{
+    let start = at + 2;
+    if let Some(known) = closing_at(doc, start) {
+        let name = start + known.lost;
+        let name_len = known.len - known.lost;
+        let next = start + known.len + 1;
+        return Ok(Read::bare(Event::Close { name, name_len }, at, next));
+    }
+    read_any_close(doc, at)
+}
+
+/// Behind an open tag: a self-closed one owes its close.
+fn behind(ending: Ending, owed: Owed) -> Cursor
+    ensures { result ≡ behind ending owed }
+{
+    Cursor {
+        at: ending.next,
+        owed: if ending.self_closed { Some(owed) } else { None },
+    }
+}
+
+/// The open tag at `at`.
+fn read_open(doc: &[u8], at: usize) -> Result<Read, Refusal>
+    requires { at + 1 ≤ length doc.now }
+    ensures { Here (open_at (events_from doc.now) doc.now at) doc.now at result }
+{
+    let start = at + 1;
+    let begun = begin_at(doc, start);
+    let end = begun.end;
+    if end == start {
+        return Err(Refusal::NoTagName {
+            offset: start,
+            place: at,
+        });
+    }
+    let name = start + begun.lost;
+    let name_len = end - start - begun.lost;
+    let tag = tag_noting(doc, end, at, begun.kind);
+    let ending = tag.ending?;
+    let owed = Owed {
+        place: at,
+        name,
+        len: name_len,
+    };
+    let event = Event::Open {
+        name,
+        name_len,
+        attributes: end,
+        next: ending.next,
+    };
+    Ok(Read {
+        told: Told {
+            event,
+            place: at,
+            noted: tag.noted,
+        },
+        cursor: behind(ending, owed),
+    })
+}
+
+/// What stands at `at`, where no markup begins that is no event.
+pub(crate) fn read_at(doc: &[u8], at: usize) -> Result<Read, Refusal>
+    requires { (at < length doc.now) × (is_silent doc.now at ≡ false) }
+    ensures { Here (events_from doc.now at) doc.now at result }
+{
+    if !texts::starts_with(doc, at, b"<") {
+        return read_text(doc, at);
+    }
+    if texts::starts_with(doc, at, b"</") {
+        return read_close(doc, at);
+    }
+    read_open(doc, at)
+}
