@@ -8,8 +8,7 @@ use lib.Seq.{sets, drop-drop, take-take}
 use Rattle.texts.specs.Text.{piece}
 use Rattle.texts.proofs.Stores.{take-sets, drop-sets, piece-below}
 use Rattle.tags.specs.Attributes.{attribute_at, raw_length, raw_lengths}
-use Rattle.saxlite.proofs.Moving.{values-fit}
-use Rattle.tags.proofs.Ranges.{different}
+use Rattle.tags.proofs.Ranges.{different, values-lie}
 use lib.Dec.{T}
 use Rattle.builder.specs.Layout.{builder_in, texted, Alike, Kept, Tagged}
 use Rattle.builder.specs.declared.state.State.{State}
@@ -60,7 +59,7 @@ module _ (w : Work) (s : State) (t : List ℕ) (k : Kept w s) (a : Alike s.place
 
 -- a value of the tag has room where the tag has
 pub tag-room : (doc : List ℕ) (attributes next : ℕ) → Tagged doc attributes next → (keys : List (List ℕ)) → T (different keys) → raw_lengths doc attributes keys ≤ next - attributes
-tag-room doc attributes next g keys t = omega (arith, values-fit doc g.at g.is keys t)
+tag-room doc attributes next g keys t = omega (arith, values-lie doc attributes g.place g.is keys t)
 
 pub tag_one : (doc : List ℕ) (attributes next : ℕ) → Tagged doc attributes next → (key : List ℕ) → raw_length (attribute_at doc attributes key) ≤ next - attributes
 tag_one doc attributes next g key = omega (arith, tag-room doc attributes next g (key ∷ []) tt)

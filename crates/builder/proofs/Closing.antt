@@ -1,14 +1,13 @@
 -- Laws of closing an element, and of text.
-use mathlib.Core.Path.{◌≡◌, refl, sym, ap, subst, ◌∙◌}
+use mathlib.Core.Path.{◌≡◌, refl, sym, ap, ◌∙◌}
 use mathlib.Core.Bool.{Bool, true, false}
-use mathlib.Core.List.{List, [], ◌∷◌, ◌++◌}
+use mathlib.Core.List.{List, [], ◌++◌}
 use Prim.Native.Nat.{ℕ, ◌+◌, ◌*◌, ◌-◌, ◌≤◌, ◌<◌}
 use native.Mathlib.Omega.{arith}
 use mir.Val.{Fits}
 use mir.Syntax.{w64}
 use lib.ListN.{length, take, drop, get_or, set}
 use lib.Seq.{sets, length-sets, take-add, drop-drop}
-use Rattle.texts.specs.Choice.{pick}
 use Rattle.texts.specs.Text.{piece, same}
 use Rattle.texts.specs.Trim.{trimmed, TrimmedTo}
 use Rattle.texts.specs.declared.Range.{Range}
@@ -21,10 +20,8 @@ use Rattle.model.specs.Search.{last_under}
 use Rattle.builder.specs.Builder.{Builder, on, refused, with_stack, with_text, with_schema, with_second, given_to, close_value, close_by, closed, collect, top, rest}
 use Rattle.model.specs.Store.{entry_at, words_of, item_of, items_of, schema_of}
 use Rattle.builder.specs.Layout.{model_in, builder_in, stack_of, over, texted, valued, given_at, higher, Alike, Kept, Ready, After}
-use Rattle.elements.specs.Elements.{element_of, other_element_of}
-use Rattle.elements.specs.Leaf.{leaf}
+use Rattle.elements.specs.Elements.{element_of}
 use Rattle.elements.specs.declared.Element.{Element}
-use Rattle.elements.specs.declared.Element.TheVariants as element
 use Rattle.model.specs.declared.Entry.{Entry}
 use Rattle.std.specs.Prelude.{Option, None, Some, Result, Ok, Err}
 use Rattle.builder.specs.declared.state.Current.{Current}
@@ -33,7 +30,7 @@ use Rattle.builder.specs.declared.work.Work.{Work}
 use Rattle.model.proofs.Records.{items-set, get_or-items}
 use Rattle.model.proofs.Searching.{owned_so, last_in}
 use Rattle.builder.proofs.Alikes.{alike_self, alike-sets, alike-trans, alike-lower}
-use Rattle.builder.proofs.Stacking.{stack-put, pop-builder, pop_kept}
+use Rattle.builder.proofs.Stacking.{stack-put, pop-builder}
 use Rattle.builder.proofs.Adding.{same_self, after-as, after-refused, after_same}
 use Rattle.builder.proofs.Takes.{decoded-most}
 use Rattle.builder.proofs.Finding.{currently, emptied, kept-emptied}
@@ -172,18 +169,6 @@ module _ {w : Work} {s : State} (k : Kept w s) where
         same = same_self;
       }
 
-leaf-stays : (e : Element) → leaf e ≡ true → (b : Builder) → b ≡ close_by e b
-leaf-stays element.MessageSchema t b = refl
-leaf-stays element.«Type» t b = refl
-leaf-stays element.Ref t b = refl
-leaf-stays element.Field t b = refl
-leaf-stays element.Other t b = refl
-leaf-stays element.Composite t b = absurd (let z : ◌≡◌ {A = ℕ} 0 1 = cc in omega arith)
-leaf-stays element.Enum t b = absurd (let z : ◌≡◌ {A = ℕ} 0 1 = cc in omega arith)
-leaf-stays element.ValidValue t b = absurd (let z : ◌≡◌ {A = ℕ} 0 1 = cc in omega arith)
-leaf-stays element.Message t b = absurd (let z : ◌≡◌ {A = ℕ} 0 1 = cc in omega arith)
-leaf-stays element.Group t b = absurd (let z : ◌≡◌ {A = ℕ} 0 1 = cc in omega arith)
-
 -- ---- a whole close
 
 closed-yes : (place : ℕ) (name : List ℕ) (b : Builder) → same name (top b.stack) ≡ true → on (close_by (element_of name) (with_stack (rest b.stack) b)) ≡ closed place name b
@@ -205,30 +190,6 @@ module _ {w : Work} {s : State} (place : ℕ) (name : List ℕ) {b : Bool} (eb :
       ∙ ap (λ x. on (close_by x (with_stack (rest (builder_in w s).stack) (builder_in w s)))) ee
       ∙ closed-yes place name (builder_in w s) (sym eb ∙ t) in
       after-as s q refl (omega arith) (rw ep at f)
-
--- an element whose close only pops its name
-pub leaf-closed : {w : Work} {s : State} (place : ℕ) (name : List ℕ) → Kept w s → same name (top (builder_in w s).stack) ≡ true → leaf (element_of name) ≡ true → After (closed place name (builder_in w s)) w s 0 w (Ok (higher s))
-leaf-closed {w} {s} place name k t f = close-right place name refl t refl refl (after_same (ap on (leaf-stays (element_of name) f (builder_in w (higher s)))) (pop_kept w s k))
-
--- a close of no name, where none is open: nothing is popped
-empty : (x : List (List ℕ)) → length x ≡ 0 → x ≡ []
-empty [] h = refl
-empty (y ∷ x) h = absurd (omega (arith, h))
-
-close-none : (place : ℕ) (b : Builder) → on (with_stack [] b) ≡ closed place [] (with_stack [] b)
-unfolding closed same element_of other_element_of
-close-none place b = refl
-
-pub close-nameless : (place : ℕ) (b : Builder) → length b.stack ≡ 0 → on b ≡ closed place [] b
-close-nameless place b e = subst (λ (x : List (List ℕ)). on (with_stack x b) ≡ closed place [] (with_stack x b)) (sym (empty b.stack e)) (close-none place b)
-
--- the state with a leaf's name popped, where it is the innermost open one
-module _ (s : State) {b c : Bool} (eb : b ≡ c) where
-  pub leaf-popped : {p : State} → b ≡ true → p ≡ higher s → Some p ≡ pick c (Some (higher s)) None
-  leaf-popped t e = rw (← eb, t, e)
-
-  pub leaf-open : b ≡ false → None ≡ pick c (Some (higher s)) None
-  leaf-open t = rw (← eb, t)
 
 -- ---- text
 

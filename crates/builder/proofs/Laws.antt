@@ -6,7 +6,7 @@ use Rattle.builder.proofs.Finding.{type-reads, field-reads, id-reads, version-re
 use Rattle.builder.proofs.Opening.{ref-dropped, value-lost as value-dropped, ref-on, composite-on, value_on, enum-on}
 use Rattle.builder.proofs.Dispatching.{package-asked, open-deep, pushed-opens, open_done}
 use Rattle.builder.proofs.Stacking.{pop_kept}
-use Rattle.builder.proofs.Closing.{give-none, give-fits, give-some, value-lost, value-given, closed-same, closed-current, close-wrong, close-right, leaf-popped, leaf-open, text-lost, text-room, text-fits, text-on}
+use Rattle.builder.proofs.Closing.{give-none, give-fits, give-some, value-lost, value-given, closed-same, closed-current, close-wrong, close-right, text-lost, text-room, text-fits, text-on}
 
 pub ruleset taking = (value-least, value_room, taken-absent, taken-value, number-absent, number-value, number-told, digit-told, number_fits, number_at, given-not, given_yes, made-draft)
 
@@ -16,4 +16,4 @@ pub ruleset adding = (after-refused, number-some, number-none, put-full, put-fin
 
 pub ruleset opening = (type-reads, field-reads, id-reads, version-reads, named-adds, value-adds, named-then, ref-adds, field-adds, enum-adds, type-adds, ref-dropped, value-dropped, ref-on, composite-on, value_on, enum-on, package-asked, open-deep, pushed-opens, open_done)
 
-pub ruleset closing = (pop_kept, give-none, give-fits, give-some, value-lost, value-given, closed-same, closed-current, close-wrong, close-right, leaf-popped, leaf-open, text-lost, text-room, text-fits, text-on)
+pub ruleset closing = (pop_kept, give-none, give-fits, give-some, value-lost, value-given, closed-same, closed-current, close-wrong, close-right, text-lost, text-room, text-fits, text-on)

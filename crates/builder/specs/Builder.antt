@@ -6,8 +6,7 @@ use Rattle.texts.specs.Text.{ascii, same}
 use Rattle.texts.specs.Trim.{trimmed}
 use Rattle.refusals.specs.declared.Refusal.{Refusal}
 use Rattle.refusals.specs.declared.Refusal.TheVariants.{WrongClose, BadNumber, MisplacedField, TooDeep, TooManyItems}
-use Rattle.tags.specs.Attributes.{attribute_at}
-use Rattle.saxlite.specs.Event.{value_in}
+pub use Rattle.saxlite.specs.Event.{Attributes}
 use Rattle.numbers.specs.Numbers.{number_of}
 use Rattle.model.specs.Schema.{Item, Schema, item_at, under, last, a_type, a_member, a_ref, a_composite, an_enum, a_value, a_message, a_group, a_field}
 use Rattle.elements.specs.Elements.{element_of}
@@ -33,14 +32,6 @@ pub record Builder : Type 0 where
 pub data Outcome : Type 0 where
   on : Builder → Outcome
   refused : Refusal → Outcome
-
--- the attributes of a tag: a name's decoded value, or none
-abbrev pub Attributes : Type 0
-Attributes = List ℕ → Option (List ℕ)
-
--- the attributes of the tag whose attributes begin at a place
-abbrev pub attributes_in : List ℕ → ℕ → Attributes
-attributes_in doc attributes key = value_in doc (attribute_at doc attributes key)
 
 abbrev pub or_empty : Option (List ℕ) → List ℕ
 or_empty None = []

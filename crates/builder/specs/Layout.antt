@@ -5,8 +5,7 @@ use Rattle.texts.specs.Text.{ascii, piece, same}
 use Rattle.texts.specs.declared.Range.{Range}
 use Rattle.refusals.specs.declared.Refusal.{Refusal}
 use Rattle.tags.specs.Noting.{keys_of, NotedBy}
-use Rattle.saxlite.specs.declared.step.Step.TheVariants as step
-use Rattle.saxlite.specs.Step.{step_at}
+pub use Rattle.saxlite.specs.Reader.{Tagged}
 use Rattle.builder.specs.Builder.{Builder, Outcome, on, refused, top, rest}
 use Rattle.model.specs.Store.{entry_at, words_of, item_of, schema_of}
 use Rattle.model.specs.declared.Entry.{Entry}
@@ -119,14 +118,6 @@ used_by s = s.place.low + (65536 - s.place.high)
 pub record Ready (w : Work) (s : State) (n : ℕ) : Type 0 where
   pub kept : Kept w s
   pub room : s.place.low + n ≤ s.place.high
-
--- an open tag stands at a place of the document: its attributes begin at `attributes`, and it ends at `next`
-pub record Tagged (doc : List ℕ) (attributes next : ℕ) : Type 0 where
-  pub at : ℕ
-  pub name : ℕ
-  pub len : ℕ
-  pub closed : Bool
-  pub is : step_at doc at ≡ step.Open name len attributes next closed
 
 -- what is known of a tag that was read: where it stands, and what was noted of it
 pub record IsTag (doc : List ℕ) (tag : Tag) : Type 0 where

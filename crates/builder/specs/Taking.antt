@@ -3,14 +3,14 @@ use Rattle.std.specs.Prelude.{◌≡◌, List, ℕ, ◌+◌, ◌≤◌, length, 
 use Rattle.texts.specs.Text.{piece}
 use Rattle.texts.specs.declared.Range.{Range}
 use Rattle.tags.specs.Attributes.{raw_length}
-use Rattle.saxlite.specs.Event.{value_in}
+use Rattle.saxlite.specs.Event.{Attributes, value_in, attributes_in}
 use Rattle.tags.specs.Noting.{Keys, schema_keys, type_keys, enum_keys, field_keys, NotedBy, noted_of}
 use Rattle.tags.specs.declared.tag.Noted.{Noted}
 use Rattle.refusals.specs.declared.Refusal.{Refusal}
 use Rattle.refusals.specs.declared.Refusal.TheVariants.{BadNumber}
 use Rattle.model.specs.Schema.{Item}
 use Rattle.numbers.specs.Numbers.{number_of}
-use Rattle.builder.specs.Builder.{Attributes, attributes_in, or_empty, is_given}
+use Rattle.builder.specs.Builder.{or_empty, is_given}
 use Rattle.model.specs.Store.{item_of}
 use Rattle.builder.specs.Layout.{Alike, Steady, builder_in, room, Ready, Tagged, Same}
 use Rattle.elements.specs.declared.Element.{Element}

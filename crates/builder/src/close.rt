@@ -1,16 +1,15 @@
 // What closing an element and collecting text make of the builder.
 #![tactic(auto, using(crate::proofs::Laws::closing))]
 
-ghost use Rattle.std.specs.Prelude.{◌≡◌, Some, None, Ok, ◌+◌, ◌-◌, ◌≤◌, length};
-ghost use Rattle.texts.specs.Choice.{pick};
-ghost use Rattle.texts.specs.Text.{piece, same};
+ghost use Rattle.std.specs.Prelude.{◌≡◌, Ok, ◌+◌, ◌-◌, ◌≤◌, length};
+ghost use Rattle.texts.specs.Text.{piece};
 ghost use Rattle.texts.specs.Trim.{TrimmedTo};
 ghost use Rattle.entities.specs.Entities.{decoded};
 ghost use Rattle.model.specs.Schema.{a_value};
 ghost use Rattle.model.specs.Search.{last_under};
 ghost use Rattle.model.specs.Store.{schema_of};
-ghost use Rattle.builder.specs.Builder.{on, top, close_value, close_by, closed, collect};
-ghost use Rattle.builder.specs.Layout.{builder_in, given_at, over, higher, Kept, Ready, After};
+ghost use Rattle.builder.specs.Builder.{on, close_value, close_by, closed, collect};
+ghost use Rattle.builder.specs.Layout.{builder_in, given_at, over, Kept, Ready, After};
 
 use crate::state::{Current, Place, State};
 use crate::work::Work;
@@ -123,19 +122,6 @@ impl<'d, 'a> Work<'d, 'a> {
         }
         let e = element_at(self.doc, name, len);
         Ok(self.close_by(s.popped(), e))
-    }
-
-    // With the name at `name` popped, where it is the innermost open one: at once, where a
-    // self-closed tag closes itself.
-    pub fn close_leaf(&self, s: State, name: usize, len: usize) -> Option<State>
-        requires { s.place.depth ≤ 64 }
-        ensures { result ≡ pick (same (piece self.now.doc.now name len) (top (builder_in self.now s).stack)) (Some (higher s)) None }
-    {
-        if self.is_top(s, name, len) {
-            Some(s.popped())
-        } else {
-            None
-        }
     }
 
     // Text is collected while the flag is set.

@@ -6,7 +6,8 @@
 ghost use Rattle.std.specs.Prelude.{◌≡◌};
 ghost use Rattle.texts.specs.Text.{piece};
 ghost use Rattle.tags.specs.Noting.{schema_keys, type_keys, enum_keys, field_keys};
-ghost use Rattle.builder.specs.Builder.{open_schema, open_type, open_ref, open_composite, open_enum, open_value, open_message, open_group, open_field, open_by, opened, attributes_in};
+ghost use Rattle.saxlite.specs.Event.{attributes_in};
+ghost use Rattle.builder.specs.Builder.{open_schema, open_type, open_ref, open_composite, open_enum, open_value, open_message, open_group, open_field, open_by, opened};
 ghost use Rattle.builder.specs.Layout.{builder_in, parent_composite, room, Ready, IsTag, After};
 ghost use Rattle.builder.specs.Taking.{attributes_of, keys_for, Opens};
 

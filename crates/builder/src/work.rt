@@ -93,16 +93,16 @@ impl<'d, 'a> Work<'d, 'a> {
         part(self.doc, from, len)
     }
 
-    // Whether the name at `name` is the innermost open one.
-    pub(crate) fn is_open(&self, s: State, name: usize, len: usize) -> bool
+    // Whether the name at `name` is that of the innermost open one.
+    fn is_named(&self, s: State, name: usize, len: usize) -> bool
         requires { s.place.depth ≤ 64 }
         ensures { result ≡ same (piece self.now.doc.now name len) (top (builder_in self.now s).stack) }
     {
         same_name(part(self.doc, name, len), self.top_name(s.place.depth))
     }
 
-    // The same, at once where the name at `name` is that very range.
-    pub(crate) fn is_top(&self, s: State, name: usize, len: usize) -> bool
+    // The same, at once where the name at `name` is that very range, as where a tag closes itself.
+    pub(crate) fn is_open(&self, s: State, name: usize, len: usize) -> bool
         requires { s.place.depth ≤ 64 }
         ensures { result ≡ same (piece self.now.doc.now name len) (top (builder_in self.now s).stack) }
     {
@@ -112,7 +112,7 @@ impl<'d, 'a> Work<'d, 'a> {
                 return true;
             }
         }
-        self.is_open(s, name, len)
+        self.is_named(s, name, len)
     }
 
     // Whether the name below the innermost one is composite.
