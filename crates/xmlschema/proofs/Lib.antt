@@ -1,8 +1,6 @@
 -- Laws of reading a whole document.
-pub mod Moving
-pub mod Driving
-pub mod Passing
-pub mod Stepping
-pub mod Answering
-pub mod Reached
-pub mod Laws
+mod Driving
+mod Stepping
+mod Answering
+mod Reached
+mod Laws

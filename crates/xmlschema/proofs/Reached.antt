@@ -1,33 +1,27 @@
--- A validValue that closes while an enum is current always finds a value of that enum: the panic "validValue tracking" can't be
--- reached, whatever the document and whatever the limits. Assumes nothing.
+-- A validValue that closes while an enum is current finds a value of that enum, whatever the document and whatever the limits.
 --
 -- `Tracked` is what holds of every builder that a document leads to: where an enum is current and a validValue is open above the nearest
 -- open enum, the items hold a value of the current enum. The empty builder is so (`track-empty`) and every event keeps it so (`track`);
--- hence it holds wherever `run` comes to (`reached-tracked`), and a closing validValue finds its value (`valid_value-tracking`).
+-- hence it holds wherever the events of a document lead (`reached-tracked`).
 use mathlib.Core.Path.{◌≡◌, refl, sym, ap, ◌∙◌}
 use mathlib.Core.Bool.{Bool, true, false}
 use mathlib.Core.List.{List, [], ◌∷◌, ◌++◌}
 use Rattle.std.specs.Prelude.{Option, Some, None}
 use Prim.Native.Nat.{ℕ, zero, suc, ◌+◌, ◌<◌}
 use native.Mathlib.Omega.{arith}
-use lib.Dec.{ltb, leb, eqb}
+use lib.Dec.{leb, eqb}
 use lib.ListN.{length, get_or, set, length-set, length-append, get_or-append}
 use lib.Seq.{get_or_at, get_or-set_same, get_or-set_other}
 use borrow.Author.Tests.{eq-eqb, eqb-true, eqb-false}
 use Rattle.texts.specs.Choice.{pick, ◌and◌}
-use Rattle.texts.specs.Text.{ascii, same, piece}
+use Rattle.texts.specs.Text.{ascii, same}
 use Rattle.texts.proofs.Choosing.{by-test}
 use Rattle.texts.proofs.Comparing.{same-equal}
-use Rattle.refusals.specs.declared.Refusal.{Refusal}
-use Rattle.refusals.specs.declared.Refusal.TheVariants.{OpenElements}
-use Rattle.saxlite.specs.declared.reader.Event.{Event}
-use Rattle.saxlite.specs.declared.reader.Event.TheVariants.{Text, Open, Close, Skipped, End, Refused}
-use Rattle.saxlite.specs.declared.reader.Cursor.{Cursor}
-use Rattle.saxlite.specs.Reader.{read_at, cursor_at, at_end}
-use Rattle.entities.specs.Entities.{decoded}
+use Rattle.saxlite.specs.Event.{Event, Events, text, opens, closes, next}
 use Rattle.model.specs.Schema.{Item, Schema, no_item, item_at, positions_from, under, last, a_value, a_type, a_member, a_ref, a_composite, an_enum, a_message, a_group, a_field}
-use Rattle.builder.specs.Builder.{Builder, Outcome, on, refused, Attributes, text_in, number_in, with_stack, with_text, with_schema, with_items, with_second, now_composite, now_enum, now_message, now_group, next_position, added, and_then, with_number, type_item, plain_item, open_schema, member_to, open_type, ref_to, open_ref, open_composite, open_enum, value_to, open_value, open_message, group_to, open_group, field_under, field_in, field_to, open_field, open_by, opened, top, rest, given_to, value_of_enum, close_value, close_by, closed, collect, attributes_in}
-use Rattle.xmlschema.specs.Whole.{accepted, refused_by, step, ending, run, empty}
+use Rattle.builder.specs.Builder.{Builder, Outcome, on, refused, Attributes, text_in, number_in, with_stack, with_text, with_schema, with_items, with_second, now_composite, now_enum, now_message, now_group, next_position, added, and_then, with_number, type_item, plain_item, open_schema, member_to, open_type, ref_to, open_ref, open_composite, open_enum, value_to, open_value, open_message, group_to, open_group, field_under, field_in, field_to, open_field, open_by, opened, top, rest, given_to, value_of_enum, close_value, close_by, closed, collect}
+use Rattle.xmlschema.specs.Whole.{step, empty}
+use Rattle.xmlschema.specs.Tracking.{Reached, start, further, HasValue, ValuesFound}
 use Rattle.builder.specs.declared.state.Limits.{Limits}
 use Rattle.elements.specs.Elements.{element_of, other_element_of}
 use Rattle.elements.specs.declared.Element.{Element}
@@ -38,16 +32,11 @@ never e = let z : ◌≡◌ {A = ℕ} 0 1 = cc in omega arith
 
 -- ---- a value among the items, and the search for it
 
--- the enum e has a value: the search that closes a validValue answers with a position
-pub record HasValue (e : ℕ) (s : Schema) : Type 0 where
-  pub at : ℕ
-  pub is : last (under a_value e s) ≡ Some at
-
 abbrev pub value_of : ℕ → Item → Bool
 value_of e it = eqb it.kind a_value and eqb it.owner e
 
 -- a value of e is among the items
-pub record Has (e : ℕ) (xs : List Item) : Type 0 where
+record Has (e : ℕ) (xs : List Item) : Type 0 where
   pub at : ℕ
   pub within : at < length xs
   pub is : value_of e (get_or xs at no_item) ≡ true
@@ -78,7 +67,7 @@ some_at k (suc i) p (x ∷ xs) h t =
     (λ f. rw (positions-no k p x xs f) (some_at (k + 1) i p xs (omega arith) t))
 
 -- the search finds it
-pub has-found : (e : ℕ) (s : Schema) → Has e s.items → HasValue e s
+has-found : (e : ℕ) (s : Schema) → Has e s.items → HasValue e s
 unfolding under
 has-found e s h = let f = some_at 0 h.at (value_of e) s.items h.within h.is in record { at = f.at; is = f.is }
 
@@ -138,7 +127,7 @@ unfoldable pub owed : List (List ℕ) → Bool
 owed [] = false
 owed (n ∷ ns) = tell (element_of n) (owed ns)
 
-pub record Tracked (b : Builder) : Type 0 where
+record Tracked (b : Builder) : Type 0 where
   pub has : (e : ℕ) → b.current.enum ≡ Some e → owed b.stack ≡ true → Has e b.schema.items
 
 -- what holds of an outcome's builder, if there is one
@@ -230,7 +219,7 @@ track-value l place a b (Some e) q =
     (holds-added Tracked l place it b (record { has = λ d r o. has_new d b.schema.items it (let z : e ≡ d = cc in eq-eqb e d z) }))
 
 module _ (l : Limits) (place : ℕ) (name : List ℕ) (a : Attributes) (b : Builder) (T : Tracked b) where
-  pub track-open : Holds Tracked (opened l place name a b)
+  track-open : Holds Tracked (opened l place name a b)
   unfolding opened owed tell open_ref open_composite open_value open_message open_group open_field
   track-open =
       holds-pick Tracked (leb l.depth (length b.stack)) (refused _) (open_by (element_of name) l place (same (top b.stack) (ascii "composite")) a (with_stack (name ∷ b.stack) b)) tt
@@ -265,7 +254,7 @@ track-given b None h = record { has = λ e q o. h e q }
 track-given b (Some d) h = record { has = λ e q o. has-given e (last (under a_value d b.schema)) _ b.schema (h e q) }
 
 module _ (place : ℕ) (name : List ℕ) (b : Builder) (T : Tracked b) where
-  pub track-close : Holds Tracked (closed place name b)
+  track-close : Holds Tracked (closed place name b)
   unfolding closed owed tell close_value
   track-close = by-test (same name (top b.stack)) (λ t. rw t (go b.stack refl t)) (λ f. rw f tt)
     where
@@ -288,7 +277,7 @@ module _ (place : ℕ) (name : List ℕ) (b : Builder) (T : Tracked b) where
 
 -- ---- text
 
-pub track-collect : (s : List ℕ) (b : Builder) → Tracked b → Tracked (collect s b)
+track-collect : (s : List ℕ) (b : Builder) → Tracked b → Tracked (collect s b)
 unfolding collect
 track-collect s b T = go b.collecting
   where
@@ -298,68 +287,29 @@ track-collect s b T = go b.collecting
 
 -- ---- every event keeps it, and it holds at the start
 
-pub track : (l : Limits) (doc : List ℕ) (place : ℕ) (ev : Event) (b : Builder) → Tracked b → Holds Tracked (step l doc place ev b)
-track l doc place (Text from len) b T = track-collect (decoded (piece doc from len)) b T
-track l doc place (Open name n attributes next) b T = track-open l place (piece doc name n) (attributes_in doc attributes) b T
-track l doc place (Close name n) b T = track-close place (piece doc name n) b T
-track l doc place Skipped b T = T
-track l doc place End b T = T
-track l doc place (Refused refusal) b T = tt
+track : (l : Limits) (place : ℕ) (ev : Event) (b : Builder) → Tracked b → Holds Tracked (step l place ev b)
+track l place (text t) b T = track-collect t b T
+track l place (opens name a) b T = track-open l place name a b T
+track l place (closes name) b T = track-close place name b T
 
-pub track-empty : Tracked empty
+track-empty : Tracked empty
 unfolding owed
 track-empty = record { has = λ e q o. absurd (never o) }
 
 -- so a closing validValue finds its value
-pub value_found : (b : Builder) (n : List ℕ) (ns : List (List ℕ)) (e : ℕ) → Tracked b → b.stack ≡ n ∷ ns → element_of n ≡ element.ValidValue → b.current.enum ≡ Some e → HasValue e b.schema
+value_found : (b : Builder) (n : List ℕ) (ns : List (List ℕ)) (e : ℕ) → Tracked b → b.stack ≡ n ∷ ns → element_of n ≡ element.ValidValue → b.current.enum ≡ Some e → HasValue e b.schema
 unfolding owed tell
 value_found b n ns e T q v c = has-found e b.schema (T.has e c (ap owed q ∙ ap (λ x. tell x (owed ns)) v))
 
 -- ---- over all documents
 
--- `run`, from the start of a document, comes to this cursor with this builder
-pub data Reached (l : Limits) (doc : List ℕ) : Cursor → Builder → Type 0 where
-  start : Reached l doc (cursor_at 0) empty
-  further : (c : Cursor) (b b' : Builder) → Reached l doc c b → at_end doc c ≡ false → step l doc (read_at doc c).place (read_at doc c).event b ≡ on b' → Reached l doc (read_at doc c).cursor b'
+reached-tracked : (l : Limits) (doc : List ℕ) (more : Events) (b : Builder) → Reached l doc more b → Tracked b
+reached-tracked l doc more b start = track-empty
+reached-tracked l doc rest c (further place event more b b' r q) = rw q at (track l place event b (reached-tracked l doc (next place event more) b r))
 
--- a step of `Reached` is one of `run`
-pub run-further : (k : ℕ) (l : Limits) (doc : List ℕ) (c : Cursor) (b b' : Builder) → at_end doc c ≡ false → step l doc (read_at doc c).place (read_at doc c).event b ≡ on b' → run (suc k) l doc c b ≡ run k l doc (read_at doc c).cursor b'
-unfolding run
-run-further k l doc c b b' f q = rw (f, q, run)
-
--- and what `run` accepts is the schema of a builder so reached
-pub record Comes (l : Limits) (doc : List ℕ) (s : Schema) : Type 0 where
-  pub cursor : Cursor
-  pub builder : Builder
-  pub reached : Reached l doc cursor builder
-  pub is : builder.schema ≡ s
-
-module _ (l : Limits) (doc : List ℕ) (s : Schema) where
-  ends : (c : Cursor) (b : Builder) → Reached l doc c b → (t : Bool) (r : Refusal) → pick t (refused_by r) (accepted b.schema) ≡ accepted s → Comes l doc s
-  ends c b h true r q = absurd (let y : ◌≡◌ {A = ℕ} 0 1 = cc in omega arith)
-  ends c b h false r q = record { cursor = c; builder = b; reached = h; is = cc }
-
-  pub run-reaches : (k : ℕ) (c : Cursor) (b : Builder) → Reached l doc c b → run k l doc c b ≡ accepted s → Comes l doc s
-  unfolding run ending
-  run-reaches zero c b h q = ends c b h (ltb 0 (length b.stack)) (OpenElements (length doc)) q
-  run-reaches (suc k) c b h q =
-      by-test (at_end doc c)
-      (λ t. ends c b h (ltb 0 (length b.stack)) (OpenElements (length doc)) (rw (t, run) at q))
-      (λ f. go (λ b'. run-reaches k (read_at doc c).cursor b') (step l doc (read_at doc c).place (read_at doc c).event b) refl f)
-    where
-      go : ((b' : Builder) → Reached l doc (read_at doc c).cursor b' → run k l doc (read_at doc c).cursor b' ≡ accepted s → Comes l doc s) → (o : Outcome) → step l doc (read_at doc c).place (read_at doc c).event b ≡ o → at_end doc c ≡ false → Comes l doc s
-      go again (on b') e f = again b' (further c b b' h f e) (sym (run-further k l doc c b b' f e) ∙ q)
-      go again (refused r) e f = absurd (let z : run (suc k) l doc c b ≡ refused_by r = rw (f, e, run) in let y : ◌≡◌ {A = ℕ} 0 1 = cc in omega arith)
-
-pub reached-tracked : (l : Limits) (doc : List ℕ) (c : Cursor) (b : Builder) → Reached l doc c b → Tracked b
-reached-tracked l doc c b start = track-empty
-reached-tracked l doc c b (further d a b' r f q) = rw q at (track l doc (read_at doc d).place (read_at doc d).event a (reached-tracked l doc d a r))
-
--- WHEREVER A validValue CLOSES WITH A CURRENT ENUM, THAT ENUM HAS A VALUE
-pub valid_value-tracking :
-    (l : Limits) (doc : List ℕ) (c : Cursor) (b : Builder) (name n e : ℕ) → Reached l doc c b → (read_at doc c).event ≡ Close name n → element_of (piece doc name n) ≡ element.ValidValue → same (piece doc name n) (top b.stack) ≡ true → b.current.enum ≡ Some e → HasValue e b.schema
-valid_value-tracking l doc c b name n e r ev v t q = go b.stack refl t
+pub values_found : ValuesFound
+values_found l doc place name more b e r v t q = go b.stack refl t
   where
-    go : (st : List (List ℕ)) → b.stack ≡ st → same (piece doc name n) (top st) ≡ true → HasValue e b.schema
-    go [] p u = absurd (let z : element.ValidValue ≡ element.Other = sym v ∙ ap element_of (same-equal (piece doc name n) [] u) ∙ nameless in let y : ◌≡◌ {A = ℕ} 0 1 = cc in omega arith)
-    go (m ∷ ms) p u = value_found b m ms e (reached-tracked l doc c b r) p (ap element_of (sym (same-equal (piece doc name n) m u)) ∙ v) q
+    go : (st : List (List ℕ)) → b.stack ≡ st → same name (top st) ≡ true → HasValue e b.schema
+    go [] p u = absurd (let z : element.ValidValue ≡ element.Other = sym v ∙ ap element_of (same-equal name [] u) ∙ nameless in let y : ◌≡◌ {A = ℕ} 0 1 = cc in omega arith)
+    go (m ∷ ms) p u = value_found b m ms e (reached-tracked l doc (next place (closes name) more) b r) p (ap element_of (sym (same-equal name m u)) ∙ v) q

@@ -1,53 +1,40 @@
 -- Laws of one step: by the event.
-use mathlib.Core.Path.{◌≡◌, refl}
-use native.Mathlib.Omega.{arith}
+use mathlib.Core.Path.{◌≡◌}
 use mathlib.Core.List.{List}
 use Prim.Native.Nat.{ℕ, ◌-◌}
-use Rattle.std.specs.Prelude.{Result, Ok, Err}
+use Rattle.std.specs.Prelude.{Result}
 use Rattle.texts.specs.Text.{piece}
 use Rattle.refusals.specs.declared.Refusal.{Refusal}
-use Rattle.saxlite.specs.declared.reader.Event.{Event}
-use Rattle.saxlite.specs.declared.reader.Event.TheVariants.{Text, Open, Close, Skipped, End, Refused}
-use Rattle.saxlite.specs.Noting.{NotedIn}
 use Rattle.tags.specs.declared.tag.Notes.{Notes}
 use Rattle.entities.specs.Entities.{decoded}
-use Rattle.builder.specs.Builder.{Builder, on, opened, closed, collect, attributes_in}
-use Rattle.builder.specs.Layout.{builder_in, Ready, IsTag, Same, After}
+use Rattle.saxlite.specs.Event.{attributes_in}
+use Rattle.saxlite.specs.Reader.{event_in, takes, Inside, NotedIn}
+use Rattle.saxlite.specs.declared.event.Event.{Event}
+use Rattle.saxlite.specs.declared.event.Event.TheVariants.{Text, Open, Close}
+use Rattle.builder.specs.Builder.{Builder, on, opened, closed, collect}
+use Rattle.builder.specs.Layout.{Ready, IsTag, After}
 use Rattle.builder.specs.declared.state.State.{State}
 use Rattle.builder.specs.declared.work.Work.{Work}
 use Rattle.xmlschema.specs.Whole.{step}
-use Rattle.xmlschema.specs.Driving.{takes, Inside}
 
 module _ (w : Work) (place : ℕ) (ev : Event) {s : State} (b : Builder) {w' : Work} {r : Result State Refusal} where
-  pub step-text : {from len : ℕ} → ev ≡ Text from len → After (on (collect (decoded (piece w.doc.now from len)) b)) w s len w' r → After (step w.limits w.doc.now place ev b) w s (takes ev) w' r
+  pub step-text : {from len : ℕ} → ev ≡ Text from len → After (on (collect (decoded (piece w.doc.now from len)) b)) w s len w' r → After (step w.limits place (event_in w.doc.now ev) b) w s (takes ev) w' r
   step-text e a = rw e a
 
   pub step-open :
       {name n attributes next : ℕ} → ev ≡ Open name n attributes next
-      → After (opened w.limits place (piece w.doc.now name n) (attributes_in w.doc.now attributes) b) w s (next - attributes) w' r → After (step w.limits w.doc.now place ev b) w s (takes ev) w' r
+      → After (opened w.limits place (piece w.doc.now name n) (attributes_in w.doc.now attributes) b) w s (next - attributes) w' r → After (step w.limits place (event_in w.doc.now ev) b) w s (takes ev) w' r
   step-open e a = rw e a
 
-  pub step-close : {name n : ℕ} → ev ≡ Close name n → After (closed place (piece w.doc.now name n) b) w s 0 w' r → After (step w.limits w.doc.now place ev b) w s (takes ev) w' r
+  pub step-close : {name n : ℕ} → ev ≡ Close name n → After (closed place (piece w.doc.now name n) b) w s 0 w' r → After (step w.limits place (event_in w.doc.now ev) b) w s (takes ev) w' r
   step-close e a = rw e a
 
-module _ (w : Work) (place : ℕ) (ev : Event) (s : State) (k : Ready w s (takes ev)) where
+module _ (w : Work) (ev : Event) (s : State) (k : Ready w s (takes ev)) where
   pub text-ready : {from len : ℕ} → ev ≡ Text from len → Ready w s len
   text-ready e = rw e at k
 
   pub tag-ready : {name n attributes next : ℕ} → ev ≡ Open name n attributes next → Ready w s (next - attributes)
   tag-ready e = rw e at k
-
-  same : Same w w
-  same = record { limits = refl; doc = refl; records = refl; text = refl }
-
-  pub step-skipped : ev ≡ Skipped → After (step w.limits w.doc.now place ev (builder_in w s)) w s (takes ev) w (Ok s)
-  step-skipped e = rw e (record { is = refl; kept = k.kept; used = omega arith; same = same })
-
-  pub step_end : ev ≡ End → After (step w.limits w.doc.now place ev (builder_in w s)) w s (takes ev) w (Ok s)
-  step_end e = rw e (record { is = refl; kept = k.kept; used = omega arith; same = same })
-
-  pub step-refused : {q : Refusal} → ev ≡ Refused q → After (step w.limits w.doc.now place ev (builder_in w s)) w s (takes ev) w (Err q)
-  step-refused e = rw e (record { is = refl; kept = tt; used = tt; same = same })
 
 pub tag-is :
     (doc : List ℕ) (place : ℕ) (ev : Event) {name n attributes next : ℕ} → ev ≡ Open name n attributes next → Inside doc ev → {noted : Notes} → NotedIn doc ev noted

@@ -1,46 +1,28 @@
--- The reading of a whole document, and 01's order of refusals up to 31.
-use Rattle.std.specs.Prelude.{true, false, List, [], ℕ, zero, suc, ◌+◌, ◌*◌, ltb, length}
-use Rattle.std.specs.Prelude.{None}
+-- The reading of a whole document: the builder takes its events one after another. Then the order of refusals up to 31.
+use Rattle.std.specs.Prelude.{false, List, [], ℕ, ltb, length, None}
 use Rattle.texts.specs.Choice.{pick, ◌or◌}
-use Rattle.texts.specs.Text.{piece}
 use Rattle.texts.specs.Scan.{scan, is_ascii}
 use Rattle.refusals.specs.declared.Refusal.{Refusal}
 use Rattle.refusals.specs.declared.Refusal.TheVariants.{TooLong, NoWorkSpace, NotAscii, OpenElements}
-use Rattle.saxlite.specs.declared.reader.Event.{Event}
-use Rattle.saxlite.specs.declared.reader.Event.TheVariants.{Text, Open, Close, Skipped, End, Refused}
-use Rattle.saxlite.specs.declared.reader.Cursor.{Cursor}
-use Rattle.saxlite.specs.Reader.{read_at, cursor_at, at_end}
-use Rattle.entities.specs.Entities.{decoded}
+use Rattle.saxlite.specs.Event.{Event, Events, text, opens, closes, done, broken, next}
+use Rattle.saxlite.specs.Events.{events}
 use Rattle.model.specs.Schema.{Schema}
-use Rattle.builder.specs.Builder.{Builder, Outcome, on, refused, attributes_in, opened, closed, collect}
+use Rattle.builder.specs.Builder.{Builder, Outcome, on, refused, opened, closed, collect}
 use Rattle.builder.specs.declared.state.Limits.{Limits}
 
--- what an event, read at a place, makes of the builder
-abbrev pub step : Limits → List ℕ → ℕ → Event → Builder → Outcome
-step l doc place (Text from len) b = on (collect (decoded (piece doc from len)) b)
-step l doc place (Open name n attributes next) b = opened l place (piece doc name n) (attributes_in doc attributes) b
-step l doc place (Close name n) b = closed place (piece doc name n) b
-step l doc place Skipped b = on b
-step l doc place End b = on b
-step l doc place (Refused refusal) b = refused refusal
+-- what an event, met at a place, makes of the builder
+abbrev pub step : Limits → ℕ → Event → Builder → Outcome
+step l place (text s) b = on (collect s b)
+step l place (opens name a) b = opened l place name a b
+step l place (closes name) b = closed place name b
 
-pub data Whole : Type 0 where
-  accepted : Schema → Whole
-  refused_by : Refusal → Whole
+-- what events one after another make of it: the first refusal, the builder's or the reader's, ends it
+unfoldable pub built : Limits → Events → Builder → Outcome
+built l done b = on b
+built l (broken refusal) b = refused refusal
+built l (next place event more) b = elim (step l place event b) [ on b' ↦ built l more b' | refused refusal ↦ refused refusal ]
 
--- at the end no element is open, else 31
-unfoldable pub ending : List ℕ → Builder → Whole
-ending doc b = pick (ltb 0 (length b.stack)) (refused_by (OpenElements (length doc))) (accepted b.schema)
-
--- the document from a cursor on, at most k events
-unfoldable pub run : ℕ → Limits → List ℕ → Cursor → Builder → Whole
-run zero l doc c b = ending doc b
-run (suc k) l doc c b =
-    elim (at_end doc c) [
-      | true ↦ ending doc b
-      | false ↦ elim (step l doc (read_at doc c).place (read_at doc c).event b) [ on next ↦ run k l doc (read_at doc c).cursor next | refused r ↦ refused_by r ]
-    ]
-
+-- before the first event
 abbrev pub empty : Builder
 empty =
     record {
@@ -51,11 +33,19 @@ empty =
       schema = record { package_name = []; id = 0; version = 0; items = [] };
     }
 
--- each event takes a byte or an owed close, so that two for each byte, and one to spare, are enough
-abbrev pub reading : Limits → List ℕ → Whole
-reading l doc = run (2 * length doc + 1) l doc (cursor_at 0) empty
+pub data Whole : Type 0 where
+  accepted : Schema → Whole
+  refused_by : Refusal → Whole
 
--- 01's limits
+-- at the end no element is open, else 31
+unfoldable pub ending : List ℕ → Outcome → Whole
+ending doc (on b) = pick (ltb 0 (length b.stack)) (refused_by (OpenElements (length doc))) (accepted b.schema)
+ending doc (refused refusal) = refused_by refusal
+
+abbrev pub reading : Limits → List ℕ → Whole
+reading l doc = ending doc (built l (events doc) empty)
+
+-- how many items there may be, and how many open elements
 abbrev pub the_limits : Limits
 the_limits = record { items = 1024; depth = 64 }
 

@@ -1,14 +1,22 @@
-use mathlib.Core.Path.{sym, ap}
+use mathlib.Core.Path.{ap}
+use borrow.Author.Rules.{rules}
 use Rattle.builder.specs.declared.work.Work.{Work}
-use Rattle.builder.proofs.Adding.{same_self, same-trans}
-use Rattle.xmlschema.proofs.Passing.{turning-first, turn-then}
+use Rattle.builder.proofs.Adding.{same-trans}
+use Rattle.xmlschema.proofs.Driving.{drive-broken, drive-refused, drive-on, drive-lent}
 use Rattle.xmlschema.proofs.build.read_tested.Goals as goal
 
-pub loop-work-init : goal.loop-work-init
-loop-work-init c = (turning-first _ _ c.new-state.ensures c.new-work.ensures.kept (sym (ap (λ (w : Work). w.doc.now) c.new-work.ensures.is)) c.past_idle.ensures c.at.ensures, same_self)
+pub returns-in_err-told : goal.returns-in_err-told
+returns-in_err-told c =
+    let e = drive-broken c.loop-told.invariant.0 c.next.ensures c.in_err-told.was in
+    let q = drive-lent c.loop-told.invariant.1 (ap (λ (w : Work). w.limits) c.new-work.ensures.is) (ap (λ (w : Work). w.doc.now) c.new-work.ensures.is) e in
+    search rules
 
-pub loop-work-smaller : goal.loop-work-smaller
-loop-work-smaller c = (turn-then c.turn.ensures c.in_ok-turn.was c.past_close.ensures c.past_text.ensures).1
+pub loop-told-preserved : goal.loop-told-preserved
+loop-told-preserved c =
+    (drive-on c.loop-told.invariant.0 c.next.ensures c.in_ok-told.was c.in-Some.is _ c.step.ensures c.in_ok-step.was, same-trans c.loop-told.invariant.1 c.step.ensures.same)
 
-pub loop-work-preserved : goal.loop-work-preserved
-loop-work-preserved c = ((turn-then c.turn.ensures c.in_ok-turn.was c.past_close.ensures c.past_text.ensures).0, same-trans c.loop-work.invariant.1 c.turn.ensures.same)
+pub returns-in_err-step : goal.returns-in_err-step
+returns-in_err-step c =
+    let e = drive-refused c.loop-told.invariant.0 c.next.ensures c.in_ok-told.was c.in-Some.is _ c.step.ensures c.in_err-step.was in
+    let q = drive-lent c.loop-told.invariant.1 (ap (λ (w : Work). w.limits) c.new-work.ensures.is) (ap (λ (w : Work). w.doc.now) c.new-work.ensures.is) e in
+    search rules

@@ -1,9 +1,10 @@
+use Rattle.saxlite.specs.Reader.{left}
 use Rattle.builder.specs.Layout.{Same}
-use Rattle.xmlschema.specs.Driving.{Turning, left}
+use Rattle.xmlschema.specs.Driving.{Driving}
 use Rattle.xmlschema.proofs.build.read_tested.Given as goal
 
-abbrev pub invariant-loop-work : goal.invariant-loop-work
-invariant-loop-work l = Turning l.reader l.work l.state × Same l.initial.work l.work
+abbrev pub invariant-loop-told : goal.invariant-loop-told
+invariant-loop-told l = Driving l.reader l.work l.state × Same l.initial.work l.work
 
-abbrev pub decreases-loop-work : goal.decreases-loop-work
-decreases-loop-work l = left l.reader.doc.now l.reader.cursor
+abbrev pub decreases-loop-told : goal.decreases-loop-told
+decreases-loop-told l = left l.reader.doc.now l.reader.cursor

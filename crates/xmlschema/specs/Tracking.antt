@@ -1,0 +1,27 @@
+-- A validValue that closes while an enum is current finds a value of that enum, which it is the text of. (The Rust has a panic for the
+-- other case, "validValue tracking", which so can't be reached.)
+use Rattle.std.specs.Prelude.{◌≡◌, true, List, ℕ, Some}
+use Rattle.texts.specs.Text.{same}
+use Rattle.saxlite.specs.Event.{Event, Events, closes, next}
+use Rattle.saxlite.specs.Events.{events}
+use Rattle.model.specs.Schema.{Schema, under, last, a_value}
+use Rattle.elements.specs.Elements.{element_of}
+use Rattle.elements.specs.declared.Element.TheVariants.{ValidValue}
+use Rattle.builder.specs.Builder.{Builder, on, top}
+use Rattle.builder.specs.declared.state.Limits.{Limits}
+use Rattle.xmlschema.specs.Whole.{step, empty}
+
+-- after some of a document's events the builder is this one, and these events are still to come
+pub data Reached (l : Limits) (doc : List ℕ) : Events → Builder → Type 0 where
+  start : Reached l doc (events doc) empty
+  further : (place : ℕ) (event : Event) (more : Events) (b b' : Builder) → Reached l doc (next place event more) b → step l place event b ≡ on b' → Reached l doc more b'
+
+-- the enum at a position has a value
+pub record HasValue (enum : ℕ) (s : Schema) : Type 0 where
+  pub at : ℕ
+  pub is : last (under a_value enum s) ≡ Some at
+
+abbrev pub ValuesFound : Type 0
+ValuesFound =
+    (l : Limits) (doc : List ℕ) (place : ℕ) (name : List ℕ) (more : Events) (b : Builder) (enum : ℕ) →
+    Reached l doc (next place (closes name) more) b → element_of name ≡ ValidValue → same name (top b.stack) ≡ true → b.current.enum ≡ Some enum → HasValue enum b.schema
