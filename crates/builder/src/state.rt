@@ -68,12 +68,6 @@ impl State {
         }
     }
 
-    pub fn is_collecting(self) -> bool
-        ensures { result ≡ self.current.collecting }
-    {
-        self.current.collecting
-    }
-
     // How many elements are open.
     pub fn depth(self) -> usize
         ensures { result ≡ self.place.depth }

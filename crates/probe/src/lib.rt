@@ -17,7 +17,8 @@ pub mod dump;
 use entities::decode;
 use printing::Output;
 use refusals::Refusal;
-use saxlite::reader::{Cursor, Event};
+use saxlite::event::Event;
+use saxlite::reader::Reader;
 use tags::scan::{is_xmlns, prefix_len};
 use tags::tag::{TagPart, attribute, tag_part};
 use texts::{Range, part};
@@ -153,25 +154,17 @@ fn write_event(out: &mut Output<'_>, doc: &[u8], event: Event) {
             write_attributes(out, doc, attributes);
         }
         Event::Close { name, name_len } => write_name(out, CLOSE, part(doc, name, name_len)),
-        Event::Skipped => {}
-        Event::End => {}
-        Event::Refused(_) => {}
     }
 }
 
 // The events up to the end or a refusal. There are never more events than bytes: a self-closed tag, which is two, has four.
 fn write_events(out: &mut Output<'_>, doc: &[u8]) -> Result<(), Refusal> {
-    let mut c = Cursor::at(0);
+    let mut reader = Reader::new(doc);
     for _ in 0..doc.len() {
-        if c.is_at_end(doc) {
+        let Some(told) = reader.next()? else {
             return Ok(());
-        }
-        let read = c.read(doc);
-        if let Event::Refused(r) = read.event {
-            return Err(r);
-        }
-        write_event(out, doc, read.event);
-        c = read.cursor;
+        };
+        write_event(out, doc, told.event);
     }
     Ok(())
 }
