@@ -354,8 +354,35 @@ fn runs() -> Vec<(String, String)> {
     documents
 }
 
+/// Markup that yields no event, where it stands in a document: inside one element, in rows, by turns with tags and with text, and in a
+/// value.
+fn silent() -> Vec<(String, String)> {
+    let mut documents = Vec::new();
+    for n in [0, 1, 8, 16, 24, 40] {
+        let text = "x".repeat(n);
+        for (kind, one) in [
+            ("comments", format!("<!--{text}-->")),
+            ("instructions", format!("<?{text}?>")),
+            ("declarations", format!("<!{text}>")),
+        ] {
+            let mut add = |place: &str, document: String| {
+                documents.push((format!("{kind} of {n} bytes {place}"), document));
+            };
+            add("inside an element", most("<a>", |_| one.clone(), "</a>", 32_768));
+            add("between tags", full(&format!("<a/>{one}")));
+            add("between a tag and its close", full(&format!("<a>{one}</a>")));
+            add("two between tags", full(&format!("<a/>{one}{one}")));
+            add("eight between tags", full(&format!("<a/>{}", one.repeat(8))));
+            add("a line each", full(&format!("{one}\n")));
+            add("a line each, between tags", full(&format!("<a/>\n{one}\n")));
+            add("in a value", most("<enum><validValue>", |_| format!("a{one}"), "</validValue></enum>", 32_768));
+        }
+    }
+    documents
+}
+
 /// Every document that may be slow for either side.
 pub fn all() -> Vec<(String, String)> {
     let named = |(name, document): (&str, String)| (name.to_owned(), document);
-    hard().into_iter().chain(little()).map(named).chain(short()).chain(runs()).collect()
+    hard().into_iter().chain(little()).map(named).chain(short()).chain(runs()).chain(silent()).collect()
 }
