@@ -10,7 +10,7 @@ ghost use Rattle.tags.specs.Find.{find_from};
 ghost use Rattle.tags.specs.Names.{prefix_length, is_xmlns};
 
 use classes::{is_attribute_name_end, is_name_stop, is_space, is_tag_name_end};
-use texts::scan::{ByteTest, scan_eights};
+use texts::scan::{ByteTest, scan_eights, scan_fours};
 use words::stands_short;
 
 #[derive(Clone, Copy)]
@@ -73,7 +73,7 @@ pub fn skip_space(doc: &[u8], at: usize) -> usize
                 return i;
             }
         }
-        return scan_eights(doc, i, &Spaces);
+        return scan_fours(doc, i, &Spaces);
     }
     at
 }

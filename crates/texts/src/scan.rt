@@ -56,9 +56,9 @@ fn past_eights<T: ByteTest>(s: &[u8], from: usize, by: &T) -> usize
     i
 }
 
-// The same as `scan_each`, with one test of the end for each four bytes. Each byte has a return of its own: the processor guesses it,
-// and waits for no choice between places.
-fn scan_fours<T: ByteTest>(s: &[u8], from: usize, by: &T) -> usize
+// The same, with one test of the end for each four bytes, where a run is likely to be short. Each byte has a return of its own: the
+// processor guesses it, and waits for no choice between places.
+pub fn scan_fours<T: ByteTest>(s: &[u8], from: usize, by: &T) -> usize
     ensures { result ≡ scan T.test s.now from }
 {
     if s.len() < 4 {
@@ -85,7 +85,7 @@ fn scan_fours<T: ByteTest>(s: &[u8], from: usize, by: &T) -> usize
     scan_each(s, i, by)
 }
 
-// The same, with one branch for each eight bytes that pass.
+// The same, with one branch for each eight bytes that pass, where a run may be long.
 pub fn scan_eights<T: ByteTest>(s: &[u8], from: usize, by: &T) -> usize
     ensures { result ≡ scan T.test s.now from }
 {
