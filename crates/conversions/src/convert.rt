@@ -213,7 +213,6 @@ fn write<C: Case>(out: &mut Output<'_>, case: &C, name: &[u8])
     out.at = put(out.bytes, out.at, case, name);
 }
 
-// Who writes many names makes the table once and lends it.
 // kept, with the three like it: each names the text that it writes.
 #[tactic(auto, unfolding(crate::specs::Conversions::camel_to_snake, crate::specs::Conversions::snake_at, crate::specs::Rules::cased, crate::specs::Rules::cased_at))]
 #[inline(always)]

@@ -168,5 +168,15 @@ module _ (doc : List ℕ) (at : ℕ) {len : ℕ} where
     pub leaf-other : (len ≡ 4 → ⊥) → (len ≡ 5 → ⊥) → (len ≡ 7 → ⊥) → (len ≡ 9 → ⊥) → (len ≡ 10 → ⊥) → IsLeaf (piece doc at len) true
     leaf-other n4 n5 n7 n9 n10 = record { is = λ t. leaf-unless (piece doc at len) (differs doc at h (ascii "composite") tt n9) (differs doc at h (ascii "enum") tt n4) (differs doc at h (ascii "validValue") tt n10) (differs doc at h (ascii "message") tt n7) (differs doc at h (ascii "group") tt n5) }
 
+-- a name of four bytes or five that is none of the two elements' of that length
+module _ (doc : List ℕ) (at : ℕ) {len : ℕ} (h : at + 16 ≤ length doc) {a b : Bool} where
+  pub other-four : StandsShort doc at 4294967296 1701869940 a → a ≡ false → StandsShort doc at 4294967296 1836412517 b → b ≡ false → len ≡ 4 → Other ≡ element_of (piece doc at len)
+  unfolding element_of other_element_of word_of
+  other-four s e t f l = rw (differs doc at {len = len} h (ascii "messageSchema") tt (λ x. omega arith), unlike doc at len (ascii "type") (record { few = leb→le 4 8 tt; power = refl; number = refl; bytes = tt }) s (ap not e), differs doc at {len = len} h (ascii "ref") tt (λ x. omega arith), differs doc at {len = len} h (ascii "composite") tt (λ x. omega arith), unlike doc at len (ascii "enum") (record { few = leb→le 4 8 tt; power = refl; number = refl; bytes = tt }) t (ap not f), differs doc at {len = len} h (ascii "validValue") tt (λ x. omega arith), differs doc at {len = len} h (ascii "message") tt (λ x. omega arith), differs doc at {len = len} h (ascii "group") tt (λ x. omega arith), differs doc at {len = len} h (ascii "field") tt (λ x. omega arith))
+
+  pub other-five : StandsShort doc at 1099511627776 431315315046 a → a ≡ false → StandsShort doc at 1099511627776 483006575207 b → b ≡ false → len ≡ 5 → Other ≡ element_of (piece doc at len)
+  unfolding element_of other_element_of word_of
+  other-five s e t f l = rw (differs doc at {len = len} h (ascii "messageSchema") tt (λ x. omega arith), differs doc at {len = len} h (ascii "type") tt (λ x. omega arith), differs doc at {len = len} h (ascii "ref") tt (λ x. omega arith), differs doc at {len = len} h (ascii "composite") tt (λ x. omega arith), differs doc at {len = len} h (ascii "enum") tt (λ x. omega arith), differs doc at {len = len} h (ascii "validValue") tt (λ x. omega arith), differs doc at {len = len} h (ascii "message") tt (λ x. omega arith), unlike doc at len (ascii "group") (record { few = leb→le 5 8 tt; power = refl; number = refl; bytes = tt }) t (ap not f), unlike doc at len (ascii "field") (record { few = leb→le 5 8 tt; power = refl; number = refl; bytes = tt }) s (ap not e))
+
 pub leaf-not : (name : List ℕ) → IsLeaf name false
 leaf-not name = record { is = λ t. absurd (let z : ◌≡◌ {A = ℕ} 0 1 = cc in omega arith) }

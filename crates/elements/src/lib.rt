@@ -86,16 +86,18 @@ pub fn is_leaf_at(doc: &[u8], at: usize, len: usize) -> bool
 // What a name of 3 to 5 bytes in a document says.
 #[inline(always)]
 fn short_element_at(doc: &[u8], at: usize, len: usize) -> Element
-    requires { at + 8 ≤ length doc.now }
+    requires { at + 16 ≤ length doc.now }
     ensures { result ≡ element_of (piece doc.now at len) }
 {
     match len {
         // "field", "group"
         5 if stands_short(doc, at, 0x100_0000_0000, 0x64_6c65_6966) => Element::Field,
         5 if stands_short(doc, at, 0x100_0000_0000, 0x70_756f_7267) => Element::Group,
+        5 => Element::Other,
         // "type", "enum"
         4 if stands_short(doc, at, 0x1_0000_0000, 0x6570_7974) => Element::Type,
         4 if stands_short(doc, at, 0x1_0000_0000, 0x6d75_6e65) => Element::Enum,
+        4 => Element::Other,
         _ => element_of(part(doc, at, len)),
     }
 }

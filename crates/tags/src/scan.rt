@@ -9,8 +9,8 @@ ghost use Rattle.classes.specs.Class.{is_space, is_tag_name_end, is_attribute_na
 ghost use Rattle.tags.specs.Find.{find_from};
 ghost use Rattle.tags.specs.Names.{prefix_length, is_xmlns};
 
-use classes::{compared, is_attribute_name_end, is_name_stop, is_space, is_tag_name_end};
-use texts::scan::{ByteTest, scan_fours};
+use classes::{is_attribute_name_end, is_name_stop, is_space, is_tag_name_end};
+use texts::scan::{ByteTest, scan_eights, scan_fours};
 use words::stands_short;
 
 #[derive(Clone, Copy)]
@@ -25,17 +25,6 @@ impl ByteTest for Spaces {
 }
 
 #[derive(Clone, Copy)]
-struct FarSpaces;
-
-impl ByteTest for FarSpaces {
-    ghost test = { is_space };
-
-    fn passes(&self, b: u8) -> bool {
-        compared::is_space(b)
-    }
-}
-
-#[derive(Clone, Copy)]
 struct TagNames;
 
 impl ByteTest for TagNames {
@@ -43,17 +32,6 @@ impl ByteTest for TagNames {
 
     fn passes(&self, b: u8) -> bool {
         !is_tag_name_end(b)
-    }
-}
-
-#[derive(Clone, Copy)]
-struct FarTagNames;
-
-impl ByteTest for FarTagNames {
-    ghost test = { until is_tag_name_end };
-
-    fn passes(&self, b: u8) -> bool {
-        !compared::is_tag_name_end(b)
     }
 }
 
@@ -70,17 +48,6 @@ impl ByteTest for NameParts {
 }
 
 #[derive(Clone, Copy)]
-struct FarNameParts;
-
-impl ByteTest for FarNameParts {
-    ghost test = { until is_name_stop };
-
-    fn passes(&self, b: u8) -> bool {
-        !compared::is_name_stop(b)
-    }
-}
-
-#[derive(Clone, Copy)]
 struct AttributeNames;
 
 impl ByteTest for AttributeNames {
@@ -88,17 +55,6 @@ impl ByteTest for AttributeNames {
 
     fn passes(&self, b: u8) -> bool {
         !is_attribute_name_end(b)
-    }
-}
-
-#[derive(Clone, Copy)]
-struct FarAttributeNames;
-
-impl ByteTest for FarAttributeNames {
-    ghost test = { until is_attribute_name_end };
-
-    fn passes(&self, b: u8) -> bool {
-        !compared::is_attribute_name_end(b)
     }
 }
 
@@ -117,7 +73,7 @@ pub fn skip_space(doc: &[u8], at: usize) -> usize
                 return i;
             }
         }
-        return scan_fours(doc, i, &Spaces, &FarSpaces);
+        return scan_fours(doc, i, &Spaces);
     }
     at
 }
@@ -126,14 +82,14 @@ pub fn skip_space(doc: &[u8], at: usize) -> usize
 pub fn tag_name_end(doc: &[u8], at: usize) -> usize
     ensures { result ≡ scan (until is_tag_name_end) doc.now at }
 {
-    scan_fours(doc, at, &TagNames, &FarTagNames)
+    scan_eights(doc, at, &TagNames)
 }
 
 // Where the raw name at `at` ends or first has a colon.
 fn name_stop(doc: &[u8], at: usize) -> usize
     ensures { result ≡ scan (until is_name_stop) doc.now at }
 {
-    scan_fours(doc, at, &NameParts, &FarNameParts)
+    scan_eights(doc, at, &NameParts)
 }
 
 // A raw name: where it ends, and how many bytes it loses.
@@ -168,15 +124,15 @@ pub fn attribute_name_end(doc: &[u8], at: usize) -> usize
     ensures { result ≡ scan (until is_attribute_name_end) doc.now at }
 {
     if doc.len() < 8 || doc.len() - 8 < at {
-        return scan_fours(doc, at, &AttributeNames, &FarAttributeNames);
+        return scan_eights(doc, at, &AttributeNames);
     }
     if stands_short(doc, at, 0x100_0000_0000, 0x73_6e6c_6d78) {
         if doc[at + 5] == b'=' {
             return at + 5;
         }
-        return scan_fours(doc, at + 5, &AttributeNames, &FarAttributeNames);
+        return scan_eights(doc, at + 5, &AttributeNames);
     }
-    scan_fours(doc, at, &AttributeNames, &FarAttributeNames)
+    scan_eights(doc, at, &AttributeNames)
 }
 
 // Where the first `b` from `at` on stands, or the end.

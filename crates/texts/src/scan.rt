@@ -1,5 +1,5 @@
 // Scans: how far a run of bytes goes that pass a test.
-ghost use Rattle.std.specs.Prelude.{◌≡◌, true, Bool, ℕ, ◌+◌, ◌≤◌, ◌<◌, length};
+ghost use Rattle.std.specs.Prelude.{◌≡◌, true, Bool, ℕ, ◌+◌, ◌≤◌, length};
 ghost use Rattle.texts.specs.Scan.{scan};
 
 // A test of bytes.
@@ -24,8 +24,8 @@ pub fn scan_each<T: ByteTest>(s: &[u8], from: usize, by: &T) -> usize
     from.max(s.len())
 }
 
-// Whether the `N` bytes from `i` on pass, with no branch: of a test that is made of comparisons it is vector code. By a byte and not by
-// a bool, of which the compiler would keep a bit for each comparison.
+// Whether the `N` bytes from `i` on pass, with one branch for all of them. By a byte and not by a bool, of which the compiler would keep
+// a bit for each test.
 fn all_pass<T: ByteTest, const N: usize>(s: &[u8], i: usize, by: &T) -> bool
     requires { i + N ≤ length s.now }
     ensures { result ≡ true → scan T.test s.now (i + N) ≡ scan T.test s.now i }
@@ -37,47 +37,37 @@ fn all_pass<T: ByteTest, const N: usize>(s: &[u8], i: usize, by: &T) -> bool
     failed == 0
 }
 
-// From `from` on past blocks of sixteen bytes that pass, for a run that is long.
-fn past_far<T: ByteTest>(s: &[u8], from: usize, by: &T) -> usize
+// From `from` on past blocks of eight bytes that pass.
+fn past_eights<T: ByteTest>(s: &[u8], from: usize, by: &T) -> usize
     ensures { scan T.test s.now result ≡ scan T.test s.now from }
 {
-    if s.len() < 16 {
+    if s.len() < 8 {
         return from;
     }
-    let last = s.len() - 16;
+    let last = s.len() - 8;
     let mut i = from;
-    // kept: a `while`, since its steps are of sixteen bytes.
+    // kept: a `while`, since its steps are of eight bytes.
     while i <= last {
-        if !all_pass::<T, 16>(s, i, by) {
+        if !all_pass::<T, 8>(s, i, by) {
             return i;
         }
-        i += 16;
+        i += 8;
     }
     i
 }
 
-// The same as `scan_each`, behind blocks of sixteen bytes that another test passes, which says the same.
-#[inline(never)]
-fn scan_long<T: ByteTest, F: ByteTest>(s: &[u8], from: usize, by: &T, far: &F) -> usize
-    requires { F.test ≡ T.test }
-    ensures { result ≡ scan T.test s.now from }
-{
-    scan_each(s, past_far(s, from, far), by)
-}
-
-// The same, where a run is likely to be short: with one test of the end for its first 64 bytes. Each byte has a return of its own: the
+// The same, with one test of the end for each four bytes, where a run is likely to be short. Each byte has a return of its own: the
 // processor guesses it, and waits for no choice between places.
-pub fn scan_fours<T: ByteTest, F: ByteTest>(s: &[u8], from: usize, by: &T, far: &F) -> usize
-    requires { F.test ≡ T.test }
+pub fn scan_fours<T: ByteTest>(s: &[u8], from: usize, by: &T) -> usize
     ensures { result ≡ scan T.test s.now from }
 {
-    if s.len() < 68 || s.len() - 68 < from {
+    if s.len() < 4 {
         return scan_each(s, from, by);
     }
-    let stop = from + 64;
+    let last = s.len() - 4;
     let mut i = from;
     // kept: a `while`, since its steps are of four bytes.
-    while i < stop {
+    while i <= last {
         if !by.passes(s[i]) {
             return i;
         }
@@ -92,5 +82,12 @@ pub fn scan_fours<T: ByteTest, F: ByteTest>(s: &[u8], from: usize, by: &T, far: 
         }
         i += 4;
     }
-    scan_long(s, i, by, far)
+    scan_each(s, i, by)
+}
+
+// The same, with one branch for each eight bytes that pass, where a run may be long.
+pub fn scan_eights<T: ByteTest>(s: &[u8], from: usize, by: &T) -> usize
+    ensures { result ≡ scan T.test s.now from }
+{
+    scan_fours(s, past_eights(s, from, by), by)
 }

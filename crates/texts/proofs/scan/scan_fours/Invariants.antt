@@ -1,4 +1,5 @@
 use Prim.Native.Nat.{◌-◌}
+use lib.ListN.{length}
 use Rattle.texts.proofs.Scanning.{Scanning}
 use Rattle.texts.proofs.scan.scan_fours.Given as goal
 
@@ -6,4 +7,4 @@ abbrev pub invariant-loop-i : goal.invariant-loop-i
 invariant-loop-i g l = Scanning g.T.ByteTest.test l.s l.from l.i
 
 abbrev pub decreases-loop-i : goal.decreases-loop-i
-decreases-loop-i g l = l.stop - l.i
+decreases-loop-i g l = length l.s - l.i

@@ -1,7 +1,7 @@
 use Prim.Native.Nat.{◌-◌}
 use lib.ListN.{length}
 use Rattle.texts.proofs.Scanning.{Scanning}
-use Rattle.texts.proofs.scan.past_far.Given as goal
+use Rattle.texts.proofs.scan.past_eights.Given as goal
 
 abbrev pub invariant-loop-i : goal.invariant-loop-i
 invariant-loop-i g l = Scanning g.T.ByteTest.test l.s l.from l.i
