@@ -23,7 +23,8 @@ use Rattle.escaping.specs.Escape.{escaped}
 use Rattle.escaping.specs.Escaping.{stands}
 
 -- an escape that is longer than one byte is none of one byte
-past : (c : Bool) (x y : List ℕ) {z : List ℕ} → 2 ≤ length x → (length y ≡ 1 → y ≡ z) → length (pick c x y) ≡ 1 → pick c x y ≡ z
+past : (c : Bool) (x y : List ℕ) {z : List ℕ} →
+    2 ≤ length x → (length y ≡ 1 → y ≡ z) → length (pick c x y) ≡ 1 → pick c x y ≡ z
 past true x y two rest h = absurd (omega arith)
 past false x y two rest h = rest h
 

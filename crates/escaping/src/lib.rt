@@ -29,8 +29,8 @@ enum Kind {
     Hex,
 }
 
-// A byte's escape, by its range: its kind, and how many bytes long it is. This alone decides which bytes a run may hold,
-// what is written of any other, and how much.
+// A byte's escape, by its range: its kind, and how many bytes long it is. This alone decides
+// which bytes a run may hold, what is written of any other, and how much.
 #[tactic(auto, unfolding(crate::specs::Escape::escaped, crate::specs::Escape::hex))]
 fn escape_of(b: u8) -> (Kind, u8)
     ensures kind { shown_as result.0 b ≡ escaped b }
@@ -98,7 +98,8 @@ fn write_escaped(out: &mut Output<'_>, b: u8)
 
 // ---- which bytes a run holds: those whose escape is one byte long
 
-// How long the bytes' escapes are: noted for each, so that a long text costs one look a byte, or for none.
+// How long the bytes' escapes are: noted for each, so that a long text costs one look a byte, or
+// for none.
 #[derive(Clone, Copy)]
 struct Lengths<'a> {
     noted: &'a [u8],
