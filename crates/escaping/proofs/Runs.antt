@@ -2,7 +2,7 @@
 use mathlib.Core.Path.{◌≡◌, refl, sym, ap, ◌∙◌}
 use mathlib.Core.Bool.{Bool, true, false}
 use mathlib.Core.List.{List, [], ◌∷◌, ◌++◌}
-use Prim.Native.Nat.{ℕ, ◌+◌, ◌-◌, ◌≤◌, ◌<◌}
+use Prim.Native.Nat.{ℕ, ◌+◌, ◌-◌, ◌^◌, ◌≤◌, ◌<◌}
 use native.Mathlib.Numerals.{add-one}
 use native.Mathlib.Omega.{arith}
 use lib.Dec.{eqb, ltb}
@@ -16,8 +16,10 @@ use Rattle.texts.specs.Lists.{each}
 use Rattle.texts.specs.Choice.{pick, ◌or◌}
 use Rattle.texts.proofs.Choosing.{by-test}
 use Rattle.texts.proofs.Scanning.{count_yes, count_no}
-use Rattle.printing.specs.Written.{written, Wrote}
+use Rattle.printing.specs.Written.{written, moved, Wrote}
 use Rattle.printing.specs.declared.Output.{Output}
+use Rattle.printing.specs.Printed.{Printed, skipped}
+use Rattle.printing.proofs.Passing.{counted as told}
 use Rattle.printing.proofs.Writing.{written-append, written-nothing}
 use Rattle.escaping.specs.Escape.{escaped}
 use Rattle.escaping.specs.Escaping.{stands}
@@ -38,6 +40,14 @@ shown b t =
     (past (eqb b 34) _ _ (omega arith)
     (past (eqb b 92) _ _ (omega arith)
     (past (ltb b 32 or eqb b 127) _ _ (omega arith) (λ _. refl))))))) (eqb-true _ 1 t)
+
+-- where nothing of a text fits, its length is all that is to be counted
+pub counted : {o o' : Output} {n : ℕ} (t : List ℕ) → length o.bytes.now ≤ o.at → length o.bytes.now < 2 ^ 63 →
+    n ≡ length t → o' ≡ moved o n → Wrote o o' t
+unfolding written
+counted {o} {o'} {n} t h l e m =
+    let p : Printed o.bytes.now o.at o.bytes.now (skipped o.at n) t = told t h l (ap (skipped o.at) e) in
+    record { is = m ∙ rw (← p.is, p.to) refl }
 
 run : (t : List ℕ) → each escaped t ≡ take (count_while stands t) t ++ each escaped (drop (count_while stands t) t)
 unfolding each

@@ -58,41 +58,40 @@ fn hex_digit(d: u8) -> u8
     if d < 10 { 48 + d } else { 87 + d }
 }
 
-// Writes a byte in the digits that an escape of `len` bytes has: two where it is of 6.
-#[tactic(auto, unfolding(crate::specs::Escape::hex), using(printing::proofs::Writing::writing))]
+// Writes `\u{..}`, as many bytes as `len` says: with one digit where they are 5.
+#[tactic(auto, unfolding(crate::specs::Escape::hex))]
 fn write_hex(out: &mut Output<'_>, b: u8, len: u8)
-    requires { len ≡ 4 + length (hex b) }
-    ensures { Wrote out.old out.new (hex b) }
-{
-    if len == 6 {
-        out.byte(hex_digit(b / 16));
-    }
-    out.byte(hex_digit(b % 16));
-}
-
-#[tactic(auto, using(printing::proofs::Writing::writing))]
-fn write_unicode(out: &mut Output<'_>, b: u8, len: u8)
     requires { len ≡ 4 + length (hex b) }
     ensures { Wrote out.old out.new (ascii "\\u{" ++ hex b ++ ascii "}") }
 {
-    out.text(b"\\u{");
-    write_hex(out, b, len);
-    out.byte(b'}');
+    if len == 5 {
+        out.text(&[b'\\', b'u', b'{', hex_digit(b), b'}']);
+    } else {
+        out.text(&[
+            b'\\',
+            b'u',
+            b'{',
+            hex_digit(b / 16),
+            hex_digit(b % 16),
+            b'}',
+        ]);
+    }
 }
 
-// Writes a byte's escape.
-#[tactic(auto, using(printing::proofs::Writing::writing))]
+// Writes a byte's escape, or counts its length where nothing of it fits, as when measuring.
+#[tactic(auto, using(crate::proofs::Runs::counted))]
 fn write_escaped(out: &mut Output<'_>, b: u8)
     ensures { Wrote out.old out.new (escaped b) }
 {
     let (kind, len) = escape_of(b);
+    if out.bytes.len() <= out.at {
+        out.skip(len as usize);
+        return;
+    }
     match kind {
         Kind::Plain => out.byte(b),
-        Kind::Letter(l) => {
-            out.byte(b'\\');
-            out.byte(l);
-        }
-        Kind::Hex => write_unicode(out, b, len),
+        Kind::Letter(l) => out.text_then(b"\\", l),
+        Kind::Hex => write_hex(out, b, len),
     }
 }
 
@@ -120,11 +119,12 @@ impl ByteTest for Lengths<'_> {
     }
 }
 
-fn note() -> [u8; 256]
-    ensures { (b : ℕ) → b < 256 → slice_index_or result b 0 ≡ length (escaped b) }
+// Noted of the ASCII bytes, which are all that a document has.
+fn note() -> [u8; 128]
+    ensures { (b : ℕ) → b < 128 → slice_index_or result b 0 ≡ length (escaped b) }
 {
-    let mut noted = [0; 256];
-    for i in 0..256 {
+    let mut noted = [0; 128];
+    for i in 0..128 {
         noted[i] = escape_of(i as u8).1;
     }
     noted

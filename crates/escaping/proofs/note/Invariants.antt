@@ -5,4 +5,4 @@ use Rattle.escaping.specs.Escape.{escaped}
 use Rattle.escaping.proofs.note.Given as goal
 
 abbrev pub invariant-loop-i : goal.invariant-loop-i
-invariant-loop-i l = (length l.noted ≡ 256) × ((b : ℕ) → b < l.i → get_or l.noted b 0 ≡ length (escaped b))
+invariant-loop-i l = (length l.noted ≡ 128) × ((b : ℕ) → b < l.i → get_or l.noted b 0 ≡ length (escaped b))
