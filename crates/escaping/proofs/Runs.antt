@@ -1,50 +1,65 @@
 -- Runs of bytes that are shown as they stand: what is to be written from the place i on is the run, then what is to be written behind it.
 use mathlib.Core.Path.{◌≡◌, refl, sym, ap, ◌∙◌}
-use mathlib.Core.Bool.{Bool, true, false, not}
+use mathlib.Core.Bool.{Bool, true, false}
 use mathlib.Core.List.{List, [], ◌∷◌, ◌++◌}
-use Prim.Native.Nat.{ℕ, ◌+◌, ◌-◌, ◌≤◌, ◌<◌}
+use Prim.Native.Nat.{ℕ, ◌+◌, ◌-◌, ◌^◌, ◌≤◌, ◌<◌}
 use native.Mathlib.Numerals.{add-one}
 use native.Mathlib.Omega.{arith}
-use lib.Dec.{eqb, leb}
+use lib.Dec.{eqb, ltb}
 use lib.ListN.{length, take, drop, get_or, drop_of_length-le}
 use lib.Seq.{drop-cons, drop-drop}
 use borrow.Author.Rules.{rules}
-use borrow.Author.Tests.{leb-true, le-ltb, ne_eqb}
+use borrow.Author.Tests.{eqb-true}
 use Rattle.texts.specs.Scan.{count_while, scan}
 use Rattle.texts.specs.Text.{piece}
 use Rattle.texts.specs.Lists.{each}
-use Rattle.texts.proofs.Choosing.{by-test, both_true}
+use Rattle.texts.specs.Choice.{pick, ◌or◌}
+use Rattle.texts.proofs.Choosing.{by-test}
 use Rattle.texts.proofs.Scanning.{count_yes, count_no}
-use Rattle.printing.specs.Written.{written, Wrote}
+use Rattle.printing.specs.Written.{written, moved, Wrote}
 use Rattle.printing.specs.declared.Output.{Output}
+use Rattle.printing.specs.Printed.{Printed, skipped}
+use Rattle.printing.proofs.Passing.{counted as told}
 use Rattle.printing.proofs.Writing.{written-append, written-nothing}
 use Rattle.escaping.specs.Escape.{escaped}
-use Rattle.escaping.specs.Escaping.{is_plain}
+use Rattle.escaping.specs.Escaping.{stands}
 
-not-true : (b : Bool) → not b ≡ true → b ≡ false
-not-true true e = cc
-not-true false e = refl
+-- an escape that is longer than one byte is none of one byte
+past : (c : Bool) (x y : List ℕ) {z : List ℕ} →
+    2 ≤ length x → (length y ≡ 1 → y ≡ z) → length (pick c x y) ≡ 1 → pick c x y ≡ z
+past true x y two rest h = absurd (omega arith)
+past false x y two rest h = rest h
 
-shown : (b : ℕ) → is_plain b ≡ true → escaped b ≡ b ∷ []
-unfolding escaped is_plain
+shown : (b : ℕ) → stands b ≡ true → escaped b ≡ b ∷ []
+unfolding escaped stands
 shown b t =
-    let p = both_true (leb 32 b) _ t in
-    let q = both_true (not (eqb b 34)) _ p.1 in
-    let r = both_true (not (eqb b 92)) _ q.1 in
-    let h : 32 ≤ b = leb-true 32 b p.0 in
-    rw (ne_eqb b 0 (omega arith), ne_eqb b 9 (omega arith), ne_eqb b 10 (omega arith), ne_eqb b 13 (omega arith), not-true _ q.0, not-true _ r.0, le-ltb b 32 h, not-true _ r.1)
+    past (eqb b 0) _ _ (omega arith)
+    (past (eqb b 9) _ _ (omega arith)
+    (past (eqb b 10) _ _ (omega arith)
+    (past (eqb b 13) _ _ (omega arith)
+    (past (eqb b 34) _ _ (omega arith)
+    (past (eqb b 92) _ _ (omega arith)
+    (past (ltb b 32 or eqb b 127) _ _ (omega arith) (λ _. refl))))))) (eqb-true _ 1 t)
 
-run : (t : List ℕ) → each escaped t ≡ take (count_while is_plain t) t ++ each escaped (drop (count_while is_plain t) t)
+-- where nothing of a text fits, its length is all that is to be counted
+pub counted : {o o' : Output} {n : ℕ} (t : List ℕ) → length o.bytes.now ≤ o.at → length o.bytes.now < 2 ^ 63 →
+    n ≡ length t → o' ≡ moved o n → Wrote o o' t
+unfolding written
+counted {o} {o'} {n} t h l e m =
+    let p : Printed o.bytes.now o.at o.bytes.now (skipped o.at n) t = told t h l (ap (skipped o.at) e) in
+    record { is = m ∙ rw (← p.is, p.to) refl }
+
+run : (t : List ℕ) → each escaped t ≡ take (count_while stands t) t ++ each escaped (drop (count_while stands t) t)
 unfolding each
 run [] = refl
 run (b ∷ t) =
-    by-test (is_plain b)
-    (λ v. rw (count_yes is_plain b t v, shown b v) (ap (λ r. b ∷ r) (run t)))
-    (λ v. rw (count_no is_plain b t v))
+    by-test (stands b)
+    (λ v. rw (count_yes stands b t v, shown b v) (ap (λ r. b ∷ r) (run t)))
+    (λ v. rw (count_no stands b t v))
 
-run_at : (s : List ℕ) (i e : ℕ) → e ≡ scan is_plain s i → each escaped (drop i s) ≡ piece s i (e - i) ++ each escaped (drop e s)
+run_at : (s : List ℕ) (i e : ℕ) → e ≡ scan stands s i → each escaped (drop i s) ≡ piece s i (e - i) ++ each escaped (drop e s)
 run_at s i e q =
-    let k = count_while is_plain (drop i s) in
+    let k = count_while stands (drop i s) in
     let z : e - i ≡ k = omega arith in
     rw (z, q, ← drop-drop k i s) (run (drop i s))
 
@@ -64,7 +79,7 @@ module _ {s : List ℕ} {o₀ o : Output} {i : ℕ} (inv : Runs s o₀ o i) wher
   pub runs-end : length s ≤ i → Wrote o₀ o (each escaped s)
   runs-end h = record { is = sym (written-nothing o) ∙ ap (written o) (sym (nothing-left s i h)) ∙ inv.is }
 
-  module _ {e : ℕ} (q : e ≡ scan is_plain s i) {t : List ℕ} (f : t ≡ piece s i (e - i)) {o₁ : Output} (w : Wrote o o₁ t) where
+  module _ {e : ℕ} (q : e ≡ scan stands s i) {t : List ℕ} (f : t ≡ piece s i (e - i)) {o₁ : Output} (w : Wrote o o₁ t) where
     after : Runs s o₀ o₁ e
     after = record { is = ap (λ x. written x (each escaped (drop e s))) (w.is ∙ ap (written o) f) ∙ written-append o _ _ ∙ ap (written o) (sym (run_at s i e q)) ∙ inv.is }
 

@@ -1,8 +1,7 @@
 -- What the code says of a byte before it is escaped. Internal.
-use Rattle.std.specs.Prelude.{Bool, not, List, [], ◌∷◌, ◌++◌, ℕ, eqb, leb}
-use Rattle.texts.specs.Choice.{◌and◌}
+use Rattle.std.specs.Prelude.{Bool, List, [], ◌∷◌, ◌++◌, ℕ, eqb, length}
 use Rattle.texts.specs.Text.{ascii}
-use Rattle.escaping.specs.Escape.{hex}
+use Rattle.escaping.specs.Escape.{hex, escaped}
 use Rattle.escaping.specs.declared.Kind.{Kind}
 use Rattle.escaping.specs.declared.Kind.TheVariants.{Plain, Letter, Hex}
 
@@ -12,6 +11,6 @@ shown_as Plain b = b ∷ []
 shown_as (Letter l) b = 92 ∷ l ∷ []
 shown_as Hex b = ascii "\\u{" ++ hex b ++ ascii "}"
 
--- a byte that is shown as it stands: no control, '"', '\' or 127
-unfoldable pub is_plain : ℕ → Bool
-is_plain b = leb 32 b and not (eqb b 34) and not (eqb b 92) and not (eqb b 127)
+-- a byte that a run may hold: its escape is one byte long
+unfoldable pub stands : ℕ → Bool
+stands b = eqb (length (escaped b)) 1

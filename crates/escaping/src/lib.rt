@@ -4,18 +4,18 @@
 // and its contract is `Wrote` of `quoted` (specs/Escape.antt).
 #![tactic(auto)]
 
-ghost use Rattle.std.specs.Prelude.{◌≡◌, Bool, true, false, [], ◌∷◌, ◌++◌, ℕ, ◌-◌, ◌≤◌, ◌<◌, length, slice_index_or};
+ghost use Rattle.std.specs.Prelude.{◌≡◌, Bool, true, false, [], ◌∷◌, ◌++◌, ℕ, ◌+◌, ◌-◌, ◌≤◌, ◌<◌, length, slice_index_or};
 ghost use Rattle.texts.specs.Text.{ascii};
 ghost use Rattle.texts.specs.Lists.{each};
 ghost use Rattle.printing.specs.Written.{Wrote};
 ghost use Rattle.escaping.specs.Escape.{hex_digit, hex, escaped, quoted};
-ghost use Rattle.escaping.specs.Escaping.{shown_as, is_plain};
+ghost use Rattle.escaping.specs.Escaping.{shown_as, stands};
 
 use printing::Output;
 use texts::part;
 use texts::scan::{ByteTest, scan_each};
 
-// A text of so many bytes is long: noting which bytes are plain pays.
+// A text of so many bytes is long: noting how long each byte's escape is pays.
 const LONG: usize = 1024;
 
 // How a byte is shown.
@@ -29,20 +29,23 @@ enum Kind {
     Hex,
 }
 
-#[tactic(auto, unfolding(crate::specs::Escape::escaped))]
-fn kind_of(b: u8) -> Kind
-    ensures { shown_as result b ≡ escaped b }
+// A byte's escape, by its range: its kind, and how many bytes long it is. This alone decides
+// which bytes a run may hold, what is written of any other, and how much.
+#[tactic(auto, unfolding(crate::specs::Escape::escaped, crate::specs::Escape::hex))]
+fn escape_of(b: u8) -> (Kind, u8)
+    ensures kind { shown_as result.0 b ≡ escaped b }
+    ensures long { result.1 ≡ length (escaped b) }
 {
     match b {
-        0 => Kind::Letter(b'0'),
-        9 => Kind::Letter(b't'),
-        10 => Kind::Letter(b'n'),
-        13 => Kind::Letter(b'r'),
-        34 => Kind::Letter(b'"'),
-        92 => Kind::Letter(b'\\'),
-        127 => Kind::Hex,
-        1..=31 => Kind::Hex,
-        _ => Kind::Plain,
+        0 => (Kind::Letter(b'0'), 2),
+        9 => (Kind::Letter(b't'), 2),
+        10 => (Kind::Letter(b'n'), 2),
+        13 => (Kind::Letter(b'r'), 2),
+        34 => (Kind::Letter(b'"'), 2),
+        92 => (Kind::Letter(b'\\'), 2),
+        1..=15 => (Kind::Hex, 5),
+        16..=31 | 127 => (Kind::Hex, 6),
+        _ => (Kind::Plain, 1),
     }
 }
 
@@ -55,78 +58,74 @@ fn hex_digit(d: u8) -> u8
     if d < 10 { 48 + d } else { 87 + d }
 }
 
-#[tactic(auto, unfolding(crate::specs::Escape::hex), using(printing::proofs::Writing::writing))]
-fn write_hex(out: &mut Output<'_>, b: u8)
-    ensures { Wrote out.old out.new (hex b) }
+// Writes `\u{..}`, as many bytes as `len` says: with one digit where they are 5.
+#[tactic(auto, unfolding(crate::specs::Escape::hex))]
+fn write_hex(out: &mut Output<'_>, b: u8, len: u8)
+    requires { len ≡ 4 + length (hex b) }
+    ensures { Wrote out.old out.new (ascii "\\u{" ++ hex b ++ ascii "}") }
 {
-    if b < 16 {
-        out.byte(hex_digit(b));
+    if len == 5 {
+        out.text(&[b'\\', b'u', b'{', hex_digit(b), b'}']);
     } else {
-        out.byte(hex_digit(b / 16));
-        out.byte(hex_digit(b % 16));
+        out.text(&[
+            b'\\',
+            b'u',
+            b'{',
+            hex_digit(b / 16),
+            hex_digit(b % 16),
+            b'}',
+        ]);
     }
 }
 
-#[tactic(auto, using(printing::proofs::Writing::writing))]
-fn write_unicode(out: &mut Output<'_>, b: u8)
-    ensures { Wrote out.old out.new (ascii "\\u{" ++ hex b ++ ascii "}") }
-{
-    out.text(b"\\u{");
-    write_hex(out, b);
-    out.byte(b'}');
-}
-
-// Writes a byte's escape.
-#[tactic(auto, using(printing::proofs::Writing::writing))]
+// Writes a byte's escape, or counts its length where nothing of it fits, as when measuring.
+#[tactic(auto, using(crate::proofs::Runs::counted))]
 fn write_escaped(out: &mut Output<'_>, b: u8)
     ensures { Wrote out.old out.new (escaped b) }
 {
-    match kind_of(b) {
+    let (kind, len) = escape_of(b);
+    if out.bytes.len() <= out.at {
+        out.skip(len as usize);
+        return;
+    }
+    match kind {
         Kind::Plain => out.byte(b),
-        Kind::Letter(l) => {
-            out.byte(b'\\');
-            out.byte(l);
-        }
-        Kind::Hex => write_unicode(out, b),
+        Kind::Letter(l) => out.text_then(b"\\", l),
+        Kind::Hex => write_hex(out, b, len),
     }
 }
 
-// ---- which bytes are plain
+// ---- which bytes a run holds: those whose escape is one byte long
 
-// Whether a byte is shown as it stands.
-#[tactic(auto, unfolding(crate::specs::Escaping::is_plain))]
-fn is_plain(b: u8) -> bool
-    ensures { result ≡ is_plain b }
-{
-    32 <= b && b != b'"' && b != b'\\' && b != 127
-}
-
-// Whether bytes are shown as they stand: noted for each, so that a long text costs one look a byte, or for none.
+// How long the bytes' escapes are: noted for each, so that a long text costs one look a byte, or
+// for none.
 #[derive(Clone, Copy)]
-struct Plain<'a> {
-    noted: &'a [bool],
-    ghost right: { (b : ℕ) → b < length noted.now → slice_index_or noted.now b false ≡ is_plain b },
+struct Lengths<'a> {
+    noted: &'a [u8],
+    ghost right: { (b : ℕ) → b < length noted.now → slice_index_or noted.now b 0 ≡ length (escaped b) },
 }
 
-impl ByteTest for Plain<'_> {
-    ghost test = { is_plain };
+#[tactic(auto, unfolding(crate::specs::Escaping::stands))]
+impl ByteTest for Lengths<'_> {
+    ghost test = { stands };
 
     fn passes(&self, b: u8) -> bool {
         let i = b as usize;
         if i < self.noted.len() {
-            self.noted[i]
+            self.noted[i] == 1
         } else {
-            is_plain(b)
+            escape_of(b).1 == 1
         }
     }
 }
 
-fn note() -> [bool; 256]
-    ensures { (b : ℕ) → b < 256 → slice_index_or result b false ≡ is_plain b }
+// Noted of the ASCII bytes, which are all that a document has.
+fn note() -> [u8; 128]
+    ensures { (b : ℕ) → b < 128 → slice_index_or result b 0 ≡ length (escaped b) }
 {
-    let mut noted = [false; 256];
-    for i in 0..256 {
-        noted[i] = is_plain(i as u8);
+    let mut noted = [0; 128];
+    for i in 0..128 {
+        noted[i] = escape_of(i as u8).1;
     }
     noted
 }
@@ -136,12 +135,12 @@ fn note() -> [bool; 256]
 // Writes the escapes run by run: the bytes that are shown as they stand at once, then the one that is not.
 // kept: a `while`, since its steps are runs.
 #[tactic(auto, using(crate::proofs::Runs::runs))]
-fn write_runs(out: &mut Output<'_>, plain: &Plain<'_>, s: &[u8])
+fn write_runs(out: &mut Output<'_>, lengths: &Lengths<'_>, s: &[u8])
     ensures { Wrote out.old out.new (each escaped s.now) }
 {
     let mut i = 0;
     while i < s.len() {
-        let e = scan_each(s, i, plain);
+        let e = scan_each(s, i, lengths);
         out.text(part(s, i, e - i));
         if s.len() <= e {
             return;
@@ -151,15 +150,15 @@ fn write_runs(out: &mut Output<'_>, plain: &Plain<'_>, s: &[u8])
     }
 }
 
-// Writes the escapes of a text; which bytes are plain is noted for a long one only.
+// Writes the escapes of a text; how long each byte's is, is noted for a long one only.
 fn write_escapes(out: &mut Output<'_>, s: &[u8])
     ensures { Wrote out.old out.new (each escaped s.now) }
 {
     if s.len() < LONG {
-        write_runs(out, &Plain { noted: &[] }, s);
+        write_runs(out, &Lengths { noted: &[] }, s);
     } else {
         let noted = note();
-        write_runs(out, &Plain { noted: &noted }, s);
+        write_runs(out, &Lengths { noted: &noted }, s);
     }
 }
 

@@ -1,9 +1,8 @@
 use mathlib.Core.Path.{◌≡◌}
-use mathlib.Core.Bool.{false}
 use Prim.Native.Nat.{ℕ, ◌<◌}
 use lib.ListN.{length, get_or}
-use Rattle.escaping.specs.Escaping.{is_plain}
+use Rattle.escaping.specs.Escape.{escaped}
 use Rattle.escaping.proofs.note.Given as goal
 
 abbrev pub invariant-loop-i : goal.invariant-loop-i
-invariant-loop-i l = (length l.noted ≡ 256) × ((b : ℕ) → b < l.i → get_or l.noted b false ≡ is_plain b)
+invariant-loop-i l = (length l.noted ≡ 128) × ((b : ℕ) → b < l.i → get_or l.noted b 0 ≡ length (escaped b))
