@@ -4,7 +4,6 @@ ghost use Rattle.std.specs.Iterator.{YieldsFirst, item_count};
 ghost use Rattle.texts.specs.Choice.{◌and◌, pick};
 ghost use Rattle.model.specs.Schema.{item_at, all_of, under, next_under, a_field};
 ghost use Rattle.model.specs.Search.{ahead};
-ghost use Rattle.model.specs.Shown.{Shows};
 ghost use Rattle.index.specs.Index.{code, Blank};
 ghost use Rattle.index.specs.Declarations.{declaration_of, number_of};
 ghost use Rattle.index.specs.declared.seen.Declaration.{Declaration};
@@ -12,7 +11,7 @@ ghost use Rattle.index.specs.declared.seen.Declaration.{Declaration};
 use crate::{CHAIN, EACH, FIRST, MOST, build};
 use model::search::{OfKind, Walk};
 use model::view::View;
-use model::{COMPOSITE, ENUM, Entry, FIELD, TYPE};
+use model::{COMPOSITE, ENUM, FIELD, TYPE};
 use std::marker::Model;
 
 #[derive(Drop)]
@@ -160,11 +159,28 @@ impl<'a> Index<'a> {
         self.view.size(i)
     }
 
-    #[inline(always)]
-    pub fn entry(&self, i: u32) -> Entry
-        ensures { Shows result (item_at self.now i) }
+    pub fn owner(&self, i: u32) -> u32
+        ensures { result ≡ (item_at self.now i).owner }
     {
-        self.view.entry(i)
+        self.view.owner(i)
+    }
+
+    pub fn name_len(&self, i: u32) -> u32
+        ensures { result ≡ length (item_at self.now i).name }
+    {
+        self.view.name_len(i)
+    }
+
+    pub fn second_len(&self, i: u32) -> u32
+        ensures { result ≡ length (item_at self.now i).second }
+    {
+        self.view.second_len(i)
+    }
+
+    pub fn encoding_len(&self, i: u32) -> u32
+        ensures { result ≡ length (item_at self.now i).encoding }
+    {
+        self.view.encoding_len(i)
     }
 
     // All items of a kind.

@@ -8,7 +8,6 @@ use borrow.Author.Tests.{eq-eqb, ne_eqb}
 use Rattle.texts.specs.Choice.{pick}
 use Rattle.texts.specs.Text.{piece}
 use Rattle.model.specs.Schema.{Item, Schema, no_item, item_at}
-use Rattle.model.specs.Shown.{Shows}
 use Rattle.model.specs.Store.{entry_at, item_of, items_of, schema_of}
 use Rattle.model.specs.declared.Entry.{Entry}
 use Rattle.model.specs.declared.Model.{Model}
@@ -50,9 +49,6 @@ module _ (m : Model) (rec text : List ℕ) (v : Schema) (q : schema_of m rec tex
     shown : item_of text e ≡ item_at v i
     shown = f text ∙ ap (λ (s : Schema). item_at s i) q
 
-    pub entry-shown : Shows e (item_at v i)
-    entry-shown = record { text = text; is = shown }
-
     pub kind-shown : e.kind ≡ (item_at v i).kind
     unfolding item_of
     kind-shown = ap (λ (x : Item). x.kind) shown
@@ -89,3 +85,15 @@ module _ (m : Model) (rec text : List ℕ) (v : Schema) (q : schema_of m rec tex
     pub encoding-shown : {w : List ℕ} → w ≡ piece text e.encoding e.elen → w ≡ (item_at v i).encoding
     unfolding item_of
     encoding-shown h = h ∙ ap (λ (x : Item). x.encoding) shown
+
+    pub name_len-shown : {n : ℕ} → n ≡ length (piece text e.name e.nlen) → n ≡ length (item_at v i).name
+    unfolding item_of
+    name_len-shown h = h ∙ ap (λ (x : Item). length x.name) shown
+
+    pub second_len-shown : {n : ℕ} → n ≡ length (piece text e.second e.slen) → n ≡ length (item_at v i).second
+    unfolding item_of
+    second_len-shown h = h ∙ ap (λ (x : Item). length x.second) shown
+
+    pub encoding_len-shown : {n : ℕ} → n ≡ length (piece text e.encoding e.elen) → n ≡ length (item_at v i).encoding
+    unfolding item_of
+    encoding_len-shown h = h ∙ ap (λ (x : Item). length x.encoding) shown

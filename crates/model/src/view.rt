@@ -4,7 +4,6 @@ ghost use Rattle.texts.specs.Choice.{pick};
 ghost use Rattle.texts.specs.Text.{piece};
 ghost use Rattle.model.specs.Schema.{item_at};
 ghost use Rattle.model.specs.Store.{entry_at, item_of, schema_of};
-ghost use Rattle.model.specs.Shown.{Shows};
 
 use crate::{Entry, Model, word};
 
@@ -63,7 +62,7 @@ fn entry_at(rec: &[u32], i: u32) -> Entry
 
 // The entry at a position, whatever the text buffer holds; past the last item an empty one.
 #[inline(always)]
-pub fn item(m: Model, rec: &[u32], i: u32) -> Entry
+fn item(m: Model, rec: &[u32], i: u32) -> Entry
     ensures { (text : List ℕ) → item_of text result ≡ item_at (schema_of m rec.now text) i }
 {
     if i < m.count {
@@ -102,6 +101,15 @@ fn part(text: &[u8], a: usize, n: usize) -> &[u8]
         return &text[a..e];
     }
     cut(text, a, n)
+}
+
+// How many of `n` bytes of the text buffer from `a` on there are.
+#[inline(always)]
+fn part_len(text: &[u8], a: u32, n: u32) -> u32
+    ensures { result ≡ length (piece text.now a n) }
+{
+    let left = text.len().saturating_sub(a as usize);
+    if n as usize <= left { n } else { left as u32 }
 }
 
 impl<'a> View<'a> {
@@ -198,11 +206,26 @@ impl<'a> View<'a> {
         if e.given == 1 { e.number } else { 0 }
     }
 
-    // The numbers of an item, and how long its texts are at most.
-    #[inline(always)]
-    pub fn entry(&self, i: u32) -> Entry
-        ensures { Shows result (item_at self.now i) }
+    // ---- how long its texts are
+
+    pub fn name_len(&self, i: u32) -> u32
+        ensures { result ≡ length (item_at self.now i).name }
     {
-        item(self.model, self.records, i)
+        let e = item(self.model, self.records, i);
+        part_len(self.text, e.name, e.nlen)
+    }
+
+    pub fn second_len(&self, i: u32) -> u32
+        ensures { result ≡ length (item_at self.now i).second }
+    {
+        let e = item(self.model, self.records, i);
+        part_len(self.text, e.second, e.slen)
+    }
+
+    pub fn encoding_len(&self, i: u32) -> u32
+        ensures { result ≡ length (item_at self.now i).encoding }
+    {
+        let e = item(self.model, self.records, i);
+        part_len(self.text, e.encoding, e.elen)
     }
 }
