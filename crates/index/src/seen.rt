@@ -4,7 +4,8 @@ ghost use Rattle.std.specs.Iterator.{YieldsFirst, item_count};
 ghost use Rattle.texts.specs.Choice.{◌and◌, pick};
 ghost use Rattle.model.specs.Schema.{item_at, all_of, under, next_under, a_field};
 ghost use Rattle.model.specs.Search.{ahead};
-ghost use Rattle.index.specs.Index.{code, Blank};
+ghost use Rattle.index.specs.Blank.{Blank};
+ghost use Rattle.index.specs.Index.{code};
 ghost use Rattle.index.specs.Declarations.{declaration_of, number_of};
 ghost use Rattle.index.specs.declared.seen.Declaration.{Declaration};
 

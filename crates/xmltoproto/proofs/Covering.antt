@@ -7,6 +7,7 @@ use native.Mathlib.Numerals.{add-one}
 use lib.ListN.{length}
 use borrow.Author.Rules.{rules}
 use borrow.Author.Tests.{ne_eqb}
+use Rattle.texts.specs.Choice.{pick}
 use Rattle.printing.specs.Decimal.{decimal}
 use Rattle.printing.proofs.Decimals.{decimal-one}
 use Rattle.index.specs.Declarations.{declaration_of}
@@ -32,7 +33,7 @@ note-some zero h = absurd (h refl)
 note-some (suc e) h = refl
 
 -- the line of the item t, by the lengths p and e of its texts and at least as many digits d as its size has
-pub typed-covered : (t : Item) (n k : ℕ) {p d e q w : ℕ} → p ≡ length t.second → e ≡ length t.encoding → length (decimal (form_of t).size) ≤ d → q ≡ named_most n k p → w ≡ note_most e
+pub typed-covered : (t : Item) (n k : ℕ) {p d e q w : ℕ} → p ≡ length t.second → e ≡ length t.encoding → length (decimal (pick t.given t.number 0)) ≤ d → q ≡ named_most n k p → w ≡ note_most e
     → q + 28 + d + w < 2 ^ 40 → Covers (q + 28 + d + w) (typed_most n k (form_of t))
 unfolding form_of
 typed-covered t n k ep ee ld eq ew small = record { least = rw (ew, ee) (omega (arith, ld)); small = small }

@@ -2,7 +2,7 @@
 //
 // Each item is counted at its longest, printed or not, by the kinds of specs/Bound.antt. That the sum is a bound
 // rests on each item having one owner (proofs/Owning.antt).
-ghost use Rattle.std.specs.Prelude.{◌≡◌, ◌≤◌, length};
+ghost use Rattle.std.specs.Prelude.{◌≡◌, ◌≤◌, ◌<◌, ◌^◌, length};
 ghost use Rattle.printing.specs.Decimal.{decimal};
 ghost use Rattle.model.specs.Schema.{item_at, a_field};
 ghost use Rattle.xmltoproto.specs.Types.{form_of};
@@ -28,7 +28,7 @@ fn named_most(n: u32, digits: u32, word: u32) -> usize
 
 // The note on an encoding of `e` bytes, where one is given.
 fn note_most(e: u32) -> usize
-    ensures { result ≡ note_most e }
+    ensures { (result ≡ note_most e) × (result < 2 ^ 36) }
 {
     if e == 0 { 0 } else { 81 + 6 * (e as usize) }
 }
