@@ -124,6 +124,12 @@ impl<'a> Index<'a> {
         self.view.kind(i)
     }
 
+    pub fn owner(&self, i: u32) -> u32
+        ensures { result ≡ (item_at self.now i).owner }
+    {
+        self.view.owner(i)
+    }
+
     pub fn name(&self, i: u32) -> &'a [u8]
         ensures { result.now ≡ (item_at self.now i).name }
     {
@@ -160,28 +166,27 @@ impl<'a> Index<'a> {
         self.view.size(i)
     }
 
-    pub fn owner(&self, i: u32) -> u32
-        ensures { result ≡ (item_at self.now i).owner }
+    // ---- how long its texts are at most
+
+    #[inline(always)]
+    pub fn name_most(&self, i: u32) -> u32
+        ensures { length (item_at self.now i).name ≤ result }
     {
-        self.view.owner(i)
+        self.view.name_most(i)
     }
 
-    pub fn name_len(&self, i: u32) -> u32
-        ensures { result ≡ length (item_at self.now i).name }
+    #[inline(always)]
+    pub fn second_most(&self, i: u32) -> u32
+        ensures { length (item_at self.now i).second ≤ result }
     {
-        self.view.name_len(i)
+        self.view.second_most(i)
     }
 
-    pub fn second_len(&self, i: u32) -> u32
-        ensures { result ≡ length (item_at self.now i).second }
+    #[inline(always)]
+    pub fn encoding_most(&self, i: u32) -> u32
+        ensures { length (item_at self.now i).encoding ≤ result }
     {
-        self.view.second_len(i)
-    }
-
-    pub fn encoding_len(&self, i: u32) -> u32
-        ensures { result ≡ length (item_at self.now i).encoding }
-    {
-        self.view.encoding_len(i)
+        self.view.encoding_most(i)
     }
 
     // All items of a kind.

@@ -2,7 +2,8 @@
 use mathlib.Core.Path.{◌≡◌, sym, ap, ◌∙◌}
 use mathlib.Core.List.{List}
 use Prim.Native.Nat.{ℕ, ◌≤◌, ◌<◌}
-use lib.ListN.{length, get_or-eq_default}
+use lib.ListN.{length, drop, get_or-eq_default, length-take}
+use native.Mathlib.Omega.{arith}
 use lib.Dec.{eqb}
 use borrow.Author.Tests.{eq-eqb, ne_eqb}
 use Rattle.texts.specs.Choice.{pick}
@@ -12,6 +13,10 @@ use Rattle.model.specs.Store.{entry_at, item_of, items_of, schema_of}
 use Rattle.model.specs.declared.Entry.{Entry}
 use Rattle.model.specs.declared.Model.{Model}
 use Rattle.model.proofs.Records.{length-items, get_or-items}
+
+-- a piece is no longer than asked
+piece-short : (s : List ℕ) (a n : ℕ) → length (piece s a n) ≤ n
+piece-short s a n = omega (arith, length-take n (drop a s))
 
 module _ (m : Model) (rec : List ℕ) where
   pub count-shown : (text : List ℕ) → m.count ≡ length (schema_of m rec text).items
@@ -86,14 +91,14 @@ module _ (m : Model) (rec text : List ℕ) (v : Schema) (q : schema_of m rec tex
     unfolding item_of
     encoding-shown h = h ∙ ap (λ (x : Item). x.encoding) shown
 
-    pub name_len-shown : {n : ℕ} → n ≡ length (piece text e.name e.nlen) → n ≡ length (item_at v i).name
+    pub name-short : length (item_at v i).name ≤ e.nlen
     unfolding item_of
-    name_len-shown h = h ∙ ap (λ (x : Item). length x.name) shown
+    name-short = rw (← ap (λ (x : Item). x.name) shown) (piece-short text e.name e.nlen)
 
-    pub second_len-shown : {n : ℕ} → n ≡ length (piece text e.second e.slen) → n ≡ length (item_at v i).second
+    pub second_short : length (item_at v i).second ≤ e.slen
     unfolding item_of
-    second_len-shown h = h ∙ ap (λ (x : Item). length x.second) shown
+    second_short = rw (← ap (λ (x : Item). x.second) shown) (piece-short text e.second e.slen)
 
-    pub encoding_len-shown : {n : ℕ} → n ≡ length (piece text e.encoding e.elen) → n ≡ length (item_at v i).encoding
+    pub encoding-short : length (item_at v i).encoding ≤ e.elen
     unfolding item_of
-    encoding_len-shown h = h ∙ ap (λ (x : Item). length x.encoding) shown
+    encoding-short = rw (← ap (λ (x : Item). x.encoding) shown) (piece-short text e.encoding e.elen)

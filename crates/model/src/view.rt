@@ -1,5 +1,5 @@
 // A model with its two buffers: the schema that it stands for.
-ghost use Rattle.std.specs.Prelude.{◌≡◌, List, ℕ, ◌+◌, ◌<◌, ◌^◌, eqb, length, get_or};
+ghost use Rattle.std.specs.Prelude.{◌≡◌, List, ℕ, ◌+◌, ◌<◌, ◌≤◌, ◌^◌, eqb, length, get_or};
 ghost use Rattle.texts.specs.Choice.{pick};
 ghost use Rattle.texts.specs.Text.{piece};
 ghost use Rattle.model.specs.Schema.{item_at};
@@ -103,15 +103,6 @@ fn part(text: &[u8], a: usize, n: usize) -> &[u8]
     cut(text, a, n)
 }
 
-// How many of `n` bytes of the text buffer from `a` on there are.
-#[inline(always)]
-fn part_len(text: &[u8], a: u32, n: u32) -> u32
-    ensures { result ≡ length (piece text.now a n) }
-{
-    let left = text.len().saturating_sub(a as usize);
-    if n as usize <= left { n } else { left as u32 }
-}
-
 impl<'a> View<'a> {
     pub fn new(model: Model, records: &'a [u32], text: &'a [u8]) -> View<'a>
         ensures { result ≡ schema_of model records.now text.now }
@@ -206,26 +197,27 @@ impl<'a> View<'a> {
         if e.given == 1 { e.number } else { 0 }
     }
 
-    // ---- how long its texts are
+    // ---- how long its texts are at most: more than they are only where one ends beyond the buffer, which no document gives
+    // kept: no more is promised, as what is exact asks where each text ends, which is 1 % and more of a conversion.
 
-    pub fn name_len(&self, i: u32) -> u32
-        ensures { result ≡ length (item_at self.now i).name }
+    #[inline(always)]
+    pub fn name_most(&self, i: u32) -> u32
+        ensures { length (item_at self.now i).name ≤ result }
     {
-        let e = item(self.model, self.records, i);
-        part_len(self.text, e.name, e.nlen)
+        item(self.model, self.records, i).nlen
     }
 
-    pub fn second_len(&self, i: u32) -> u32
-        ensures { result ≡ length (item_at self.now i).second }
+    #[inline(always)]
+    pub fn second_most(&self, i: u32) -> u32
+        ensures { length (item_at self.now i).second ≤ result }
     {
-        let e = item(self.model, self.records, i);
-        part_len(self.text, e.second, e.slen)
+        item(self.model, self.records, i).slen
     }
 
-    pub fn encoding_len(&self, i: u32) -> u32
-        ensures { result ≡ length (item_at self.now i).encoding }
+    #[inline(always)]
+    pub fn encoding_most(&self, i: u32) -> u32
+        ensures { length (item_at self.now i).encoding ≤ result }
     {
-        let e = item(self.model, self.records, i);
-        part_len(self.text, e.encoding, e.elen)
+        item(self.model, self.records, i).elen
     }
 }

@@ -32,30 +32,36 @@ unfolding note_most
 note-some zero h = absurd (h refl)
 note-some (suc e) h = refl
 
--- the line of the item t, by the lengths p and e of its texts and at least as many digits d as its size has
-pub typed-covered : (t : Item) (n k : ℕ) {p d e q w : ℕ} → p ≡ length t.second → e ≡ length t.encoding → length (decimal (pick t.given t.number 0)) ≤ d → q ≡ named_most n k p → w ≡ note_most e
+note-more : (a b : ℕ) → a ≤ b → note_most a ≤ note_most b
+unfolding note_most
+note-more zero b h = omega arith
+note-more (suc a) zero h = absurd (omega arith)
+note-more (suc a) (suc b) h = omega arith
+
+-- the line of the item t, by lengths p and e that its texts have at most, and digits d that its size has at most
+pub typed-covered : (t : Item) (n k : ℕ) {p d e q w : ℕ} → length t.second ≤ p → length t.encoding ≤ e → length (decimal (pick t.given t.number 0)) ≤ d → q ≡ named_most n k p → w ≡ note_most e
     → q + 28 + d + w < 2 ^ 40 → Covers (q + 28 + d + w) (typed_most n k (form_of t))
 unfolding form_of
-typed-covered t n k ep ee ld eq ew small = record { least = rw (ew, ee) (omega (arith, ld)); small = small }
+typed-covered t n k {e = e} lp le ld eq ew small = record { least = rw ew (omega (arith, lp, ld, note-more (length t.encoding) e le)); small = small }
 
 -- ---- by kind
 
--- a field by what its type name is declared as; n is the length of its name, and its number has d digits at most
-module _ (s : Schema) (it : Item) {n d : ℕ} (en : n ≡ length it.name) (ld : length (decimal it.number) ≤ d) {o : Option Declaration} (eo : o ≡ declaration_of s it.second) where
+-- a field by what its type name is declared as; its name has n bytes at most, and its number d digits
+module _ (s : Schema) (it : Item) {n d : ℕ} (ln : length it.name ≤ n) (ld : length (decimal it.number) ≤ d) {o : Option Declaration} (eo : o ≡ declaration_of s it.second) where
   by-declaration : {r : ℕ} → field_by s it o ≤ r → r < 2 ^ 40 → Covers r (field_most s it)
   unfolding field_most
   by-declaration l k = record { least = rw (← eo) l; small = k }
 
   pub field-typed-most : {k : ℕ} → o ≡ Some (Typed k) → {r : ℕ} → Covers r (typed_most n d (form_of (item_at s k))) → Covers r (field_most s it)
-  field-typed-most f c = by-declaration (rw f (omega (arith, c.least))) c.small
+  field-typed-most f c = by-declaration (rw f (omega (arith, c.least, ln, ld))) c.small
 
-  module _ {p : ℕ} (ep : p ≡ length it.second) {r : ℕ} (q : r ≡ named_most n d p) where
+  module _ {p : ℕ} (lp : length it.second ≤ p) {r : ℕ} (q : r ≡ named_most n d p) where
     pub field-named : o ≡ Some Named → r < 2 ^ 40 → Covers r (field_most s it)
-    field-named f small = by-declaration (rw f (omega arith)) small
+    field-named f small = by-declaration (rw f (omega (arith, ln, ld, lp))) small
 
     pub field-nothing : o ≡ None → r + 29 < 2 ^ 40 → Covers (r + 29) (field_most s it)
     unfolding built_in
-    field-nothing f small = by-declaration (rw f (omega (arith, ap length (decimal-one 0 (omega arith)), note-none 0 refl))) small
+    field-nothing f small = by-declaration (rw f (omega (arith, ln, ld, lp, ap length (decimal-one 0 (omega arith)), note-none 0 refl))) small
 
 -- ---- the share of the item
 
@@ -72,31 +78,31 @@ module _ (s : Schema) (i : ℕ) {q : ℕ} (eq : q ≡ (item_at s i).kind) where
   unfolding share
   share-value k c = record { least = rw (kind-told 6 k) (omega (arith, c.least)); small = c.small }
 
-  module _ {n : ℕ} (en : n ≡ length (item_at s i).name) where
+  module _ {n : ℕ} (ln : length (item_at s i).name ≤ n) where
     pub share-enum : q ≡ 5 → n < 4294967296 → Covers (11 + n) (share s i)
     unfolding share
-    share-enum k l = record { least = rw (kind-told 5 k) (omega arith); small = omega arith }
+    share-enum k l = record { least = rw (kind-told 5 k) (omega (arith, ln)); small = omega arith }
 
     pub share-composite : q ≡ 4 → n < 4294967296 → Covers (14 + n) (share s i)
     unfolding share
-    share-composite k l = record { least = rw (kind-told 4 k) (omega arith); small = omega arith }
+    share-composite k l = record { least = rw (kind-told 4 k) (omega (arith, ln)); small = omega arith }
 
-    pub share-ref : q ≡ 3 → n < 4294967296 → {p : ℕ} → p ≡ length (item_at s i).second → p < 4294967296 → {r : ℕ} → r ≡ named_most n 10 p → Covers r (share s i)
+    pub share-ref : q ≡ 3 → n < 4294967296 → {p : ℕ} → length (item_at s i).second ≤ p → p < 4294967296 → {r : ℕ} → r ≡ named_most n 10 p → Covers r (share s i)
     unfolding share
-    share-ref k l ep lp w = record { least = rw (kind-told 3 k) (omega arith); small = omega arith }
+    share-ref k l lp kp w = record { least = rw (kind-told 3 k) (omega (arith, ln, lp)); small = omega arith }
 
     pub share-member : q ≡ 2 → {r : ℕ} → Covers r (typed_most n 10 (form_of (item_at s i))) → Covers r (share s i)
     unfolding share
-    share-member k c = record { least = rw (kind-told 2 k) (omega (arith, c.least)); small = c.small }
+    share-member k c = record { least = rw (kind-told 2 k) (omega (arith, c.least, ln)); small = c.small }
 
     module _ (l : n < 4294967296) {d : ℕ} (ld : length (decimal (item_at s i).number) ≤ d) (kd : d ≤ 10) where
       pub share-message : q ≡ 7 → Covers (45 + n + d) (share s i)
       unfolding share
-      share-message k = record { least = rw (kind-told 7 k) (omega (arith, ld)); small = omega arith }
+      share-message k = record { least = rw (kind-told 7 k) (omega (arith, ln, ld)); small = omega arith }
 
       pub share-group : q ≡ 8 → Covers (34 + 4 * n + d) (share s i)
       unfolding share
-      share-group k = record { least = rw (kind-told 8 k) (omega (arith, ld)); small = omega arith }
+      share-group k = record { least = rw (kind-told 8 k) (omega (arith, ln, ld)); small = omega arith }
 
   pub share-none : (q ≡ 2 → ⊥) → (q ≡ 3 → ⊥) → (q ≡ 4 → ⊥) → (q ≡ 5 → ⊥) → (q ≡ 6 → ⊥) → (q ≡ 7 → ⊥) → (q ≡ 8 → ⊥) → (q ≡ 9 → ⊥) → Covers 0 (share s i)
   unfolding share

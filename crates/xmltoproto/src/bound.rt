@@ -1,4 +1,4 @@
-// A bound of the source's length from the lengths of texts alone: one pass over the items, and no text is walked.
+// A bound of the source's length from what the texts have at most: one pass over the items, and no text is walked.
 //
 // Each item is counted at its longest, printed or not, by the kinds of specs/Bound.antt. That the sum is a bound
 // rests on each item having one owner (proofs/Owning.antt).
@@ -37,9 +37,9 @@ fn note_most(e: u32) -> usize
 fn typed_most(s: &Index<'_>, n: u32, digits: u32, t: u32) -> usize
     ensures { Covers result (typed_most n digits (form_of (item_at s.now t))) }
 {
-    let line = named_most(n, digits, s.second_len(t));
+    let line = named_most(n, digits, s.second_most(t));
     let size = digits_most(s.size(t));
-    line + 28 + size as usize + note_most(s.encoding_len(t))
+    line + 28 + size as usize + note_most(s.encoding_most(t))
 }
 
 // kept: what `field_declared` asks is asked here and of the two below; by `declared` a conversion takes 2 % more.
@@ -48,12 +48,12 @@ fn field_most(s: &Index<'_>, i: u32) -> usize
     requires { (length s.now.items ≤ 1024) × ((item_at s.now i).kind ≡ a_field) }
     ensures { Covers result (field_most s.now (item_at s.now i)) }
 {
-    let n = s.name_len(i);
+    let n = s.name_most(i);
     let digits = digits_most(s.number(i));
     match s.field_declared(i) {
-        Some(Declaration::Named) => named_most(n, digits, s.second_len(i)),
+        Some(Declaration::Named) => named_most(n, digits, s.second_most(i)),
         Some(Declaration::Typed(t)) => typed_most(s, n, digits, t),
-        None => named_most(n, digits, s.second_len(i)) + 29,
+        None => named_most(n, digits, s.second_most(i)) + 29,
     }
 }
 
@@ -61,9 +61,9 @@ fn field_most(s: &Index<'_>, i: u32) -> usize
 fn value_most(s: &Index<'_>, i: u32) -> usize
     ensures { Covers result (value_most (item_at s.now (item_at s.now i).owner) (item_at s.now i)) }
 {
-    let prefix = s.name_len(s.owner(i));
-    let n = s.name_len(i);
-    8 + 2 * (prefix as usize) + 2 * (n as usize) + s.second_len(i) as usize
+    let prefix = s.name_most(s.owner(i));
+    let n = s.name_most(i);
+    8 + 2 * (prefix as usize) + 2 * (n as usize) + s.second_most(i) as usize
 }
 
 // What the item at `i` adds.
@@ -74,13 +74,13 @@ fn item_most(s: &Index<'_>, i: u32) -> usize
 {
     let kind = s.kind(i);
     match kind {
-        MEMBER => typed_most(s, s.name_len(i), 10, i),
-        REF => named_most(s.name_len(i), 10, s.second_len(i)),
-        COMPOSITE => 14 + s.name_len(i) as usize,
-        ENUM => 11 + s.name_len(i) as usize,
+        MEMBER => typed_most(s, s.name_most(i), 10, i),
+        REF => named_most(s.name_most(i), 10, s.second_most(i)),
+        COMPOSITE => 14 + s.name_most(i) as usize,
+        ENUM => 11 + s.name_most(i) as usize,
         VALUE => value_most(s, i),
-        MESSAGE => 45 + s.name_len(i) as usize + digits_most(s.number(i)) as usize,
-        GROUP => 34 + 4 * (s.name_len(i) as usize) + digits_most(s.number(i)) as usize,
+        MESSAGE => 45 + s.name_most(i) as usize + digits_most(s.number(i)) as usize,
+        GROUP => 34 + 4 * (s.name_most(i) as usize) + digits_most(s.number(i)) as usize,
         FIELD => field_most(s, i),
         _ => 0,
     }
