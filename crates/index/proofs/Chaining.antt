@@ -16,7 +16,8 @@ use Rattle.model.proofs.Records.{by_less}
 use Rattle.ordered.specs.Ordered.{declares, last_by}
 use Rattle.ordered.proofs.Lasts.{last-yes, last-no}
 use Rattle.ordered.proofs.Numbering.{by_equal}
-use Rattle.index.specs.Index.{code, fronted, mask_of, place, hashed, last_hashed, Chained}
+use Rattle.index.specs.Blank.{mask_of}
+use Rattle.index.specs.Index.{code, fronted, place, hashed, last_hashed, Chained}
 use Rattle.index.proofs.Fronting.{fronted-head, fronted-at, fronted-other}
 
 -- ---- the last of the first n items that pass a test

@@ -10,7 +10,8 @@ use Rattle.texts.specs.Text.{piece}
 use Rattle.model.specs.Schema.{Schema}
 use Rattle.model.proofs.Records.{by_less}
 use Rattle.words.specs.Word.{IsWord, IsHalf}
-use Rattle.index.specs.Index.{short_word, mix, words_from, long_word, narrowed, hash, HashOf, mask_of, place, HeadOf}
+use Rattle.index.specs.Blank.{mask_of}
+use Rattle.index.specs.Index.{short_word, mix, words_from, long_word, narrowed, hash, HashOf, place, HeadOf}
 
 -- ---- less than 8 bytes
 

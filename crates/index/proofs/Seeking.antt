@@ -18,8 +18,8 @@ use Rattle.model.proofs.Searching.{named_so}
 use Rattle.ordered.specs.Ordered.{declares, last_by}
 use Rattle.ordered.proofs.Lasts.{last_step}
 use Rattle.ordered.proofs.Numbering.{by_kind}
-use Rattle.index.specs.Declarations.{declared_by, declaration_of, number_of, kept_by}
-use Rattle.index.specs.Index.{code, place, HeadOf, hashed, last_hashed, Chained}
+use Rattle.index.specs.Declarations.{declared_by, declaration_of, number_of}
+use Rattle.index.specs.Index.{kept_by, code, place, HeadOf, hashed, last_hashed, Chained}
 use Rattle.index.proofs.Chaining.{none_passes, some-passes, code-none, code-some, hashed-as}
 
 -- ---- what is kept

@@ -1,8 +1,6 @@
--- What a name is declared as among enums, composites and types, and the number that the index holds for it. Internal.
-use Rattle.std.specs.Prelude.{List, ℕ, ◌+◌, eqb, ltb, Option, Some, None}
-use Rattle.texts.specs.Choice.{pick}
-use Rattle.texts.specs.Text.{same}
-use Rattle.model.specs.Schema.{Item, Schema, last_named, a_type, a_composite, an_enum}
+-- What a name is declared as among enums, composites and types, and the number that the index holds for it.
+use Rattle.std.specs.Prelude.{List, ℕ, ◌+◌, Option, Some, None}
+use Rattle.model.specs.Schema.{Schema, last_named, a_type, a_composite, an_enum}
 use Rattle.index.specs.declared.seen.Declaration.{Declaration}
 use Rattle.index.specs.declared.seen.Declaration.TheVariants.{Named, Typed}
 
@@ -20,8 +18,3 @@ abbrev pub number_of : Option Declaration → ℕ
 number_of None = 0
 number_of (Some Named) = 1
 number_of (Some (Typed i)) = i + 2
-
--- what is kept of a chain at the item `it` in the place i, where `kept` was before it: an enum or composite of the
--- name, else the first type
-abbrev pub kept_by : Item → ℕ → List ℕ → ℕ → ℕ
-kept_by it i name kept = pick (eqb it.kind a_type) (pick (ltb 0 kept) kept (pick (same it.name name) (i + 2) 0)) (pick (same it.name name) 1 kept)

@@ -5,10 +5,11 @@
 use Rattle.std.specs.Prelude.{Option, Some, None, ◌≡◌, Bool, true, false, List, ℕ, zero, suc, ◌+◌, ◌-◌, ◌*◌, ◌/◌, ◌%◌, ◌≤◌, ◌<◌, T, eqb, ltb, length, get_or, take, set}
 use Rattle.std.specs.Int.Bits.{bit_and, bit_xor}
 use Rattle.texts.specs.Choice.{pick, ◌and◌}
-use Rattle.texts.specs.Text.{piece}
+use Rattle.texts.specs.Text.{piece, same}
 use Rattle.words.specs.Word.{word_of}
-use Rattle.model.specs.Schema.{Item, Schema, item_at, positions_from, last, next_under, a_field}
+use Rattle.model.specs.Schema.{Item, Schema, item_at, positions_from, last, next_under, a_type, a_field}
 use Rattle.ordered.specs.Ordered.{declares}
+use Rattle.index.specs.Blank.{mask_of}
 use Rattle.index.specs.Declarations.{declaration_of, number_of}
 
 -- a position as the index holds it
@@ -55,10 +56,6 @@ pub record HashOf (name : List ℕ) (b : ℕ) : Type 0 where
   pub is : b ≡ hash name
   pub low : b < 1024
 
--- the greatest of the hashes that are told apart, by the number of items
-unfoldable pub mask_of : ℕ → ℕ
-mask_of n = pick (ltb 128 n) 1023 127
-
 unfoldable pub place : Schema → List ℕ → ℕ
 place s name = bit_and (hash name) (mask_of (length s.items))
 
@@ -78,6 +75,11 @@ pub record Chained (s : Schema) (n : ℕ) (ix : List ℕ) : Type 0 where
   pub head : (b : ℕ) → b ≤ mask_of (length s.items) → get_or ix (12 * length s.items + b) 0 ≡ code (last_hashed b n s)
   pub chain : (j : ℕ) → j < n → (b : ℕ) → T (hashed s b (item_at s j)) → get_or ix (12 * j + 1) 0 ≡ code (last_hashed b j s)
 
+-- what is kept of a chain at the item `it` in the place i, where `kept` was before it: an enum or composite of the
+-- name, else the first type
+abbrev pub kept_by : Item → ℕ → List ℕ → ℕ → ℕ
+kept_by it i name kept = pick (eqb it.kind a_type) (pick (ltb 0 kept) kept (pick (same it.name name) (i + 2) 0)) (pick (same it.name name) 1 kept)
+
 -- ---- type names: what the one of each field is declared as, where the next of an item that declares would stand
 
 pub record Resolved (s : Schema) (n : ℕ) (ix : List ℕ) : Type 0 where
@@ -91,11 +93,6 @@ pub record Indexed (s : Schema) (ix : List ℕ) : Type 0 where
   pub types : length s.items ≤ 1024 → Resolved s 0 ix
 
 -- ---- while it is built
-
--- an array of zeros that is long enough
-pub record Blank (s : Schema) (ix : List ℕ) : Type 0 where
-  pub long : length s.items ≤ 1024 → 12 * length s.items + mask_of (length s.items) < length ix
-  pub zero : (k : ℕ) → get_or ix k 0 ≡ 0
 
 -- the first n items have their names in the chains, and there are no links yet
 pub record Naming (s : Schema) (n : ℕ) (ix : List ℕ) : Type 0 where

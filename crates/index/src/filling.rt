@@ -2,7 +2,8 @@
 ghost use Rattle.std.specs.Prelude.{◌≡◌, ◌+◌, ◌≤◌, ◌<◌, IfSome, length};
 ghost use Rattle.texts.specs.Choice.{pick};
 ghost use Rattle.ordered.specs.Ordered.{Added};
-ghost use Rattle.index.specs.Index.{Chained, Blank, Naming, Settling};
+ghost use Rattle.index.specs.Blank.{Blank};
+ghost use Rattle.index.specs.Index.{Chained, Naming, Settling};
 ghost use Rattle.index.specs.Declarations.{declaration_of, number_of};
 
 use crate::{CHAIN, EACH, FIRST, STEPS, head_of, kept_at, put_front, word};

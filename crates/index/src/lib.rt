@@ -14,8 +14,8 @@ pub mod seen;
 ghost use Rattle.std.specs.Prelude.{◌≡◌, ◌+◌, ◌≤◌, ◌<◌, length, get_or};
 ghost use Rattle.std.specs.Int.Bits.{bit_and};
 ghost use Rattle.model.specs.Schema.{item_at};
-ghost use Rattle.index.specs.Index.{fronted, short_word, mix, long_word, narrowed, HashOf, mask_of, HeadOf, Blank, Indexed};
-ghost use Rattle.index.specs.Declarations.{kept_by};
+ghost use Rattle.index.specs.Blank.{mask_of, Blank};
+ghost use Rattle.index.specs.Index.{kept_by, fronted, short_word, mix, long_word, narrowed, HashOf, HeadOf, Indexed};
 
 use crate::filling::Few;
 use model::TYPE;

@@ -4,15 +4,15 @@ ghost use Rattle.std.specs.Iterator.{YieldsFirst, item_count};
 ghost use Rattle.texts.specs.Choice.{◌and◌, pick};
 ghost use Rattle.model.specs.Schema.{item_at, all_of, under, next_under, a_field};
 ghost use Rattle.model.specs.Search.{ahead};
-ghost use Rattle.model.specs.Shown.{Shows};
-ghost use Rattle.index.specs.Index.{code, Blank};
+ghost use Rattle.index.specs.Blank.{Blank};
+ghost use Rattle.index.specs.Index.{code};
 ghost use Rattle.index.specs.Declarations.{declaration_of, number_of};
 ghost use Rattle.index.specs.declared.seen.Declaration.{Declaration};
 
 use crate::{CHAIN, EACH, FIRST, MOST, build};
 use model::search::{OfKind, Walk};
 use model::view::View;
-use model::{COMPOSITE, ENUM, Entry, FIELD, TYPE};
+use model::{COMPOSITE, ENUM, FIELD, TYPE};
 use std::marker::Model;
 
 #[derive(Drop)]
@@ -124,6 +124,12 @@ impl<'a> Index<'a> {
         self.view.kind(i)
     }
 
+    pub fn owner(&self, i: u32) -> u32
+        ensures { result ≡ (item_at self.now i).owner }
+    {
+        self.view.owner(i)
+    }
+
     pub fn name(&self, i: u32) -> &'a [u8]
         ensures { result.now ≡ (item_at self.now i).name }
     {
@@ -160,11 +166,27 @@ impl<'a> Index<'a> {
         self.view.size(i)
     }
 
+    // ---- how long its texts are at most
+
     #[inline(always)]
-    pub fn entry(&self, i: u32) -> Entry
-        ensures { Shows result (item_at self.now i) }
+    pub fn name_most(&self, i: u32) -> u32
+        ensures { length (item_at self.now i).name ≤ result }
     {
-        self.view.entry(i)
+        self.view.name_most(i)
+    }
+
+    #[inline(always)]
+    pub fn second_most(&self, i: u32) -> u32
+        ensures { length (item_at self.now i).second ≤ result }
+    {
+        self.view.second_most(i)
+    }
+
+    #[inline(always)]
+    pub fn encoding_most(&self, i: u32) -> u32
+        ensures { length (item_at self.now i).encoding ≤ result }
+    {
+        self.view.encoding_most(i)
     }
 
     // All items of a kind.

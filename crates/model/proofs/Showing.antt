@@ -2,17 +2,21 @@
 use mathlib.Core.Path.{◌≡◌, sym, ap, ◌∙◌}
 use mathlib.Core.List.{List}
 use Prim.Native.Nat.{ℕ, ◌≤◌, ◌<◌}
-use lib.ListN.{length, get_or-eq_default}
+use lib.ListN.{length, drop, get_or-eq_default, length-take}
+use native.Mathlib.Omega.{arith}
 use lib.Dec.{eqb}
 use borrow.Author.Tests.{eq-eqb, ne_eqb}
 use Rattle.texts.specs.Choice.{pick}
 use Rattle.texts.specs.Text.{piece}
 use Rattle.model.specs.Schema.{Item, Schema, no_item, item_at}
-use Rattle.model.specs.Shown.{Shows}
 use Rattle.model.specs.Store.{entry_at, item_of, items_of, schema_of}
 use Rattle.model.specs.declared.Entry.{Entry}
 use Rattle.model.specs.declared.Model.{Model}
 use Rattle.model.proofs.Records.{length-items, get_or-items}
+
+-- a piece is no longer than asked
+piece-short : (s : List ℕ) (a n : ℕ) → length (piece s a n) ≤ n
+piece-short s a n = omega (arith, length-take n (drop a s))
 
 module _ (m : Model) (rec : List ℕ) where
   pub count-shown : (text : List ℕ) → m.count ≡ length (schema_of m rec text).items
@@ -50,9 +54,6 @@ module _ (m : Model) (rec text : List ℕ) (v : Schema) (q : schema_of m rec tex
     shown : item_of text e ≡ item_at v i
     shown = f text ∙ ap (λ (s : Schema). item_at s i) q
 
-    pub entry-shown : Shows e (item_at v i)
-    entry-shown = record { text = text; is = shown }
-
     pub kind-shown : e.kind ≡ (item_at v i).kind
     unfolding item_of
     kind-shown = ap (λ (x : Item). x.kind) shown
@@ -89,3 +90,15 @@ module _ (m : Model) (rec text : List ℕ) (v : Schema) (q : schema_of m rec tex
     pub encoding-shown : {w : List ℕ} → w ≡ piece text e.encoding e.elen → w ≡ (item_at v i).encoding
     unfolding item_of
     encoding-shown h = h ∙ ap (λ (x : Item). x.encoding) shown
+
+    pub name-short : length (item_at v i).name ≤ e.nlen
+    unfolding item_of
+    name-short = rw (← ap (λ (x : Item). x.name) shown) (piece-short text e.name e.nlen)
+
+    pub second_short : length (item_at v i).second ≤ e.slen
+    unfolding item_of
+    second_short = rw (← ap (λ (x : Item). x.second) shown) (piece-short text e.second e.slen)
+
+    pub encoding-short : length (item_at v i).encoding ≤ e.elen
+    unfolding item_of
+    encoding-short = rw (← ap (λ (x : Item). x.encoding) shown) (piece-short text e.encoding e.elen)

@@ -2,4 +2,3 @@
 pub mod Schema
 pub mod Search
 pub mod Store
-pub mod Shown

@@ -1,4 +1,4 @@
--- Searches among the items. Internal.
+-- Searches and walks among the items, as the view answers them.
 use Rattle.std.specs.Prelude.{Bool, List, ℕ, eqb, drop, Option}
 use Rattle.texts.specs.Choice.{◌and◌}
 use Rattle.model.specs.Schema.{Item, Schema, positions_from, last}

@@ -1,10 +1,9 @@
 // A model with its two buffers: the schema that it stands for.
-ghost use Rattle.std.specs.Prelude.{◌≡◌, List, ℕ, ◌+◌, ◌<◌, ◌^◌, eqb, length, get_or};
+ghost use Rattle.std.specs.Prelude.{◌≡◌, List, ℕ, ◌+◌, ◌<◌, ◌≤◌, ◌^◌, eqb, length, get_or};
 ghost use Rattle.texts.specs.Choice.{pick};
 ghost use Rattle.texts.specs.Text.{piece};
 ghost use Rattle.model.specs.Schema.{item_at};
 ghost use Rattle.model.specs.Store.{entry_at, item_of, schema_of};
-ghost use Rattle.model.specs.Shown.{Shows};
 
 use crate::{Entry, Model, word};
 
@@ -63,7 +62,7 @@ fn entry_at(rec: &[u32], i: u32) -> Entry
 
 // The entry at a position, whatever the text buffer holds; past the last item an empty one.
 #[inline(always)]
-pub fn item(m: Model, rec: &[u32], i: u32) -> Entry
+fn item(m: Model, rec: &[u32], i: u32) -> Entry
     ensures { (text : List ℕ) → item_of text result ≡ item_at (schema_of m rec.now text) i }
 {
     if i < m.count {
@@ -198,11 +197,27 @@ impl<'a> View<'a> {
         if e.given == 1 { e.number } else { 0 }
     }
 
-    // The numbers of an item, and how long its texts are at most.
+    // ---- how long its texts are at most: more than they are only where one ends beyond the buffer, which no document gives
+    // kept: no more is promised, as what is exact asks where each text ends, which is 1 % and more of a conversion.
+
     #[inline(always)]
-    pub fn entry(&self, i: u32) -> Entry
-        ensures { Shows result (item_at self.now i) }
+    pub fn name_most(&self, i: u32) -> u32
+        ensures { length (item_at self.now i).name ≤ result }
     {
-        item(self.model, self.records, i)
+        item(self.model, self.records, i).nlen
+    }
+
+    #[inline(always)]
+    pub fn second_most(&self, i: u32) -> u32
+        ensures { length (item_at self.now i).second ≤ result }
+    {
+        item(self.model, self.records, i).slen
+    }
+
+    #[inline(always)]
+    pub fn encoding_most(&self, i: u32) -> u32
+        ensures { length (item_at self.now i).encoding ≤ result }
+    {
+        item(self.model, self.records, i).elen
     }
 }

@@ -1,13 +1,11 @@
 -- The most bytes that the item at a position adds to the source, by the lengths of its texts. Internal.
-use Rattle.std.specs.Prelude.{Option, Some, None, List, ℕ, zero, suc, ◌+◌, ◌*◌, ◌≤◌, ◌<◌, ◌^◌, eqb, length}
+use Rattle.std.specs.Prelude.{Option, Some, None, ℕ, zero, suc, ◌+◌, ◌*◌, ◌≤◌, ◌<◌, ◌^◌, eqb, length}
 use Rattle.texts.specs.Choice.{pick}
 use Rattle.printing.specs.Decimal.{decimal}
 use Rattle.index.specs.Declarations.{declaration_of}
 use Rattle.index.specs.declared.seen.Declaration.{Declaration}
 use Rattle.index.specs.declared.seen.Declaration.TheVariants.{Named, Typed}
 use Rattle.model.specs.Schema.{Item, Schema, item_at, a_member, a_ref, a_composite, an_enum, a_value, a_message, a_group, a_field}
-use Rattle.model.specs.Store.{item_of}
-use Rattle.model.specs.declared.Entry.{Entry}
 use Rattle.xmltoproto.specs.Types.{Form, form_of, built_in}
 
 -- ---- a line under a name of n bytes and a number of k digits
@@ -70,18 +68,7 @@ share s i =
 
 -- ---- as the code counts
 
--- an item's name has at most n bytes, its second text at most p, and its number at most ten digits
-pub record Sized (it : Item) (n p : ℕ) : Type 0 where
-  pub name : length it.name ≤ n
-  pub second : length it.second ≤ p
-  pub number : length (decimal it.number) ≤ 10
-
 -- r is at least n, and so small that the numbers of 1,024 items are summed in 64 bits
 pub record Covers (r n : ℕ) : Type 0 where
   pub least : n ≤ r
-  pub small : r < 2 ^ 40
-
--- so of the line of the type or member that an entry stands for, under a name of at most n bytes and a number of at most ten digits
-pub record CoversLine (r n : ℕ) (t : Entry) : Type 0 where
-  pub least : (text : List ℕ) (w k : ℕ) → w ≤ n → k ≤ 10 → typed_most w k (form_of (item_of text t)) ≤ r
   pub small : r < 2 ^ 40

@@ -23,7 +23,7 @@ mod walk;
 
 ghost use Rattle.std.specs.Prelude.{◌≡◌, ◌≤◌, leb, length, replicate};
 ghost use Rattle.printing.specs.Printed.{Printed, past};
-ghost use Rattle.index.specs.Index.{Blank};
+ghost use Rattle.index.specs.Blank.{Blank};
 ghost use Rattle.xmltoproto.specs.Source.{source};
 ghost use Rattle.xmltoproto.specs.Generate.{Generated};
 ghost use Rattle.xmltoproto.specs.Convert.{Converts};

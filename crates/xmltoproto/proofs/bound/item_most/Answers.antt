@@ -1,10 +1,6 @@
 -- kept: `search` finds these with the set named here, and not by an attribute with it.
-use borrow.Author.Rules.{rules}
-use Rattle.xmltoproto.proofs.Covering.{share-none, bounds}
+use Rattle.xmltoproto.proofs.Covering.{bounds}
 use Rattle.xmltoproto.proofs.bound.item_most.Goals as goal
-
-pub field_most-requires : goal.field_most-requires
-field_most-requires c = search bounds
 
 pub returns-in-2 : goal.returns-in-2
 returns-in-2 c = search bounds
@@ -31,4 +27,4 @@ pub returns-in-9 : goal.returns-in-9
 returns-in-9 c = search bounds
 
 pub returns-in_default : goal.returns-in_default
-returns-in_default c = share-none _ _ c.kind-kind.ensures (search rules) (search rules) (search rules) (search rules) (search rules) (search rules) (search rules) (search rules)
+returns-in_default c = search bounds

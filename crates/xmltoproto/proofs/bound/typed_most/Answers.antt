@@ -1,9 +1,6 @@
--- kept: `search` finds these with the set named here, and not by an attribute with it.
-use Rattle.xmltoproto.proofs.Covering.{bounds}
+use native.Mathlib.Omega.{arith}
+use Rattle.xmltoproto.proofs.Covering.{typed-covered}
 use Rattle.xmltoproto.proofs.bound.typed_most.Goals as goal
 
-pub returns-then-t-eq0 : goal.returns-then-t-eq0
-returns-then-t-eq0 c = search bounds
-
 pub returns : goal.returns
-returns c = search bounds
+returns c = typed-covered _ _ _ c.second_most.ensures c.encoding_most.ensures (rw c.size.ensures at c.digits_most-size.ensures.0) c.named_most-line.ensures c.note_most.ensures.0 (omega arith)
