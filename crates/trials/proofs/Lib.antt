@@ -1,0 +1,3 @@
+-- The trials, proved by computation from the definitions.
+pub mod Opened
+pub mod Proved

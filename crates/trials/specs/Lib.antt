@@ -1,0 +1,2 @@
+-- The worked examples of the converter that are proved.
+pub mod Trials

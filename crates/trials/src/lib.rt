@@ -1,0 +1,9 @@
+// The worked examples of the converter that are proved, as the contract of a function that does nothing.
+#![tactic(auto)]
+
+ghost use Rattle.trials.specs.Trials.{Trials};
+
+/// What the definitions say of each trial.
+pub fn trials()
+    ensures { Trials }
+{}
