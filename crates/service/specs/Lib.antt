@@ -1,0 +1,3 @@
+-- What the program reads and prints.
+pub mod Printed
+pub mod Served

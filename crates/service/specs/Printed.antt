@@ -1,0 +1,26 @@
+-- What the program prints for the bytes that it read: the source, or a refusal's line.
+use Rattle.std.specs.Prelude.{List, ℕ, ◌++◌, Ok, Err}
+use Rattle.texts.specs.Text.{ascii}
+use Rattle.refusals.specs.declared.Refusal.{Refusal}
+use Rattle.refusals.specs.Figures.{Answer, number_of, offset_of, place_of}
+use Rattle.printing.specs.Decimal.{decimal}
+use Rattle.xmlschema.specs.Whole.{answer_of}
+use Rattle.xmltoproto.specs.Convert.{converted, source_in}
+
+-- `refused`, number, offset, place, parted by tabs, then a line feed
+abbrev pub figures_line : ℕ → ℕ → ℕ → List ℕ
+figures_line number offset place = ascii "refused\t" ++ decimal number ++ ascii "\t" ++ decimal offset ++ ascii "\t" ++ decimal place ++ ascii "\n"
+
+abbrev pub refusal_line : Refusal → List ℕ
+refusal_line r = figures_line (number_of r) (offset_of r) (place_of r)
+
+-- after an answer, where the source is `text`
+abbrev pub printed_after : Answer → List ℕ → List ℕ
+printed_after (Ok n) text = text
+printed_after (Err r) text = refusal_line r
+
+-- for a document: records of 16,384 numbers and a text of 65,536 bytes are lent to work in, and an output of 65,536 bytes
+unfoldable pub printed : List ℕ → List ℕ
+printed document =
+    let read = answer_of document 16384 65536 in
+    printed_after (converted read 65536) (source_in read)
