@@ -10,10 +10,8 @@
 
 pub mod sheet;
 
-ghost use Rattle.std.specs.Prelude.{◌↔◌, IsTrue, length};
-ghost use Rattle.xmlschema.specs.Whole.{answer_of};
-ghost use Rattle.xmltoproto.specs.Convert.{Converts};
-ghost use Rattle.wiresheet.specs.SameSource.{SameSource, Decides};
+ghost use Rattle.std.specs.Prelude.{◌↔◌, IsTrue};
+ghost use Rattle.wiresheet.specs.SameSource.{read_as, Called, SameSource, Decides};
 
 use refusals::Refusal;
 use texts::{equal, part};
@@ -41,10 +39,10 @@ pub fn same_source(
     b: &mut Lent<'_>,
     output_b: &mut [u8],
 ) -> Compared
-    ensures first { Converts a.old.document.now (length a.old.records.now) (length a.old.text.now) output_a.old output_a.new result.first }
-    ensures second { Converts b.old.document.now (length b.old.records.now) (length b.old.text.now) output_b.old output_b.new result.second }
+    ensures first { Called a.old output_a.old output_a.new result.first }
+    ensures second { Called b.old output_b.old output_b.new result.second }
     ensures same { IsTrue result.same ↔ SameSource result.first output_a.new result.second output_b.new }
-    ensures sheets { Decides (answer_of a.old.document.now (length a.old.records.now) (length a.old.text.now)) result.first output_a.new (answer_of b.old.document.now (length b.old.records.now) (length b.old.text.now)) result.second output_b.new }
+    ensures sheets { Decides (read_as a.old) result.first output_a.new (read_as b.old) result.second output_b.new }
 {
     let first = xml_to_proto(a.document, a.records, a.text, output_a);
     let second = xml_to_proto(b.document, b.records, b.text, output_b);
