@@ -1,5 +1,5 @@
--- Demand 3 about two calls of the converter.
-use mathlib.Core.Path.{◌≡◌, sym, ap, ◌∙◌}
+-- What two calls of the converter left: the same bytes exactly when the sheets are equal.
+use mathlib.Core.Path.{◌≡◌, refl, sym, ap, ◌∙◌}
 use mathlib.Core.Bool.{Bool}
 use mathlib.Core.List.{List, ◌++◌}
 use Rattle.std.specs.Prelude.{Option, None, Some}
@@ -8,24 +8,24 @@ use native.Mathlib.Omega.{arith}
 use lib.Dec.{ltb}
 use lib.ListN.{length, take, drop}
 use lib.Seq.{take_at}
+use Rattle.std.specs.Prelude.{Ok, Err, ◌↔◌, IsTrue}
 use Rattle.texts.specs.Text.{piece, same}
 use Rattle.texts.proofs.Choosing.{by-test, pick_yes, pick_no}
 use Rattle.texts.proofs.Comparing.{same-equal, equal-same}
-use Rattle.std.specs.Prelude.{Ok, Err}
 use Rattle.refusals.specs.Figures.{Answer}
 use Rattle.refusals.specs.declared.Refusal.{Refusal}
 use Rattle.refusals.specs.declared.Refusal.TheVariants.{NoRoom}
 use Rattle.printing.specs.Output.{finished, output_after}
 use Rattle.model.specs.Schema.{Schema}
-use Rattle.xmlschema.specs.Whole.{answer_of}
+use Rattle.xmlschema.specs.Whole.{Whole, accepted, refused_by, answer_of}
 use Rattle.xmltoproto.specs.Source.{source}
 use Rattle.xmltoproto.specs.Arrays.{array_refusal}
 use Rattle.xmltoproto.specs.Generate.{answer_after, generated}
 use Rattle.xmltoproto.specs.Convert.{converted, source_in, Converts}
-use Rattle.wiresheet.specs.Demand.{PrintedAs, Decides}
+use Rattle.wiresheet.specs.SameSource.{SameBytes, SameSource, Decides}
 use Rattle.wiresheet.proofs.Unique.{source-decides, sheet-decides}
 
--- ---- what an accepted call left
+-- ---- what a call that printed left
 
 finished-length : (text : List ℕ) (room n : ℕ) → finished text room ≡ Ok n → length text ≡ n
 unfolding finished
@@ -42,26 +42,48 @@ generated-length : (s : Schema) (room n : ℕ) → generated s room ≡ Ok n →
 unfolding generated
 generated-length s room n e = answer-length (array_refusal s) (source s) room n e
 
-module _ (doc : List ℕ) (R B : ℕ) (out out' : List ℕ) {r : Answer} (c : Converts doc R B out out' r) (s : Schema) (p : PrintedAs (answer_of doc R B) (length out) s) where
-  accepts : r ≡ Ok p.n
-  accepts = c.is ∙ ap (λ x. converted x (length out)) p.is ∙ p.printed
+module _ (doc : List ℕ) (R B : ℕ) (out out' : List ℕ) {r : Answer} (c : Converts doc R B out out' r) {n : ℕ} (e : r ≡ Ok n) where
+  module _ (s : Schema) (is : answer_of doc R B ≡ accepted s) where
+    pub source-length : length (source s) ≡ n
+    source-length = generated-length s (length out) n (sym (c.is ∙ ap (λ x. converted x (length out)) is) ∙ e)
 
-  -- the first n bytes are the source
-  pub left-source : {n : ℕ} → r ≡ Ok n → {w : List ℕ} → w ≡ piece out' 0 n → w ≡ source s
-  unfolding output_after
-  left-source {n} e {w} ew =
-      let z : p.n ≡ n = cc (accepts) in
-      let l : length (source s) ≡ n = generated-length s (length out) p.n p.printed ∙ z in
-      let o : out' ≡ source s ++ drop n out = c.output ∙ ap (λ x. output_after x (source_in (answer_of doc R B)) out) e ∙ ap (λ x. source_in x ++ drop n out) p.is in
-      ew ∙ ap (take n) o ∙ take_at (source s) (drop n out) n l
+    -- the first n bytes are the source
+    pub left-source : take n out' ≡ source s
+    unfolding output_after
+    left-source =
+        let o : out' ≡ source s ++ drop n out = c.output ∙ ap (λ x. output_after x (source_in (answer_of doc R B)) out) e ∙ ap (λ x. source_in x ++ drop n out) is in
+        ap (take n) o ∙ take_at (source s) (drop n out) n source-length
+
+  -- and there are n
+  left-by : (w : Whole) → answer_of doc R B ≡ w → length (take n out') ≡ n
+  left-by (accepted s) is = ap length (left-source s is) ∙ source-length s is
+  left-by (refused_by q) is =
+      let f : r ≡ Err q = c.is ∙ ap (λ x. converted x (length out)) is in
+      absurd (let z : ◌≡◌ {A = ℕ} 0 1 = cc in omega arith)
+
+  pub left-length : length (take n out') ≡ n
+  left-length = left-by (answer_of doc R B) refl
 
 -- ---- two calls
 
-module _ (docA : List ℕ) (Ra BA : ℕ) (outA outA' : List ℕ) (docB : List ℕ) (RB BB : ℕ) (outB outB' : List ℕ) {a b : Answer} (ca : Converts docA Ra BA outA outA' a) (cb : Converts docB RB BB outB outB' b) where
-  pub both-printed : {n m : ℕ} → a ≡ Ok n → b ≡ Ok m → {x y : List ℕ} → x ≡ piece outA' 0 n → y ≡ piece outB' 0 m → {r : Bool} → r ≡ same x y
-      → Decides (answer_of docA Ra BA) (length outA) (answer_of docB RB BB) (length outB) r
-  both-printed ea eb {x} {y} ex ey er =
-      record {
-        same = λ s t p q v. source-decides s t p.plain q.plain (sym (left-source docA Ra BA outA outA' ca s p ea ex) ∙ same-equal x y (sym er ∙ v) ∙ left-source docB RB BB outB outB' cb t q eb ey);
-        told = λ s t p q v. er ∙ equal-same (left-source docA Ra BA outA outA' ca s p ea ex ∙ sheet-decides s t v ∙ sym (left-source docB RB BB outB outB' cb t q eb ey));
-      }
+module _ (docA : List ℕ) (RA BA : ℕ) (outA outA' : List ℕ) (docB : List ℕ) (RB BB : ℕ) (outB outB' : List ℕ) {a b : Answer} (ca : Converts docA RA BA outA outA' a) (cb : Converts docB RB BB outB outB' b) where
+  same-bytes : {n m : ℕ} → a ≡ Ok n → b ≡ Ok m → take n outA' ≡ take m outB' → SameBytes n outA' m outB'
+  same-bytes ea eb e = (sym (left-length docA RA BA outA outA' ca ea) ∙ ap length e ∙ left-length docB RB BB outB outB' cb eb, e)
+
+  -- of any documents, the bytes that were compared
+  pub same-told : {n m : ℕ} → a ≡ Ok n → b ≡ Ok m → {x y : List ℕ} → x ≡ piece outA' 0 n → y ≡ piece outB' 0 m → {v : Bool} → v ≡ same x y
+      → IsTrue v ↔ SameSource a outA' b outB'
+  same-told {n} {m} ea eb {x} {y} ex ey ev =
+      rw (ea, eb) (
+        (λ t. same-bytes ea eb (sym ex ∙ same-equal x y (sym ev ∙ t) ∙ ey)),
+        (λ h. ev ∙ equal-same (ex ∙ h.1 ∙ sym ey)),
+      )
+
+  -- of plain ones, the sheets
+  pub decided : Decides (answer_of docA RA BA) a outA' (answer_of docB RB BB) b outB'
+  decided s t n m p q =
+      let f : take n outA' ≡ source s = left-source docA RA BA outA outA' ca p.printed s p.is in
+      let g : take m outB' ≡ source t = left-source docB RB BB outB outB' cb q.printed t q.is in (
+        (λ h. source-decides s t p.plain q.plain (sym f ∙ h.1 ∙ g)),
+        (λ e. same-bytes p.printed q.printed (f ∙ sheet-decides s t e ∙ sym g)),
+      )

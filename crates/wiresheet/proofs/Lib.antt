@@ -1,4 +1,4 @@
--- Trials of the definitions, and demand 3: equal sources exactly when equal sheets.
+-- Trials of the definitions, and why sources are equal exactly when sheets are.
 pub mod Trials
 pub mod Splitting
 pub mod Numbers

@@ -1,8 +1,7 @@
--- Demand 3: two plain, accepted schemas have the same source, byte for byte, exactly when their wire sheets are equal.
+-- Two plain schemas have the same source, byte for byte, exactly when their wire sheets are equal.
 use mathlib.Core.Path.{◌≡◌, ap, sym, ◌∙◌}
 use Rattle.model.specs.Schema.{Schema}
 use Rattle.xmltoproto.specs.Source.{source}
-use Rattle.xmltoproto.specs.Arrays.{Accepted}
 use Rattle.wiresheet.specs.Plain.{Plain}
 use Rattle.wiresheet.specs.Sheet.{sheet}
 use Rattle.wiresheet.proofs.Rendering.{render, renders}
@@ -16,10 +15,3 @@ sheet-decides s t e = renders s ∙ ap render e ∙ sym (renders t)
 -- where the schema is plain, the sheet is a function of the source
 pub source-decides : (s t : Schema) → Plain s → Plain t → source s ≡ source t → sheet s ≡ sheet t
 source-decides s t p q e = unique (sheet s) (sheet t) (sheet-ok s p) (sheet-ok t q) (sym (renders s) ∙ e ∙ renders t)
-
--- as 01 has it: of accepted schemas, which are those that have a source
-pub same_source : (s t : Schema) → Plain s → Plain t → Accepted s → Accepted t → source s ≡ source t → sheet s ≡ sheet t
-same_source s t p q a b e = source-decides s t p q e
-
-pub same-sheet : (s t : Schema) → Plain s → Plain t → Accepted s → Accepted t → sheet s ≡ sheet t → source s ≡ source t
-same-sheet s t p q a b e = sheet-decides s t e

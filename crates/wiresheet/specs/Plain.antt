@@ -1,4 +1,4 @@
--- 01, "Plain schemas and the wire sheet": plain schemas.
+-- Plain schemas: those whose source tells their wire sheet.
 use Rattle.std.specs.Prelude.{Bool, true, false, not, List, [], ◌∷◌, ℕ, T, eqb}
 use Rattle.texts.specs.Choice.{◌or◌, ◌and◌}
 use Rattle.texts.specs.Text.{ascii}

@@ -1,4 +1,4 @@
--- 01, "Plain schemas and the wire sheet": the sheet, and how it is shown as lines.
+-- The wire sheet of a schema, and how it is shown as lines.
 use Rattle.std.specs.Prelude.{List, [], ◌∷◌, ◌++◌, map, ℕ}
 use Rattle.texts.specs.Choice.{pick}
 use Rattle.texts.specs.Text.{ascii}

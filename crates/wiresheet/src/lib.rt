@@ -1,40 +1,64 @@
-// The wire sheet of a schema, and demand 3.
+// The wire sheet of a schema, and when two schemas have the same source.
 //
 // `sheet::write_sheet` prints the lines of the wire sheet (specs/Sheet.antt) from the model.
-// `same_source` converts two documents and tells whether the two sources are the same bytes. Its
-// contract `Decides` (specs/Demand.antt) is demand 3: where both schemas are plain
-// (specs/Plain.antt), accepted and printed, it answers true exactly when their wire sheets are equal.
+// `same_source` converts two documents and compares what the two calls left. Its contract
+// (specs/SameSource.antt) says that two plain (specs/Plain.antt), accepted, printed schemas have the
+// same source, byte for byte, exactly when their wire sheets are equal.
 //
 // kept: an output, a view and an item's position are parameters, as in xmltoproto.
 #![tactic(auto)]
 
 pub mod sheet;
 
-ghost use Rattle.std.specs.Prelude.{length};
-ghost use Rattle.xmlschema.specs.Whole.{answer_of};
-ghost use Rattle.wiresheet.specs.Demand.{Decides};
+ghost use Rattle.std.specs.Prelude.{◌↔◌, IsTrue};
+ghost use Rattle.wiresheet.specs.SameSource.{read_as, Called, SameSource, Decides};
 
+use refusals::Refusal;
 use texts::{equal, part};
 use xmltoproto::xml_to_proto;
 
-// Demand 3 about two whole calls: converts both documents, with any buffers, and answers whether
-// the bytes that the two calls left are the same.
+// A document, and the two work buffers that are lent for it.
+#[derive(Drop)]
+pub struct Lent<'a> {
+    pub document: &'a [u8],
+    pub records: &'a mut [u32],
+    pub text: &'a mut [u8],
+}
+
+// What two calls of the converter answered, and whether they left the same source.
+pub struct Compared {
+    pub first: Result<usize, Refusal>,
+    pub second: Result<usize, Refusal>,
+    pub same: bool,
+}
+
+// Converts two documents, with any buffers, and compares the sources that the two calls left.
 pub fn same_source(
-    document_a: &[u8],
-    records_a: &mut [u32],
-    text_a: &mut [u8],
+    a: &mut Lent<'_>,
     output_a: &mut [u8],
-    document_b: &[u8],
-    records_b: &mut [u32],
-    text_b: &mut [u8],
+    b: &mut Lent<'_>,
     output_b: &mut [u8],
-) -> bool
-    ensures { Decides (answer_of document_a.now (length records_a.old) (length text_a.old)) (length output_a.old) (answer_of document_b.now (length records_b.old) (length text_b.old)) (length output_b.old) result }
+) -> Compared
+    ensures first { Called a.old output_a.old output_a.new result.first }
+    ensures second { Called b.old output_b.old output_b.new result.second }
+    ensures same { IsTrue result.same ↔ SameSource result.first output_a.new result.second output_b.new }
+    ensures sheets { Decides (read_as a.old) result.first output_a.new (read_as b.old) result.second output_b.new }
 {
-    let a = xml_to_proto(document_a, records_a, text_a, output_a);
-    let b = xml_to_proto(document_b, records_b, text_b, output_b);
-    match (a, b) {
-        (Ok(n), Ok(m)) => equal(part(output_a, 0, n), part(output_b, 0, m)),
-        _ => false,
+    let first = xml_to_proto(a.document, a.records, a.text, output_a);
+    let second = xml_to_proto(b.document, b.records, b.text, output_b);
+    match (first, second) {
+        (Ok(n), Ok(m)) => {
+            let same = equal(part(output_a, 0, n), part(output_b, 0, m));
+            Compared {
+                first,
+                second,
+                same,
+            }
+        }
+        _ => Compared {
+            first,
+            second,
+            same: false,
+        },
     }
 }

@@ -191,12 +191,13 @@ impl Lines for FieldLine {
     ghost text = { λ s i. field_shown (field_of s (item_at s i)) };
 
     fn write(&self, out: &mut Output<'_>, v: &View<'_>, i: u32) {
+        let id = v.number(i);
         out.text(b"field\t");
         write_kind_of(out, v, v.second(i));
         out.text(b"\t");
         write_snake(out, v.name(i));
         out.text(b"\t");
-        out.decimal(v.number(i));
+        out.decimal(id);
         out.text(b"\n");
     }
 }

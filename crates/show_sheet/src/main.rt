@@ -1,0 +1,52 @@
+// Shows the wire sheets of documents: standard input holds documents, parted by `%`, which none of
+// them has; standard output gets the lines of their sheets, one sheet after the other.
+//
+// `stdout` was written by hand from `stdin`, not by this program, so that the printer of the sheet is
+// held to what a reader finds. A sheet begins with its `schema` line. A document that is refused has
+// no sheet, and gets one line: `refused`, number, offset and place, parted by tabs.
+#![tactic(auto)]
+
+use inputs::read_full;
+use model::view::View;
+use printing::Output;
+use refusals::Refusal;
+use replaying::written;
+use std::io;
+use wiresheet::sheet::write_sheet;
+use xmlschema::build::read_schema;
+
+fn print_refusal(rt: &impl Print, r: Refusal) -> io::Result<()> {
+    let number = r.number();
+    let offset = r.offset();
+    let place = r.place();
+    println!(rt; "refused\t{number}\t{offset}\t{place}")
+}
+
+fn print_sheet(rt: &impl Print, v: &View<'_>) -> io::Result<()> {
+    let mut lines = [0u8; 65536];
+    let mut out = Output::new(&mut lines);
+    write_sheet(&mut out, v);
+    rt.write_all(written(&out))
+}
+
+fn show(rt: &impl Print, document: &[u8]) -> io::Result<()> {
+    let mut records = [0u32; 16384];
+    let mut text = [0u8; 65536];
+    match read_schema(document, &mut records, &mut text) {
+        Err(r) => print_refusal(rt, r),
+        Ok(m) => print_sheet(rt, &View::new(m, &records, &text)),
+    }
+}
+
+fn parts_documents(b: &u8) -> bool {
+    *b == b'%'
+}
+
+fn main(rt: HostRuntime) -> io::Result<()> {
+    let mut input = [0u8; 65536];
+    let n = read_full(&mut rt.stdin(), &mut input)?;
+    for document in input[..n].split(parts_documents) {
+        show(&rt, document)?;
+    }
+    Ok(())
+}
