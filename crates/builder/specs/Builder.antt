@@ -1,4 +1,4 @@
--- 01, "The builder": what one event makes of its state.
+-- The builder: what one event makes of its state.
 use Rattle.std.specs.Prelude.{Bool, true, false, List, [], ◌∷◌, ◌++◌, ℕ, eqb, leb, length, set, Option, Some, None}
 use Prim.Native.String.{String}
 use Rattle.texts.specs.Choice.{pick}

@@ -6,7 +6,7 @@
 // included, and keep what the next step asks. Each has a `requires`, which the crate above meets:
 // the state is kept, and the event's texts have room.
 //
-// kept: a state stands beside what is lent, and a tag beside a state. The state goes by value, as 01 asks, so that what is kept
+// kept: a state stands beside what is lent, and a tag beside a state. The state goes by value, so that what is kept
 // (`Kept`) is of both, and no type's invariant says it; a tag is what one event tells.
 #![tactic(auto)]
 

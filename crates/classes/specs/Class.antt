@@ -1,4 +1,4 @@
--- The byte classes of 01, "Reading markup".
+-- The classes of bytes that the reader and the name conversions tell apart.
 use Rattle.std.specs.Prelude.{Bool, ℕ, eqb, leb}
 use Rattle.texts.specs.Choice.{◌or◌, ◌and◌}
 

@@ -3,4 +3,3 @@ pub mod Letters
 pub mod Storing
 pub mod Singular
 pub mod Cutting
-pub mod Trials

@@ -1,4 +1,4 @@
--- 01, "Names needed for printing" and "Other conversions". Most go by position: what each position of the name gives, one after
+-- The six conversions of names. Most go by position: what each position of the name gives, one after
 -- another. The byte before the first and the one after the last are 0, which is no letter.
 use Rattle.std.specs.Prelude.{Bool, not, List, [], ◌∷◌, ◌++◌, ℕ, ◌+◌, ◌-◌, eqb, ltb, length, get_or, take, drop}
 use Rattle.texts.specs.Choice.{pick, ◌or◌, ◌and◌}

@@ -1,3 +1,3 @@
--- 01, "Reading markup": the entities.
+-- The entities of text and values.
 pub mod Entities
 pub mod Copying

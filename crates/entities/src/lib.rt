@@ -1,7 +1,7 @@
 // The five entities.
 //
 // `decode` writes a part of the document, its entities decoded, into a lent slice. It requires nothing of a caller: it asks
-// for room itself, and promises `DecodedInto` of specs/Entities.antt on all inputs, after 01, "Reading markup". `decode_room`
+// for room itself, and promises `DecodedInto` of specs/Entities.antt on all inputs. `decode_room`
 // is the same for a caller that has room. Decoding never lengthens a text (proofs/Decoding.antt), and one without '&' stays
 // as it is (proofs/Copying.antt).
 //

@@ -31,7 +31,7 @@ a_group = 8
 abbrev pub a_field : ℕ
 a_field = 9
 
--- one thing added. 01's "item".
+-- one thing added: a type, member, ref, composite, enum, value, message, group or field. The scope's "item"
 pub record Item : Type 0 where
   pub kind : ℕ
   -- the position, among all items, of the composite, enum, message or group that it was added to; 0 for what is added to the schema itself

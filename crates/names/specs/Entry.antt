@@ -1,4 +1,4 @@
--- 01: name conversions give only 1, 10, 3, in that order; with two names the value name is tested first within each.
+-- Name conversions give only 1, 10, 3, in that order; with two names the value name is tested first within each.
 use Rattle.std.specs.Prelude.{◌≡◌, Bool, List, ℕ, ltb, length, Result, Ok, Err}
 use Rattle.texts.specs.Choice.{pick}
 use Rattle.texts.specs.Scan.{scan, is_ascii}

@@ -1,4 +1,3 @@
--- Trials of the definitions, and the laws of the functions.
-pub mod Trials
+-- Laws of the functions.
 pub mod Numbering
 pub mod Laws

@@ -29,7 +29,7 @@ unfoldable pub unsigned : List ℕ → List ℕ
 unsigned [] = []
 unsigned (b ∷ s) = pick (eqb b 43) s (b ∷ s)
 
--- 01's numbers: absent or empty is 0, and what is no number, None, is refusal 32
+-- an attribute's number: absent or empty is 0, and what is no number, None, is refusal 32
 unfoldable pub number_of : Option (List ℕ) → Option ℕ
 number_of None = Some 0
 number_of (Some []) = Some 0

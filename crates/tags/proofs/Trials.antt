@@ -1,4 +1,4 @@
--- Trials of 01, computed from the definitions.
+-- Look-ups in a small tag, computed from the definitions.
 use Rattle.texts.specs.declared.Range.{Range}
 use Rattle.std.specs.Prelude.{Option, Some, None}
 use mathlib.Core.Path.{◌≡◌, refl}

@@ -1,4 +1,4 @@
--- 01, "Reading markup": names, attributes and tags.
+-- Names, attributes and tags.
 pub mod Find
 pub mod Names
 pub mod Attributes

@@ -6,7 +6,7 @@
 // general way answers for all others. `namespaces` passes attributes that declare a namespace.
 //
 // `tag_part` and `attribute` require nothing of a caller. Each promise is with a definition of specs/, on all inputs:
-// specs/Find.antt, specs/Names.antt and specs/Attributes.antt, after 01, "Reading markup". What is noted is specs/Noting.antt. A tag's values lie within the tag,
+// specs/Find.antt, specs/Names.antt and specs/Attributes.antt. What is noted is specs/Noting.antt. A tag's values lie within the tag,
 // without overlap (proofs/Ranges.antt).
 //
 // kept: a document and a place in it are two parameters, here and in saxlite, elements and numbers. A place is what a caller goes on

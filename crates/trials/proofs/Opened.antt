@@ -13,13 +13,12 @@ use Rattle.entities.specs.Entities.{front, decoded_past}
 use Rattle.tags.specs.Find.{find_in}
 use Rattle.tags.specs.Names.{prefix_length, is_xmlns}
 use Rattle.tags.specs.Attributes.{quoted_at, value_at, attribute_part_at, tag_part_at, with_part, tag_within, last_of, attribute_at}
-use Rattle.saxlite.specs.Step.{past_end, skipped_to, close_at, open_with, open_at, markup_at, step_at}
-use Rattle.saxlite.specs.Reader.{owed_close, read_at, at_end}
+use Rattle.saxlite.specs.Events.{text_at, past, past_end, close_at, open_by, open_at, events_at, events_within}
 use Rattle.numbers.specs.Numbers.{is_digit, all_digits, value_from, bounded_from, digits_of, unsigned, number_of}
 use Rattle.elements.specs.Elements.{other_element_of, element_of}
 use Rattle.model.specs.Schema.{positions_from, all_of, under}
 use Rattle.builder.specs.Builder.{added, open_schema, open_type, open_composite, open_message, opened, closed}
-use Rattle.xmlschema.specs.Whole.{ending, run, answer_of}
+use Rattle.xmlschema.specs.Whole.{ending, built, answer_of}
 use Rattle.xmltoproto.specs.Types.{form_of, is_char, is_byte, is_array}
 use Rattle.xmltoproto.specs.Composites.{is_printed, printed_composites}
 use Rattle.xmltoproto.specs.Source.{package_line, header, source}
@@ -38,12 +37,12 @@ on_numbers = tt
 
 -- the markup at a place of a document
 unfoldable pub on_markup : Unit {0}
-unfolding step_at markup_at open_at open_with close_at skipped_to past_end find_in tag_within with_part tag_part_at attribute_part_at value_at quoted_at prefix_length is_xmlns same starts_with is_space is_tag_name_end is_attribute_name_end
+unfolding events_within events_at text_at open_at open_by close_at past_end past find_in tag_within with_part tag_part_at attribute_part_at value_at quoted_at prefix_length is_xmlns same starts_with is_space is_tag_name_end is_attribute_name_end
 on_markup = tt
 
 -- a whole document, taken into the model
 unfoldable pub on_documents : Unit {0}
-unfolding on_markup on_numbers answer_of run ending read_at owed_close at_end is_ascii attribute_at last_of front decoded_past other_element_of element_of added open_schema open_type open_composite open_message opened closed
+unfolding on_markup on_numbers answer_of built ending is_ascii attribute_at last_of front decoded_past other_element_of element_of added open_schema open_type open_composite open_message opened closed
 on_documents = tt
 
 -- the array refusals, and the source of a schema that prints no item

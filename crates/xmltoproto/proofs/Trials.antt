@@ -1,4 +1,4 @@
--- 01, "Trials": those on types, the worked example, and the empty document's length; and an example of each kind.
+-- Examples: arrays, the source of a small schema, the empty document's length, and a line of each kind.
 use mathlib.Core.Path.{◌≡◌, refl}
 use mathlib.Core.Bool.{true, false}
 use mathlib.Core.List.{List, [], ◌∷◌}

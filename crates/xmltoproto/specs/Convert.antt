@@ -1,4 +1,4 @@
--- The converter: what it answers for a document, and what its output holds afterwards. 01's order: 1, 2, 10, 11 to 35 as the
+-- The converter: what it answers for a document, and what its output holds afterwards. The order is 1, 2, 10, 11 to 35 as the
 -- document is read, 31, 40, 41, then 3.
 use Rattle.std.specs.Prelude.{◌≡◌, List, [], ℕ, length, Err}
 use Rattle.refusals.specs.Figures.{Answer}

@@ -1,9 +1,9 @@
-//! The numbers of 01 for the errors of the reference, which has only sentences.
+//! The numbers of docs/REFUSALS.md for the errors of the reference, which has only sentences.
 
 use reference::errors::SbeError;
 use reference::saxlite::SaxError;
 
-/// Where the reference panics (01, "What a box answers").
+/// Where the reference panics (33).
 pub const MISPLACED_FIELD: u32 = 33;
 
 /// Sentences by how they begin. A name may follow.

@@ -12,7 +12,7 @@ pub trait Suite {
 
     /// Hands out every input, the same ones on each run.
     fn inputs(&self, each: &mut dyn FnMut(Self::Input));
-    /// What has to come: by the reference, and by 01 where 01 departs from it.
+    /// What has to come: by the reference, and by the port's own rules where it departs from it.
     fn reference(&self, input: &Self::Input) -> Self::Outcome;
     fn library(&self, input: &Self::Input) -> Self::Outcome;
     /// Inputs with less in them, the much smaller ones first.

@@ -20,7 +20,7 @@ const RICH: [&str; 6] = ["enum ", "string ", "bytes ", "// ", "(sbe.encoding)", 
 const ROOM: usize = 65_536;
 const LONGEST_SOURCE: usize = 32_767;
 
-/// 01's trials come first, then what its rules tell apart.
+/// The worked examples come first, then what the rules tell apart.
 const DOCUMENTS: &[&str] = &[
     "",
     r#"<messageSchema id="7"><message name="Hit" id="3"><group name="legs" id="5"><field name="legId" id="6" type="uint16"/></group></message></messageSchema>"#,

@@ -99,7 +99,7 @@ mod tests {
         assert_eq!(read(document), Reading { number: 0, offset: 0, place: 0, events });
     }
 
-    /// The unstarred and starred trials of 01, and the places of others.
+    /// The worked examples, and the places of others.
     #[test]
     fn trials() {
         for (document, number, offset, place) in [

@@ -12,7 +12,7 @@ use crate::record::{self, hex};
 const ANSWERS: usize = 800;
 const LONGEST: usize = 48;
 
-/// 01's trials come first, then what its rules tell apart.
+/// The worked examples come first, then what the rules tell apart.
 const DOCUMENTS: &[&str] = &[
     "<",
     "<a b>",

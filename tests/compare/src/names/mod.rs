@@ -8,7 +8,7 @@ use reference::xmlschema;
 use crate::library::{self, Answer, OutOfBounds};
 use crate::suite::{caught, shown, without_parts, Suite};
 
-/// The longest name that is taken (01, "What a box answers").
+/// The longest name that is taken (refusal 1).
 pub const MAX_NAME: usize = 32_768;
 
 #[derive(Clone, Copy, Debug, PartialEq)]
@@ -68,7 +68,7 @@ pub struct Input {
 struct Refusal(u32, usize);
 
 impl Input {
-    /// The text by the reference, or the refusal that 01 puts before it: 1, then 10, with two names
+    /// The text by the reference, or the refusal that comes before it: 1, then 10, with two names
     /// the value name first within each.
     fn text(&self) -> Result<Vec<u8>, Refusal> {
         let names = [&self.value, &self.enum_name];

@@ -51,7 +51,7 @@ fn input(conversion: Conversion, value: &str, enum_name: &str, room: Room) -> In
     Input { conversion, value: value.into(), enum_name: enum_name.into(), room }
 }
 
-/// 01's trials, which stand first in `WORDS`, and its other words, by each conversion.
+/// The worked examples, which stand first in `WORDS`, and other words, by each conversion.
 fn words(lines: &mut Vec<Line>) {
     for word in WORDS {
         for conversion in &Conversion::ALL[..5] {

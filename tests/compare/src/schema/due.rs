@@ -1,5 +1,5 @@
-//! What has to come of a schema document: the reference's outcome with 01's numbers and places, and
-//! the refusals that 01 adds.
+//! What has to come of a schema document: the reference's outcome with the port's numbers and places, and
+//! the refusals that the port adds.
 
 use std::collections::HashMap;
 
@@ -43,7 +43,7 @@ pub fn schema(document: &[u8], records: usize, text: usize) -> Result<XmlSchema,
 /// The source, with buffers of these lengths and room enough.
 pub fn source(document: &[u8], records: usize, text: usize) -> Result<String, Refused> {
     let document = tested(document, records, text)?;
-    // The limits are 01's: where they are kept, the reference's answer is due.
+    // The limits are the port's own: where they are kept, the reference's answer is due.
     limit(document).map_or(Ok(()), |_| read(document).map(|_| ()))?;
     match caught(|| xml_to_proto(document)) {
         Some(Ok(source)) => Ok(source),
@@ -127,7 +127,7 @@ fn place(document: &str, read: impl Fn(&str) -> Part) -> usize {
 
 // ---- limits
 
-/// Counts open elements and items by 01's rules, and ends the reading at a limit.
+/// Counts open elements and items by the port's rules, and ends the reading at a limit.
 #[derive(Default)]
 struct Counter {
     stack: Vec<String>,
@@ -283,7 +283,7 @@ mod tests {
         }
     }
 
-    /// 01's trial: the empty document gives 108 bytes.
+    /// The empty document gives 108 bytes.
     #[test]
     fn the_empty_document() {
         assert_eq!(source(b"", RECORDS, TEXT).unwrap().len(), 108);

@@ -1,4 +1,4 @@
-//! What the reference makes of a schema document: the model (all that 01 keeps: no descriptions, no
+//! What the reference makes of a schema document: the model (all that the port keeps: no descriptions, no
 //! byteOrder) in the bytes that crates/probe/src/dump.rt describes.
 
 use reference::xmlschema::{XmlField, XmlSchema, XmlType};

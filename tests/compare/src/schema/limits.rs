@@ -1,4 +1,4 @@
-//! Documents at 01's limits, all short structures, and schemas of real size.
+//! Documents at the limits, all short structures, and schemas of real size.
 
 use super::due::{LONGEST, RECORDS, TEXT};
 use crate::prng::Prng;

@@ -15,7 +15,7 @@ const LONGEST: usize = 130;
 /// Shorter models are kept now and then.
 const RICH: usize = 24;
 
-/// What 01's rules tell apart.
+/// What the rules tell apart.
 const DOCUMENTS: &[&str] = &[
     "",
     "</>",
