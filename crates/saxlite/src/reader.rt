@@ -52,8 +52,8 @@ impl Cursor {
 /// A reader over a document that yields one event at a time.
 #[derive(Clone, Copy)]
 pub struct Reader<'a> {
-    pub doc: &'a [u8],
-    pub cursor: Cursor,
+    doc: &'a [u8],
+    cursor: Cursor,
 }
 
 impl<'a> Reader<'a> {
