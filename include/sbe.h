@@ -4,7 +4,7 @@
  * Where it runs: x86-64 Linux, on processors of the level x86-64-v2 or above, which have SSE4.2; on an
  * older one a call ends with SIGILL. The library calls `memset` of the C library, and nothing else. It
  * allocates nothing and keeps nothing between calls, so that calls on different memory may run at once. On
- * the stack a call touches some 29 KiB, measured and not proved.
+ * the stack a call of the converter touches some 29 KiB, measured and not proved.
  *
  * Each function answers a number, 0 for accepted, and always sets *offset, *place and *n.
  *

@@ -3,6 +3,8 @@
 // Every function answers the refusal's number, 0 for accepted, and always sets offset, place and n.
 // Its contract gives these four numbers and every byte of the output, on all inputs.
 //
+// What C must hand over stands in the header. A null pointer with the length 0 is an empty slice.
+//
 // kept: buffers, offset, place and n are the parameters that C hands over.
 #![tactic(auto, using(crate::proofs::Reporting::laws))]
 
