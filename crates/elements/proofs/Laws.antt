@@ -1,5 +1,5 @@
 -- The laws that the proofs of functions cite, in one set, which the attribute of each file names.
 use borrow.Author.Rules.{rules}
-use Rattle.elements.proofs.Naming.{is-schema, is-type, is-ref, is-composite, is-enum, is_later, is-value, is-message, is-group, is_field, is-other, at_field, at-group, at-type, at_enum, at-message, at_value, at-composite, at-any, other-four, other-five, leaf-five, leaf-four, leaf-not}
+use Rattle.elements.proofs.Naming.{is-schema, is-type, is-ref, is-composite, is-enum, is_later, is-value, is-message, is-group, is_field, is-other, at_field, at-group, at-type, at_enum, at-message, at_value, at-composite, at-any, other-four, other-five}
 
-pub ruleset laws = (is-schema, is-type, is-ref, is-composite, is-enum, is_later, is-value, is-message, is-group, is_field, is-other, at_field, at-group, at-type, at_enum, at-message, at_value, at-composite, at-any, other-four, other-five, leaf-five, leaf-four, leaf-not, rules)
+pub ruleset laws = (is-schema, is-type, is-ref, is-composite, is-enum, is_later, is-value, is-message, is-group, is_field, is-other, at_field, at-group, at-type, at_enum, at-message, at_value, at-composite, at-any, other-four, other-five, rules)

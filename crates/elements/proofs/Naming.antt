@@ -7,7 +7,6 @@ use native.Mathlib.Omega.{arith}
 use lib.Dec.{T, ltb, leb→le, ltb→lt}
 use lib.ListN.{length, drop, length-take, length-drop, take-append-drop}
 use borrow.Author.Tests.{eq-eqb}
-use Rattle.texts.specs.Choice.{pick}
 use Rattle.texts.specs.Text.{ascii, piece, same, starts_with}
 use Rattle.texts.proofs.Choosing.{by-test}
 use Rattle.texts.proofs.Comparing.{same-lengths, same-equal, starts-yes}
@@ -15,7 +14,6 @@ use Rattle.words.specs.Word.{word_of}
 use Rattle.words.specs.Standing.{ShortText, LongText, StandsShort, StandsLong}
 use Rattle.words.proofs.Digits.{front-is}
 use Rattle.elements.specs.Elements.{element_of, other_element_of}
-use Rattle.elements.specs.Leaf.{leaf, IsLeaf}
 use Rattle.elements.specs.declared.Element.{Element}
 use Rattle.elements.specs.declared.Element.TheVariants.{MessageSchema, «Type», Ref, Composite, Enum, ValidValue, Message, Group, Field, Other}
 
@@ -125,19 +123,6 @@ module _ (doc : List ℕ) (at : ℕ) {len : ℕ} (h : at + 16 ≤ length doc) wh
   unfolding element_of other_element_of
   at_other n3 n4 n5 n7 n9 n10 n13 = rw (differs (ascii "messageSchema") tt n13, differs (ascii "type") tt n4, differs (ascii "ref") tt n3, differs (ascii "composite") tt n9, differs (ascii "enum") tt n4, differs (ascii "validValue") tt n10, differs (ascii "message") tt n7, differs (ascii "group") tt n5, differs (ascii "field") tt n5)
 
--- ---- leaves
-
-leaf-of : (a b c d : Bool) → leaf (pick a MessageSchema (pick b «Type» (pick c Ref (pick d Field Other)))) ≡ true
-leaf-of true b c d = refl
-leaf-of false true c d = refl
-leaf-of false false true d = refl
-leaf-of false false false true = refl
-leaf-of false false false false = refl
-
-leaf-unless : (name : List ℕ) → same name (ascii "composite") ≡ false → same name (ascii "enum") ≡ false → same name (ascii "validValue") ≡ false → same name (ascii "message") ≡ false → same name (ascii "group") ≡ false → leaf (element_of name) ≡ true
-unfolding element_of other_element_of
-leaf-unless name c e v m g = rw (c, e, v, m, g) (leaf-of (same name (ascii "messageSchema")) (same name (ascii "type")) (same name (ascii "ref")) (same name (ascii "field")))
-
 starts-self : (n r : List ℕ) → starts_with n (n ++ r) ≡ true
 unfolding starts_with
 starts-self [] r = refl
@@ -153,21 +138,6 @@ unlike doc at len name {b = b} t s e =
     absurd (let k : not true ≡ true = ap not (sym (s.is name t ∙ z)) ∙ e in let w : ◌≡◌ {A = ℕ} 0 1 = cc in omega arith))
     (λ f. f)
 
-module _ (doc : List ℕ) (at : ℕ) {len : ℕ} where
-  module _ (h : at + 16 ≤ length doc) where
-    -- of five bytes only "group" is no leaf's, and of four "enum"
-    pub leaf-five : {b : Bool} → StandsShort doc at 1099511627776 483006575207 b → len ≡ 5 → IsLeaf (piece doc at len) (not b)
-    unfolding word_of
-    leaf-five s l = record { is = λ t. leaf-unless (piece doc at len) (differs doc at {len = len} h (ascii "composite") tt (λ e. omega arith)) (differs doc at {len = len} h (ascii "enum") tt (λ e. omega arith)) (differs doc at {len = len} h (ascii "validValue") tt (λ e. omega arith)) (differs doc at {len = len} h (ascii "message") tt (λ e. omega arith)) (unlike doc at len (ascii "group") (record { few = leb→le 5 8 tt; power = refl; number = refl; bytes = tt }) s t) }
-
-    pub leaf-four : {b : Bool} → StandsShort doc at 4294967296 1836412517 b → len ≡ 4 → IsLeaf (piece doc at len) (not b)
-    unfolding word_of
-    leaf-four s l = record { is = λ t. leaf-unless (piece doc at len) (differs doc at {len = len} h (ascii "composite") tt (λ e. omega arith)) (unlike doc at len (ascii "enum") (record { few = leb→le 4 8 tt; power = refl; number = refl; bytes = tt }) s t) (differs doc at {len = len} h (ascii "validValue") tt (λ e. omega arith)) (differs doc at {len = len} h (ascii "message") tt (λ e. omega arith)) (differs doc at {len = len} h (ascii "group") tt (λ e. omega arith)) }
-
-    -- none but a leaf has a name of another length
-    pub leaf-other : (len ≡ 4 → ⊥) → (len ≡ 5 → ⊥) → (len ≡ 7 → ⊥) → (len ≡ 9 → ⊥) → (len ≡ 10 → ⊥) → IsLeaf (piece doc at len) true
-    leaf-other n4 n5 n7 n9 n10 = record { is = λ t. leaf-unless (piece doc at len) (differs doc at h (ascii "composite") tt n9) (differs doc at h (ascii "enum") tt n4) (differs doc at h (ascii "validValue") tt n10) (differs doc at h (ascii "message") tt n7) (differs doc at h (ascii "group") tt n5) }
-
 -- a name of four bytes or five that is none of the two elements' of that length
 module _ (doc : List ℕ) (at : ℕ) {len : ℕ} (h : at + 16 ≤ length doc) {a b : Bool} where
   pub other-four : StandsShort doc at 4294967296 1701869940 a → a ≡ false → StandsShort doc at 4294967296 1836412517 b → b ≡ false → len ≡ 4 → Other ≡ element_of (piece doc at len)
@@ -177,6 +147,3 @@ module _ (doc : List ℕ) (at : ℕ) {len : ℕ} (h : at + 16 ≤ length doc) {a
   pub other-five : StandsShort doc at 1099511627776 431315315046 a → a ≡ false → StandsShort doc at 1099511627776 483006575207 b → b ≡ false → len ≡ 5 → Other ≡ element_of (piece doc at len)
   unfolding element_of other_element_of word_of
   other-five s e t f l = rw (differs doc at {len = len} h (ascii "messageSchema") tt (λ x. omega arith), differs doc at {len = len} h (ascii "type") tt (λ x. omega arith), differs doc at {len = len} h (ascii "ref") tt (λ x. omega arith), differs doc at {len = len} h (ascii "composite") tt (λ x. omega arith), differs doc at {len = len} h (ascii "enum") tt (λ x. omega arith), differs doc at {len = len} h (ascii "validValue") tt (λ x. omega arith), differs doc at {len = len} h (ascii "message") tt (λ x. omega arith), unlike doc at len (ascii "group") (record { few = leb→le 5 8 tt; power = refl; number = refl; bytes = tt }) t (ap not f), unlike doc at len (ascii "field") (record { few = leb→le 5 8 tt; power = refl; number = refl; bytes = tt }) s (ap not e))
-
-pub leaf-not : (name : List ℕ) → IsLeaf name false
-leaf-not name = record { is = λ t. absurd (let z : ◌≡◌ {A = ℕ} 0 1 = cc in omega arith) }

@@ -1,3 +1,2 @@
 -- The elements that a schema is made of.
 pub mod Elements
-pub mod Leaf

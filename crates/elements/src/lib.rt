@@ -9,7 +9,6 @@
 ghost use Rattle.std.specs.Prelude.{◌≡◌, ◌+◌, ◌≤◌, length};
 ghost use Rattle.texts.specs.Text.{piece};
 ghost use Rattle.elements.specs.Elements.{element_of, other_element_of};
-ghost use Rattle.elements.specs.Leaf.{IsLeaf};
 
 use texts::{equal, part};
 use words::{stands_long, stands_short};
@@ -63,23 +62,6 @@ pub fn element_of(name: &[u8]) -> Element
         Element::Enum
     } else {
         other_element_of(name)
-    }
-}
-
-// Whether the name of `len` bytes at `at` is a leaf's (specs/Leaf.antt), whose close only pops the name: but for five and four
-// bytes its length tells. None is told of in the document's last 15 bytes.
-pub fn is_leaf_at(doc: &[u8], at: usize, len: usize) -> bool
-    ensures { IsLeaf (piece doc.now at len) result }
-{
-    if doc.len() < 16 || doc.len() - 16 < at {
-        return false;
-    }
-    match len {
-        // "group", "enum"
-        5 => !stands_short(doc, at, 0x100_0000_0000, 0x70_756f_7267),
-        4 => !stands_short(doc, at, 0x1_0000_0000, 0x6d75_6e65),
-        7 | 9 | 10 => false,
-        _ => true,
     }
 }
 

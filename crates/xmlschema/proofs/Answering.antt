@@ -12,7 +12,7 @@ use Rattle.refusals.specs.declared.Refusal.{Refusal}
 use Rattle.refusals.specs.declared.Refusal.TheVariants.{TooLong, NoWorkSpace, NotAscii}
 use Rattle.model.specs.declared.Model.{Model}
 use Rattle.xmlschema.specs.Whole.{reading, the_limits, answer_of}
-use Rattle.xmlschema.specs.Driving.{shown, ReadInto}
+use Rattle.xmlschema.specs.Read.{shown, ReadInto}
 
 module _ (doc rec text : List ℕ) where
   -- a refusal before anything is written

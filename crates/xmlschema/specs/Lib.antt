@@ -1,4 +1,5 @@
--- How a whole document is read into the model of a schema. A customer reads Whole and Tracking; Driving says what reading promises.
+-- How a whole document is read into the model of a schema. A customer reads Whole, Read and Tracking; Driving is internal.
 pub mod Whole
+pub mod Read
 pub mod Tracking
 pub mod Driving

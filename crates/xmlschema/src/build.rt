@@ -5,7 +5,8 @@ ghost use Rattle.std.specs.Prelude.{◌≡◌, ◌≤◌, length};
 ghost use Rattle.saxlite.specs.Reader.{event_in, takes, Inside, NotedIn};
 ghost use Rattle.builder.specs.Layout.{builder_in, Ready, After};
 ghost use Rattle.xmlschema.specs.Whole.{step as step_of, reading};
-ghost use Rattle.xmlschema.specs.Driving.{with_state, shown, ReadInto};
+ghost use Rattle.xmlschema.specs.Driving.{with_state};
+ghost use Rattle.xmlschema.specs.Read.{shown, ReadInto};
 
 use builder::state::{Limits, State};
 use builder::work::{Tag, Work};

@@ -8,7 +8,7 @@ use Rattle.std.proofs.lemmas.Result.{err_from_is_err_and}
 use Rattle.refusals.specs.Figures.{Answer}
 use Rattle.refusals.specs.declared.Refusal.{Refusal}
 use Rattle.printing.specs.Output.{output_after}
-use Rattle.xmlschema.specs.Driving.{ReadInto}
+use Rattle.xmlschema.specs.Read.{ReadInto}
 use Rattle.xmltoproto.specs.Convert.{converted, Converts}
 
 -- d is what reading answered, w what the definition says
