@@ -1,3 +1,3 @@
--- 01, "Reading markup": the entities.
+-- The five entities, and what decoding has written on the way.
 pub mod Entities
 pub mod Copying

@@ -1,4 +1,4 @@
--- 01, "What a box answers, by who caused it": number, offset and place of each refusal.
+-- Number, offset and place of each refusal.
 use Rattle.std.specs.Prelude.{ℕ, Result, Ok, Err}
 use Rattle.refusals.specs.declared.Refusal.{Refusal}
 use Rattle.refusals.specs.declared.Refusal.TheVariants.{TooLong, NoWorkSpace, NoRoom, NotAscii, OpenComment, OpenInstruction, OpenDeclaration, NoCloseTagEnd, NoTagName, OpenTag, NoAttributeName, NoEquals, NoQuote, OpenValue, WrongClose, OpenElements, BadNumber, MisplacedField, TooDeep, TooManyItems, ArrayInComposite, ArrayInMessage}
@@ -77,7 +77,7 @@ place_of (TooManyItems place) = place
 place_of (ArrayInComposite place) = place
 place_of (ArrayInMessage place) = place
 
--- what an entry answers: the output's length, or the refusal. 01's "answer".
+-- what an entry answers: the output's length, or the refusal
 abbrev pub Answer : Type 0
 Answer = Result ℕ Refusal
 

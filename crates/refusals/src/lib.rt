@@ -1,7 +1,7 @@
 // What a box answers: the output's length, or one numbered refusal, as a `Result<usize, Refusal>`.
 //
 // A refusal is a case of `Refusal` with the places it carries; code never passes bare numbers
-// around. `number`, `offset` and `place` give the figures of 01, "What a box answers", and promise
+// around. `number`, `offset` and `place` give its figures (docs/REFUSALS.md), and promise
 // the definitions of specs/Figures.antt. This crate decides nothing: the conditions stand in the
 // crates that answer.
 #![tactic(auto)]
@@ -9,7 +9,7 @@
 ghost use Rattle.std.specs.Prelude.{◌≡◌};
 ghost use Rattle.refusals.specs.Figures.{number_of, offset_of, place_of};
 
-// One case for each number of 01. `at` is both offset and place; a case without `offset` has the
+// One case for each number. `at` is both offset and place; a case without `offset` has the
 // offset 0.
 #[derive(Clone, Copy, Debug, PartialEq, Eq)]
 pub enum Refusal {
