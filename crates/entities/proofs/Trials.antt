@@ -1,4 +1,4 @@
--- A text of all five entities, computed from the definitions.
+-- A trial, computed from the definitions.
 use mathlib.Core.Path.{◌≡◌, refl}
 use Rattle.texts.specs.Text.{ascii, starts_with}
 use Rattle.entities.specs.Entities.{entity, front, decoded_past, decoded}

@@ -1,3 +1,3 @@
--- The entities of text and values.
+-- The five entities, and what decoding has written on the way.
 pub mod Entities
 pub mod Copying

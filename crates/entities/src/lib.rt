@@ -1,9 +1,9 @@
 // The five entities.
 //
-// `decode` writes a part of the document, its entities decoded, into a lent slice. It requires nothing of a caller: it asks
-// for room itself, and promises `DecodedInto` of specs/Entities.antt on all inputs. `decode_room`
-// is the same for a caller that has room. Decoding never lengthens a text (proofs/Decoding.antt), and one without '&' stays
-// as it is (proofs/Copying.antt).
+// `decode` writes a part of the document, its entities decoded, into a lent slice. It requires
+// nothing of a caller: it asks for room itself, and promises `DecodedInto` of specs/Entities.antt
+// on all inputs. `decode_room` is the same for a caller that has room. Decoding never lengthens a
+// text (proofs/Decoding.antt), and one without '&' stays as it is (proofs/Copying.antt).
 //
 // kept: what is decoded, where to, and at which place are three parameters: the text buffer is filled from both ends, so that no output
 // with a position of its own stands for it. The room is asked of the caller, as `decode` alone tests it.

@@ -1,4 +1,4 @@
--- What an entry whose text is finished answers, and what its output holds afterwards (refusal 3, and what it leaves).
+-- What an entry whose text is finished answers, and what its output holds afterwards.
 use Rattle.std.specs.Prelude.{◌≡◌, List, ◌++◌, ℕ, ltb, length, drop, Ok, Err}
 use Rattle.texts.specs.Choice.{pick}
 use Rattle.refusals.specs.Figures.{Answer}

@@ -77,7 +77,7 @@ place_of (TooManyItems place) = place
 place_of (ArrayInComposite place) = place
 place_of (ArrayInMessage place) = place
 
--- what an entry answers: the finished output's length, or the refusal. The scope's "answer"
+-- what an entry answers: the output's length, or the refusal
 abbrev pub Answer : Type 0
 Answer = Result ℕ Refusal
 

@@ -1,7 +1,7 @@
 // What a box answers: the output's length, or one numbered refusal, as a `Result<usize, Refusal>`.
 //
 // A refusal is a case of `Refusal` with the places it carries; code never passes bare numbers
-// around. `number`, `offset` and `place` give its figures, and promise
+// around. `number`, `offset` and `place` give its figures (docs/REFUSALS.md), and promise
 // the definitions of specs/Figures.antt. This crate decides nothing: the conditions stand in the
 // crates that answer.
 #![tactic(auto)]
