@@ -1,7 +1,7 @@
 // Runs the program's work on documents that are told in few words: a line of `stdin` is a name, a count and three texts,
-// parted by tabs, and its document is the first text, the second one `count` times, and the third. `stdout`, which was
-// written from the scope by hand, has for each the name and the document's length, what is printed for it, and how many
-// of its bytes were not read.
+// parted by tabs, and its document is the first text, the second one `count` times, and the third. `stdout`, written by
+// hand and not taken from a run, has for each the name and the document's length, what is printed for it, and how many of
+// its bytes were not read.
 //
 // The document is read from memory, at most 1,000 bytes at a time, and what is printed is written at most 100 bytes at a
 // time, as a pipe may do. Proved safe and ending.
