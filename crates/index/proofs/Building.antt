@@ -10,7 +10,7 @@ use lib.Seq.{get_or-set_same, get_or-set_other}
 use Rattle.model.proofs.Records.{by_less}
 use Rattle.model.specs.Schema.{Schema, item_at, last_named, a_type, a_composite, an_enum}
 use Rattle.texts.specs.Choice.{pick}
-use Rattle.ordered.specs.Ordered.{declares, numbered}
+use Rattle.ordered.specs.Numbered.{declares, numbered}
 use Rattle.index.specs.Declarations.{declared_by, declaration_of, number_of}
 use Rattle.index.specs.Blank.{mask_of, Blank}
 use Rattle.index.specs.Index.{fronted, place, HeadOf, Chained, Naming, Settling, Indexed}

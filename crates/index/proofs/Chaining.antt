@@ -13,7 +13,8 @@ use borrow.Author.Tests.{eqb-true, eq-eqb}
 use Rattle.texts.proofs.Choosing.{by-test, both_true, is_true}
 use Rattle.model.specs.Schema.{Item, Schema, item_at, positions_from, last}
 use Rattle.model.proofs.Records.{by_less}
-use Rattle.ordered.specs.Ordered.{declares, last_by}
+use Rattle.ordered.specs.Numbered.{declares}
+use Rattle.ordered.specs.Ordered.{last_by}
 use Rattle.ordered.proofs.Lasts.{last-yes, last-no}
 use Rattle.ordered.proofs.Numbering.{by_equal}
 use Rattle.index.specs.Blank.{mask_of}

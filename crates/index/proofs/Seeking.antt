@@ -15,7 +15,8 @@ use Rattle.texts.proofs.Choosing.{by-test, both_true}
 use Rattle.texts.proofs.Comparing.{same-equal}
 use Rattle.model.specs.Schema.{Item, Schema, item_at, last_named, a_type, a_composite, an_enum}
 use Rattle.model.proofs.Searching.{named_so}
-use Rattle.ordered.specs.Ordered.{declares, last_by}
+use Rattle.ordered.specs.Numbered.{declares}
+use Rattle.ordered.specs.Ordered.{last_by}
 use Rattle.ordered.proofs.Lasts.{last_step}
 use Rattle.ordered.proofs.Numbering.{by_kind}
 use Rattle.index.specs.Declarations.{declared_by, declaration_of, number_of}

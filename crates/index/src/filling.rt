@@ -1,7 +1,7 @@
 // Building the index of a schema that it holds.
 ghost use Rattle.std.specs.Prelude.{◌≡◌, ◌+◌, ◌≤◌, ◌<◌, IfSome, length};
 ghost use Rattle.texts.specs.Choice.{pick};
-ghost use Rattle.ordered.specs.Ordered.{Added};
+ghost use Rattle.ordered.specs.Numbered.{Added};
 ghost use Rattle.index.specs.Blank.{Blank};
 ghost use Rattle.index.specs.Index.{Chained, Naming, Settling};
 ghost use Rattle.index.specs.Declarations.{declaration_of, number_of};

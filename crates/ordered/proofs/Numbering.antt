@@ -15,7 +15,8 @@ use Rattle.texts.proofs.Choosing.{by-test}
 use Rattle.texts.proofs.Comparing.{same-equal, equal-same}
 use Rattle.model.specs.Schema.{Schema, item_at, positions_from, last, last_named, a_type, a_composite, an_enum}
 use Rattle.model.proofs.Searching.{named_so}
-use Rattle.ordered.specs.Ordered.{declares, numbered, last_by, number_in, worth}
+use Rattle.ordered.specs.Numbered.{declares, numbered}
+use Rattle.ordered.specs.Ordered.{last_by, number_in, worth}
 use Rattle.ordered.proofs.Lasts.{last_step}
 
 -- go by whether two numbers are equal

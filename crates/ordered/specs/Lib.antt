@@ -1,2 +1,3 @@
--- What names in order are.
+-- What a name is declared as, and what names in order are.
+pub mod Numbered
 pub mod Ordered

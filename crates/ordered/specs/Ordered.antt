@@ -1,9 +1,9 @@
--- The names that a schema declares, in order. Internal: what is promised to the crates above is what the model's own
--- search (`last_named`) says of a name, as one number (`numbered`).
-use Rattle.std.specs.Prelude.{Option, Some, None, Result, Ok, Err, ◌≡◌, Bool, true, false, List, [], ◌∷◌, ℕ, ◌+◌, ◌≤◌, ◌<◌, eqb, ltb, length, get_or, take}
-use Rattle.texts.specs.Choice.{pick, ◌and◌, ◌or◌}
+-- The names that a schema declares, in order, while they are put there. Internal.
+use Rattle.std.specs.Prelude.{Option, Result, Ok, Err, ◌≡◌, Bool, true, false, List, [], ◌∷◌, ℕ, ◌+◌, ◌≤◌, ◌<◌, eqb, ltb, length, get_or, take}
+use Rattle.texts.specs.Choice.{pick, ◌and◌}
 use Rattle.texts.specs.Text.{same}
 use Rattle.model.specs.Schema.{Item, Schema, item_at, positions_from, last, a_type, a_composite, an_enum}
+use Rattle.ordered.specs.Numbered.{declares, numbered}
 use Rattle.std.specs.declared.cmp.Ordering.{Ordering}
 use Rattle.std.specs.declared.cmp.Ordering.TheVariants.{Less, Equal, Greater}
 
@@ -17,17 +17,6 @@ order (x ∷ xs) [] = Greater
 order (x ∷ xs) (y ∷ ys) = elim (eqb x y) [ true ↦ order xs ys | false ↦ pick (ltb x y) Less Greater ]
 
 -- ---- declarations
-
--- the kinds that a type name is looked up among
-unfoldable pub declares : ℕ → Bool
-declares kind = eqb kind a_type or eqb kind a_composite or eqb kind an_enum
-
--- what a name is declared as, by its last enum, composite and type
-abbrev pub numbered : Option ℕ → Option ℕ → Option ℕ → ℕ
-numbered (Some i) c t = 1
-numbered None (Some i) t = 1
-numbered None None (Some i) = i + 2
-numbered None None None = 0
 
 -- the last of the first n items that pass a test
 abbrev pub last_by : (Item → Bool) → ℕ → Schema → Option ℕ
@@ -79,8 +68,3 @@ pub record Meeting (s : Schema) (i : ℕ) (names : List ℕ) (n p : ℕ) : Type 
   pub declaring : declares (item_at s i).kind ≡ true
   pub within : p < n
   pub same : name_at s names p ≡ (item_at s i).name
-
--- what callers see of names in order: those that the first `added` items of a schema declare
-pub record Added : Type 0 where
-  pub schema : Schema
-  pub added : ℕ

@@ -7,7 +7,8 @@
 
 ghost use Rattle.std.specs.Prelude.{◌≡◌, ◌+◌, ◌<◌, ◌≤◌, length, set};
 ghost use Rattle.model.specs.Schema.{last_named, an_enum, a_composite, a_type};
-ghost use Rattle.ordered.specs.Ordered.{declares, numbered, Rising, Placed, Inserted, Ordered, Meeting};
+ghost use Rattle.ordered.specs.Numbered.{declares, numbered};
+ghost use Rattle.ordered.specs.Ordered.{Rising, Placed, Inserted, Ordered, Meeting};
 
 use model::view::View;
 use model::{COMPOSITE, ENUM, TYPE};
@@ -20,7 +21,7 @@ pub const SIZE: usize = 1024;
 // ---- names in order
 
 // The kinds that a type name is looked up among.
-#[tactic(auto, unfolding(crate::specs::Ordered::declares))]
+#[tactic(auto, unfolding(crate::specs::Numbered::declares))]
 pub fn is_declaring(kind: u32) -> bool
     ensures { result ≡ declares kind }
 {
@@ -101,7 +102,8 @@ pub struct Names<'a> {
 
 impl<'a> Model for Names<'a> {
     ghost use Rattle.std.specs.Prelude.{◌≤◌, length};
-    ghost use Rattle.ordered.specs.Ordered.{Added, Ordered};
+    ghost use Rattle.ordered.specs.Numbered.{Added};
+    ghost use Rattle.ordered.specs.Ordered.{Ordered};
 
     ghost Value = { Added };
 

@@ -1,5 +1,5 @@
 use Rattle.std.proofs.Common.{arith, ap, refl}
-use Rattle.ordered.specs.Ordered.{Added}
+use Rattle.ordered.specs.Numbered.{Added}
 use Rattle.ordered.proofs.Adding.{all-added, number-nothing, placed-in, placed_below, number-type, number-named}
 use Rattle.ordered.proofs.Names.number_of.Goals as goal
 
