@@ -2,7 +2,8 @@
 #![tactic(auto)]
 
 ghost use Rattle.std.specs.Prelude.{◌≡◌};
-ghost use Rattle.saxlite.specs.Reader.{cursor_at, bare};
+ghost use Rattle.saxlite.specs.Reader.{cursor_at};
+ghost use Rattle.saxlite.specs.Moving.{bare};
 
 use tags::tag::{Notes, nothing};
 
