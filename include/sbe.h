@@ -58,7 +58,7 @@ extern "C" {
  *   30  a close name differs from the innermost open name
  *   31  elements are open at the end: *place is the document's length
  *   32  an invalid number (id, version or length)
- *   33  a field in a group that was opened under another message
+ *   33  while a message is current, a field where the current group was opened under another message
  *   34  more than 64 open elements
  *   35  more than 1,024 items (types, members, refs, composites, enums, values, messages, groups, fields)
  *  The types, with *offset 0. An array is a length above 1 of any primitive but char, uint8 and int8:

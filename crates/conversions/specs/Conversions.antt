@@ -1,5 +1,5 @@
 -- The six conversions of names. Most go by position: what each position of the name gives, one after
--- another. The byte before the first and the one after the last are 0, which is no letter.
+-- another. Behind the last byte stands 0, which is no letter; before the first there is none.
 use Rattle.std.specs.Prelude.{Bool, not, List, [], ◌∷◌, ◌++◌, ℕ, ◌+◌, ◌-◌, eqb, ltb, length, get_or, take, drop}
 use Rattle.texts.specs.Choice.{pick, ◌or◌, ◌and◌}
 use Rattle.texts.specs.Text.{ascii, starts_with}

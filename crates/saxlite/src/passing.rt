@@ -109,8 +109,8 @@ impl MarkupEnd for DeclarationEnd {
     }
 }
 
-// Where the markup that is open at `from` ends: the first sixteen places one by one, and then by words. The reader, which meets
-// such markup only where the loops below have not passed it, asks by words at once.
+// Where the markup that is open at `from` ends: the first sixteen places one by one, and then by words. `past_piece`, which
+// meets such markup only where the loops below have not passed it, asks by words at once.
 fn markup_end<E: MarkupEnd>(doc: &[u8], from: usize) -> usize
     requires { from ≤ length doc.now }
     ensures { FoundAt E.needle doc.now from result }

@@ -127,6 +127,7 @@ pub fn attribute_name_end(doc: &[u8], at: usize) -> usize
         return scan_eights(doc, at, &AttributeNames);
     }
     if stands_short(doc, at, 0x100_0000_0000, 0x73_6e6c_6d78) {
+        // `xmlns=` whole, a known text; any other byte's class is looked up.
         if doc[at + 5] == b'=' {
             return at + 5;
         }

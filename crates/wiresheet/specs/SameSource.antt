@@ -8,6 +8,7 @@ use Rattle.refusals.specs.Figures.{Answer}
 use Rattle.model.specs.Schema.{Schema}
 use Rattle.xmlschema.specs.Whole.{Whole, accepted, answer_of}
 use Rattle.xmltoproto.specs.Convert.{Converts}
+use Rattle.xmltoproto.specs.Source.{source}
 use Rattle.wiresheet.specs.declared.Lent.{Lent}
 use Rattle.wiresheet.specs.Plain.{Plain}
 use Rattle.wiresheet.specs.Sheet.{sheet}
@@ -42,3 +43,13 @@ abbrev pub Decides : Whole → Answer → List ℕ → Whole → Answer → List
 Decides a x out b y out' =
     (s t : Schema) (n m : ℕ) → PrintedPlain a x s n → PrintedPlain b y t m
     → SameBytes n out m out' ↔ (sheet s ≡ sheet t)
+
+-- ---- of schemas alone
+
+-- the source of a plain schema tells its sheet
+abbrev pub SourceTells : Type 0
+SourceTells = (s t : Schema) → Plain s → Plain t → source s ≡ source t → sheet s ≡ sheet t
+
+-- and the sheet of any schema tells its source
+abbrev pub SheetTells : Type 0
+SheetTells = (s t : Schema) → sheet s ≡ sheet t → source s ≡ source t

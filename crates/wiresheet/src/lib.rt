@@ -11,7 +11,7 @@
 pub mod sheet;
 
 ghost use Rattle.std.specs.Prelude.{◌↔◌, IsTrue};
-ghost use Rattle.wiresheet.specs.SameSource.{read_as, Called, SameSource, Decides};
+ghost use Rattle.wiresheet.specs.SameSource.{read_as, Called, SameSource, Decides, SourceTells, SheetTells};
 
 use refusals::Refusal;
 use texts::{equal, part};
@@ -62,3 +62,9 @@ pub fn same_source(
         },
     }
 }
+
+/// The law of schemas that this rests on, which no code calls.
+pub fn sources_tell()
+    ensures source { SourceTells }
+    ensures sheet { SheetTells }
+{}

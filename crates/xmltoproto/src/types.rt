@@ -131,7 +131,7 @@ pub fn is_built_in(name: &[u8]) -> bool
     is_among(name, &BUILT_INS)
 }
 
-// Enums, composites, types: the last declaration of the name wins; a built-in where there is none.
+// First an enum or composite of the name, then its last type, then a built-in.
 pub fn sense_of(declared: Option<Declaration>, name: &[u8]) -> Sense
     ensures { (s : Schema) → declared ≡ declaration_of s name.now → meaning_in s name.now result ≡ meaning s name.now }
 {
