@@ -1,3 +1,3 @@
--- How a table's rule is shown, and the table's.
+-- The rule of the class table, and how the rule of any table is proved.
 pub mod Rule
 pub mod Ruled

@@ -1,4 +1,4 @@
--- A table's rule, shown at all of its entries by one test that is computed over the whole table.
+-- Laws of a table: one test, computed over the whole table, proves its rule for every entry.
 use mathlib.Core.Path.{◌≡◌, refl, sym, ◌∙◌, ap}
 use mathlib.Core.Bool.{Bool, true, false}
 use mathlib.Core.List.{List, [], ◌∷◌}
@@ -21,7 +21,7 @@ same-eq true false t = absurd t
 same-eq false true t = absurd t
 same-eq false false t = refl
 
--- f of each entry is g of its place, counted from i
+-- f of each entry is g of its index, counted from i
 abbrev pub agreeing : (f g : ℕ → Bool) → ℕ → List ℕ → Bool
 agreeing f g i [] = true
 agreeing f g i (x ∷ xs) = same (f x) (g i) and agreeing f g (suc i) xs

@@ -1,3 +1,3 @@
--- Byte classes.
+-- The byte classes, and what the table's numbers say.
 pub mod Class
 pub mod Table

@@ -1,4 +1,4 @@
--- What stands in a buffer that was filled up to `at`, after one more read, and what then was taken of the input.
+-- Laws of filling a buffer: what it holds, and what was taken of the input, after one more read.
 use Rattle.std.proofs.Common.{◌≡◌, ℕ, ◌+◌, ◌≤◌, List, ◌++◌, Option, length, take, sym, ap, subst, ◌∙◌, length-take-le}
 use lib.Seq.{take-append-le, take-append-add}
 use borrow.Rule.Slice.PartMut.{put_mid, post_of}

@@ -1,4 +1,4 @@
--- A text that stands in the slice, printed again.
+-- Laws of printing once more a text that stands in the slice.
 use mathlib.Core.Path.{◌≡◌, refl, sym, ap, ◌∙◌}
 use mathlib.Core.List.{List, ◌++◌}
 use Prim.Native.Nat.{ℕ, ◌+◌, ◌-◌, ◌≤◌, ◌<◌}
@@ -60,7 +60,7 @@ pub ruleset copied = (copied-length, copied-within, copied_source, copied_on, co
 
 -- ---- the text that stands
 
--- what fits changes nothing before it
+-- printing that fits changes nothing before its position
 module _ {o : List ℕ} {at : ℕ} {o' : List ℕ} {r : ℕ} {w : List ℕ} (p : Printed o at o' r w) (l : length o < last) (h : r ≤ length o') where
   fits : r ≡ at + length w
   fits = p.to ∙ past-below at w (omega (arith, p.to, length-printed p))

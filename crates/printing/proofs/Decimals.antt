@@ -1,4 +1,4 @@
--- The two laws that say what a decimal number is, free of the bound on its steps.
+-- The two laws of decimal numbers, below 10 and from 10 on, without the bound on the recursion.
 use mathlib.Core.Path.{◌≡◌, refl}
 use mathlib.Core.List.{[], ◌∷◌, ◌++◌}
 use Prim.Native.Nat.{ℕ, zero, suc, ◌+◌, ◌/◌, ◌%◌, ◌≤◌, ◌<◌}
@@ -6,7 +6,7 @@ use native.Mathlib.Omega.{arith}
 use borrow.Author.Tests.{lt-ltb, le-ltb}
 use Rattle.printing.specs.Decimal.{digits, decimal}
 
--- more steps than the number change nothing
+-- more steps than n change nothing
 enough : (f g n : ℕ) → n ≤ f → n ≤ g → digits f n ≡ digits g n
 unfolding digits
 enough zero zero n p q = refl

@@ -1,4 +1,4 @@
--- Measure, then write: a text printed over nothing is measured; where the output has room, the same print writes it.
+-- Laws of measuring, then writing: where a measured text fits, printing it writes all of it.
 use mathlib.Core.Path.{◌≡◌, refl, ◌∙◌}
 use mathlib.Core.List.{List, [], ◌∷◌, ◌++◌}
 use Prim.Native.Nat.{ℕ, suc, ◌+◌, ◌≤◌, ◌<◌}
@@ -11,7 +11,7 @@ use Rattle.refusals.specs.declared.Refusal.TheVariants.{NoRoom}
 use Rattle.printing.specs.Printed.{last, next, past, laid, Printed}
 use Rattle.printing.specs.Output.{finished, output_after}
 
--- the position is at most the sum, and it is the sum where it is below the last one
+-- the next position is at most the sum, and is the sum if it is below `last`
 past-le : (at : ℕ) (t : List ℕ) → past at t ≤ at + length t
 unfolding past
 past-le at [] = omega arith
@@ -29,7 +29,7 @@ laid-sets out at (b ∷ t) h =
     let n : next at ≡ suc at = omega arith in
     rw n (laid-sets (set out at b) (suc at) t (omega arith))
 
--- n is what the text measured, and the output is shorter: nothing is written
+-- the text measured n, and the output is shorter: nothing is written
 module _ (out : List ℕ) {e e' : List ℕ} {n : ℕ} {t : List ℕ} (m : Printed e 0 e' n t) (h : length out < n) where
   longer : length out < length t
   longer = omega (arith, m.to, past-le 0 t)
@@ -38,7 +38,7 @@ module _ (out : List ℕ) {e e' : List ℕ} {n : ℕ} {t : List ℕ} (m : Printe
   unfolding finished
   no_room = rw (lt-ltb (length out) (length t) longer)
 
--- it fits and was written
+-- the text fits, and was written
 module _ {e e' out out' : List ℕ} {n k : ℕ} {t : List ℕ} (m : Printed e 0 e' n t) (h : n ≤ length out) (l : length out < last) (w : Printed out 0 out' k t) where
   size : past 0 t ≡ length t
   size =

@@ -1,4 +1,4 @@
--- Whole texts: one of which nothing fits is only counted, and one that fits is stored byte by byte.
+-- Laws of whole texts: one of which nothing fits is only counted, and one that fits is stored.
 use mathlib.Core.Path.{◌≡◌, refl, sym, ap, ◌∙◌}
 use mathlib.Core.List.{List, [], ◌∷◌, ◌++◌}
 use Prim.Native.Nat.{ℕ, zero, suc, ◌+◌, ◌-◌, ◌≤◌, ◌<◌, min}
@@ -95,7 +95,7 @@ module _ {s out : List ℕ} {at : ℕ} {out' : List ℕ} {i : ℕ} (inv : Copyin
 
 pub ruleset copying = (copying-length, copying-within, copying-end)
 
--- ---- two runs, of which the second may lie over the first
+-- ---- two runs, which may overlap
 
 set-below : (vs l : List ℕ) (i j x : ℕ) → j < i → set (sets l i vs) j x ≡ sets (set l j x) i vs
 set-below [] l i j x h = refl

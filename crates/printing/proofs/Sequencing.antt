@@ -1,4 +1,4 @@
--- Texts printed one after the other.
+-- Laws of texts printed one after the other.
 use mathlib.Core.Path.{◌≡◌, refl, ap, ◌∙◌}
 use mathlib.Core.List.{List, [], ◌∷◌, ◌++◌}
 use Prim.Native.Nat.{ℕ}
@@ -28,7 +28,7 @@ pub ◌▸◌ : {o : List ℕ} {at : ℕ} {o' : List ℕ} {r : ℕ} {o'' : List 
     → Printed o at o' r a → Printed o' r o'' r' b → Printed o at o'' r' (a ++ b)
 p ▸ q = record { is = rw (laid-append, ← p.is, ← p.to) q.is; to = rw (past-append, ← p.to) q.to }
 
--- and taken apart again: the first text, and the second after it
+-- the converse: the first text, and the second after it
 pub first_part : {o : List ℕ} {at : ℕ} {a : List ℕ} → Printed o at (laid o at a) (past at a) a
 first_part = record { is = refl; to = refl }
 
@@ -44,7 +44,7 @@ length-laid out at (b ∷ t) = length-laid (set out at b) (next at) t ∙ length
 pub length-printed : {o : List ℕ} {at : ℕ} {o' : List ℕ} {r : ℕ} {t : List ℕ} → Printed o at o' r t → length o' ≡ length o
 length-printed p = ap length p.is ∙ length-laid _ _ _
 
--- a text that is printed where a test says so
+-- one text is printed if a test holds, and another if not
 module _ {on : Bool} {o : List ℕ} {at : ℕ} {o' : List ℕ} {r : ℕ} (a b : List ℕ) where
   pub printed-yes : on ≡ true → Printed o at o' r a → Printed o at o' r (pick on a b)
   printed-yes t p = rw (t, pick) p

@@ -1,5 +1,5 @@
--- Texts written to an `Output` one after the other: the laws by which `grind` closes a chain of writes, of any length, and a
--- loop of them. A loop's invariant says what is written so far, as `Wrote l.initial.out l.out (up_to f l.i)`.
+-- Laws of texts written to an `Output` one after the other. With them `grind` proves chains of
+-- writes, of any length, and loops whose invariant is `Wrote l.initial.out l.out (up_to f l.i)`.
 use mathlib.Core.Path.{◌≡◌, refl, ap, ◌∙◌}
 use mathlib.Core.List.{List, [], ◌∷◌, ◌++◌, append_assoc, append-nil}
 use Prim.Native.Nat.{ℕ, ◌+◌, ◌<◌}
@@ -26,7 +26,7 @@ pub length-written : (o : Output) (t : List ℕ) → length (written o t).bytes.
 unfolding written
 length-written o t = length-laid o.bytes.now o.at t
 
--- one text after another, for texts so long that `grind` gives up: `c.text.ensures ▹ c.text-2.ensures`
+-- one text after another, as `c.text.ensures ▹ c.text-2.ensures`, where `grind` gives up
 infixl 60 ◌▹◌
 pub ◌▹◌ : {o m o' : Output} {a b : List ℕ} → Wrote o m a → Wrote m o' b → Wrote o o' (a ++ b)
 p ▹ q = record { is = rw (← written-append, ← p.is) q.is }
@@ -50,12 +50,12 @@ unfolding each
 each-append f [] ys = refl
 each-append f (x ∷ xs) ys = ap (λ t. f x ++ t) (each-append f xs ys) ∙ rw append_assoc
 
--- one more, of those that an iterator gave
+-- one more element that an iterator gave
 pub each-more : {A : Type 0} (f : A → List ℕ) (xs : List A) (x : A) → each f (xs ++ x ∷ []) ≡ each f xs ++ f x
 unfolding each
 each-more f xs x = each-append f xs (x ∷ []) ∙ rw append-nil
 
--- one more, of the bytes of a text
+-- one more byte of a text
 pub each_at : (f : ℕ → List ℕ) (s : List ℕ) (i : ℕ) → i < length s → each f (take (i + 1) s) ≡ each f (take i s) ++ f (get_or s i 0)
 each_at f s i h = rw (add-one, take-suc s i 0) (each-more f (take i s) (get_or s i 0))
 

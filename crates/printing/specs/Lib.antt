@@ -1,4 +1,4 @@
--- What it is to print a text into a slice, decimal numbers, what an entry leaves in its output, and where a printed text stands.
+-- Texts in slices: printed at a position, repeated, in decimal, and what an entry's output holds.
 pub mod Printed
 pub mod Written
 pub mod Decimal

@@ -1,13 +1,13 @@
-// Printing into a lent slice: one body measures and writes.
-//
-// An `Output` is a lent slice and the position that printing has come to. Each method prints a text there: it writes where
-// the position lies in the slice, and always counts on, so that printing into an empty slice measures. None but `again`
-// asks anything of its caller. The contract, `Wrote` of specs/Written.antt, gives every byte of the slice and the next position;
-// texts printed one after the other compose by `written-append` of proofs/Writing.antt, and proofs/Finishing.antt has
-// "measure, then write", the law that every public entry ends with.
-//
-// kept: the functions under `Output` take the slice and the position by value, so that a loop above has both in registers;
-// printing by methods alone took a tenth longer.
+//! Printing into a slice: the same code measures and writes.
+//!
+//! An `Output` is a slice and the position that printing has come to. A method prints at the
+//! position and moves it on; what falls past the slice's end is counted and not written, so that
+//! printing into an empty slice measures. `finish` measures a text, and writes it if there is room.
+//! The contract `Wrote` gives every byte of the slice and the next position, and one write after
+//! another composes (proofs/Writing.antt). Only `again` has a `requires`.
+//!
+//! The methods call functions that take slice and position as parameters, so that a hot loop keeps
+//! both in registers: with methods alone printing took a tenth longer.
 #![tactic(auto)]
 
 ghost use Rattle.std.specs.Prelude.{List, ℕ, ◌≡◌, [], ◌∷◌, ◌++◌, ◌+◌, ◌≤◌, length};
@@ -21,9 +21,10 @@ ghost use Rattle.printing.specs.Written.{Wrote, opened, moved};
 use refusals::Refusal;
 use words::copy_few;
 
-// The largest position, which no slice reaches; counting stays there.
+/// Where positions saturate: 2^63, longer than any slice.
 const LAST: usize = 0x8000_0000_0000_0000;
 
+/// The position after one more byte.
 fn step(at: usize) -> usize
     ensures { result ≡ next at }
 {
@@ -32,28 +33,32 @@ fn step(at: usize) -> usize
 
 // ---- the output
 
-// Where text goes, and the position that it has come to.
+/// A slice that is printed into, and the position that printing has come to.
 #[derive(Drop)]
 pub struct Output<'a> {
+    /// Where text goes.
     pub bytes: &'a mut [u8],
+    /// Where the next byte goes; past the end of `bytes`, printing only counts.
     pub at: usize,
 }
 
 #[tactic(auto, unfolding(crate::specs::Written::written), using(crate::proofs::Writing::writing))]
 impl<'a> Output<'a> {
-    // From the first byte of a slice on.
+    /// Starts at the first byte of `bytes`.
     pub fn new(bytes: &'a mut [u8]) -> Output<'a>
         ensures { result ≡ opened bytes.entry }
     {
         Output { bytes, at: 0 }
     }
 
+    /// Prints one byte.
     pub fn byte(&mut self, b: u8)
         ensures { Wrote self.old self.new (b ∷ []) }
     {
         self.at = put_byte(self.bytes, self.at, b);
     }
 
+    /// Prints `b` if `on`.
     pub fn byte_if(&mut self, on: bool, b: u8)
         ensures { Wrote self.old self.new (pick on (b ∷ []) []) }
     {
@@ -62,27 +67,28 @@ impl<'a> Output<'a> {
         }
     }
 
+    /// Prints `s`.
     pub fn text(&mut self, s: &[u8])
         ensures { Wrote self.old self.new s.now }
     {
         self.at = put_bytes(self.bytes, self.at, s);
     }
 
-    // A text, then a byte: one test for room.
+    /// Prints `s`, then `b`, with one test for room.
     pub fn text_then(&mut self, s: &[u8], b: u8)
         ensures { Wrote self.old self.new (s.now ++ b ∷ []) }
     {
         self.at = put_then(self.bytes, self.at, s, b);
     }
 
-    // A number in decimal.
+    /// Prints `n` in decimal.
     pub fn decimal(&mut self, n: u32)
         ensures { Wrote self.old self.new (decimal n) }
     {
         self.at = put_decimal(self.bytes, self.at, n);
     }
 
-    // Again the `n` bytes at `from`, which stand before, where all of them fit.
+    /// Prints once more the `n` bytes at `from`, which lie before the position. All have to fit.
     pub fn again(&mut self, from: usize, n: usize)
         requires { (from + n ≤ self.old.at) × (self.old.at + n ≤ length self.old.bytes.now) }
         ensures { Wrote self.old self.new (piece self.old.bytes.now from n) }
@@ -90,14 +96,14 @@ impl<'a> Output<'a> {
         self.at = put_again(self.bytes, self.at, from, n);
     }
 
-    // The position `n` bytes on.
+    /// The position `n` bytes on.
     pub fn after(&self, n: usize) -> usize
         ensures { result ≡ skipped self.now.at n }
     {
         skip(self.at, n)
     }
 
-    // Passes `n` bytes, and writes none.
+    /// Moves `n` bytes on, and writes none: for a text that was measured.
     pub fn skip(&mut self, n: usize)
         ensures { self.new ≡ moved self.old n }
     {
@@ -107,15 +113,17 @@ impl<'a> Output<'a> {
 
 // ---- measure, then write
 
-// What can be printed.
+/// What can be printed.
 pub trait Print {
+    /// The text that is printed.
     ghost text: { Self → List ℕ };
 
+    /// Prints the text.
     fn print(&self, out: &mut Output<'_>)
         ensures { Wrote out.old out.new (text self.now) };
 }
 
-// Prints from the first byte of `out` on, and gives the next position.
+/// Prints `p` at the start of `out`, and answers the position after it.
 #[tactic(auto, unfolding(crate::specs::Written::written))]
 fn print_whole<P: Print>(p: &P, out: &mut [u8]) -> usize
     ensures { Printed out.old 0 out.new result (P.text p.now) }
@@ -125,7 +133,8 @@ fn print_whole<P: Print>(p: &P, out: &mut [u8]) -> usize
     o.at
 }
 
-// Prints where there is room for the whole text: it is measured before a byte is written.
+/// Prints `p` at the start of `out` and answers its length; where `out` is shorter, answers
+/// `NoRoom` and leaves it as it was.
 pub fn finish<P: Print>(p: &P, out: &mut [u8]) -> Result<usize, Refusal>
     ensures { Finishes (P.text p.now) out.old out.new result }
 {
@@ -137,9 +146,11 @@ pub fn finish<P: Print>(p: &P, out: &mut [u8]) -> Result<usize, Refusal>
     Ok(print_whole(p, out))
 }
 
-// ---- over a slice and a position (kept: see above)
+// ---- by a slice and a position
+//
+// Each prints at `at`, counts on past the end of `out`, and answers the next position.
 
-// Prints one byte.
+/// Prints one byte.
 #[tactic(auto, unfolding(crate::specs::Printed::laid, crate::specs::Printed::past))]
 fn put_byte(out: &mut [u8], at: usize, b: u8) -> usize
     ensures { Printed out.old at out.new result (b ∷ []) }
@@ -152,7 +163,7 @@ fn put_byte(out: &mut [u8], at: usize, b: u8) -> usize
     }
 }
 
-// The position `n` bytes on. A text that does not fit is passed so without a walk over it.
+/// The position `n` bytes on, with no walk over them.
 #[tactic(auto, unfolding(crate::specs::Printed::skipped))]
 fn skip(at: usize, n: usize) -> usize
     ensures { result ≡ skipped at n }
@@ -163,7 +174,7 @@ fn skip(at: usize, n: usize) -> usize
     at.saturating_add(n).min(LAST)
 }
 
-// Prints the bytes of `s` where all of them fit: a loop with no test but its own.
+/// Prints `s`, all of which fits.
 #[tactic(auto, using(crate::proofs::Passing::copying))]
 fn copy_each(out: &mut [u8], at: usize, s: &[u8]) -> usize
     requires { at + length s.now ≤ length out.old }
@@ -175,7 +186,8 @@ fn copy_each(out: &mut [u8], at: usize, s: &[u8]) -> usize
     at + s.len()
 }
 
-// The same of `N` to 2 `N` bytes, as two runs of `N`, of which the second may lie over the first.
+/// As `copy_each`, for `N` to `2 * N` bytes and without a loop: copies the first `N` and the last
+/// `N`, which may overlap.
 fn copy_two<const N: usize>(out: &mut [u8], at: usize, s: &[u8]) -> usize
     requires { (at + length s.now ≤ length out.old) × (N ≤ length s.now) × (length s.now ≤ N + N) }
     ensures { Printed out.old at out.new result s.now }
@@ -187,7 +199,7 @@ fn copy_two<const N: usize>(out: &mut [u8], at: usize, s: &[u8]) -> usize
     at + n
 }
 
-// The same of any text: most have 4 to 16 bytes.
+/// As `copy_each`, faster for the 4 to 16 bytes that most texts have.
 fn copy(out: &mut [u8], at: usize, s: &[u8]) -> usize
     requires { at + length s.now ≤ length out.old }
     ensures { Printed out.old at out.new result s.now }
@@ -205,7 +217,7 @@ fn copy(out: &mut [u8], at: usize, s: &[u8]) -> usize
     copy_each(out, at, s)
 }
 
-// Prints the bytes of `s` one by one, those that fit.
+/// Prints `s` byte by byte, as far as it fits.
 fn put_each(out: &mut [u8], at: usize, s: &[u8]) -> usize
     ensures { Printed out.old at out.new result s.now }
 {
@@ -216,8 +228,8 @@ fn put_each(out: &mut [u8], at: usize, s: &[u8]) -> usize
     p
 }
 
-// Prints the bytes of `s` where not all of them fit: counted where none does, as when measuring. Rare, and so kept out of
-// the way of the texts that fit.
+/// Prints `s` where not all of it fits: a part of it, or nothing, as when measuring. Rare, and so
+/// kept out of line.
 #[cold]
 #[inline(never)]
 fn put_cut(out: &mut [u8], at: usize, s: &[u8]) -> usize
@@ -229,7 +241,7 @@ fn put_cut(out: &mut [u8], at: usize, s: &[u8]) -> usize
     put_each(out, at, s)
 }
 
-// Prints the bytes of `s`.
+/// Prints `s`.
 fn put_bytes(out: &mut [u8], at: usize, s: &[u8]) -> usize
     ensures { Printed out.old at out.new result s.now }
 {
@@ -239,7 +251,7 @@ fn put_bytes(out: &mut [u8], at: usize, s: &[u8]) -> usize
     put_cut(out, at, s)
 }
 
-// Prints the bytes of `s`, and one more, where not all of them fit.
+/// Prints `s`, then `b`, where they do not both fit.
 #[cold]
 #[inline(never)]
 fn put_then_cut(out: &mut [u8], at: usize, s: &[u8], b: u8) -> usize
@@ -249,7 +261,7 @@ fn put_then_cut(out: &mut [u8], at: usize, s: &[u8], b: u8) -> usize
     put_byte(out, p, b)
 }
 
-// Prints the bytes of `s`, and one more.
+/// Prints `s`, then `b`.
 fn put_then(out: &mut [u8], at: usize, s: &[u8], b: u8) -> usize
     ensures { Printed out.old at out.new result (s.now ++ b ∷ []) }
 {
@@ -261,7 +273,7 @@ fn put_then(out: &mut [u8], at: usize, s: &[u8], b: u8) -> usize
     put_then_cut(out, at, s, b)
 }
 
-// Prints again the `n` bytes at `from`, which stand before `at`, where all of them fit: a loop inside the slice.
+/// Prints once more the `n` bytes at `from`, which lie before `at`. All have to fit.
 #[tactic(auto, using(crate::proofs::Again::copied))]
 fn put_again(out: &mut [u8], at: usize, from: usize, n: usize) -> usize
     requires { (from + n ≤ at) × (at + n ≤ length out.old) }
@@ -273,7 +285,7 @@ fn put_again(out: &mut [u8], at: usize, from: usize, n: usize) -> usize
     at + n
 }
 
-// Prints a number in decimal.
+/// Prints `n` in decimal.
 fn put_decimal(out: &mut [u8], at: usize, n: u32) -> usize
     ensures { Printed out.old at out.new result (decimal n) }
 {

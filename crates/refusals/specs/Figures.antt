@@ -1,8 +1,9 @@
--- Number, offset and place of each refusal.
+-- Rules: Limits and refusals. The figures of a refusal (number, offset, place), and of an answer.
 use Rattle.std.specs.Prelude.{ℕ, Result, Ok, Err}
 use Rattle.refusals.specs.declared.Refusal.{Refusal}
 use Rattle.refusals.specs.declared.Refusal.TheVariants.{TooLong, NoWorkSpace, NoRoom, NotAscii, OpenComment, OpenInstruction, OpenDeclaration, NoCloseTagEnd, NoTagName, OpenTag, NoAttributeName, NoEquals, NoQuote, OpenValue, WrongClose, OpenElements, BadNumber, MisplacedField, TooDeep, TooManyItems, ArrayInComposite, ArrayInMessage}
 
+-- the number of each refusal
 abbrev pub number_of : Refusal → ℕ
 number_of TooLong = 1
 number_of NoWorkSpace = 2
@@ -27,7 +28,8 @@ number_of (TooManyItems place) = 35
 number_of (ArrayInComposite place) = 40
 number_of (ArrayInMessage place) = 41
 
--- the Rust's offset, else 0
+-- the scope's offset: where something was due, or where the byte, markup or value at fault begins,
+-- and else 0
 abbrev pub offset_of : Refusal → ℕ
 offset_of TooLong = 0
 offset_of NoWorkSpace = 0
@@ -52,7 +54,7 @@ offset_of (TooManyItems place) = 0
 offset_of (ArrayInComposite place) = 0
 offset_of (ArrayInMessage place) = 0
 
--- the place that the refusal points at
+-- the scope's place: what the refusal points at, 0 for 1, 2 and 3
 abbrev pub place_of : Refusal → ℕ
 place_of TooLong = 0
 place_of NoWorkSpace = 0
@@ -77,23 +79,26 @@ place_of (TooManyItems place) = place
 place_of (ArrayInComposite place) = place
 place_of (ArrayInMessage place) = place
 
--- what an entry answers: the output's length, or the refusal
+-- the scope's answer: n, the length of the finished text, or one refusal
 abbrev pub Answer : Type 0
 Answer = Result ℕ Refusal
 
--- the same figures of a whole answer: an acceptance has number, offset and place 0, a refusal n 0
+-- an answer's number: 0 after an acceptance
 abbrev pub number_in : Answer → ℕ
 number_in (Ok n) = 0
 number_in (Err r) = number_of r
 
+-- an answer's offset: 0 after an acceptance
 abbrev pub offset_in : Answer → ℕ
 offset_in (Ok n) = 0
 offset_in (Err r) = offset_of r
 
+-- an answer's place: 0 after an acceptance
 abbrev pub place_in : Answer → ℕ
 place_in (Ok n) = 0
 place_in (Err r) = place_of r
 
+-- an answer's n, the length of the finished text: 0 after a refusal
 abbrev pub written_in : Answer → ℕ
 written_in (Ok n) = n
 written_in (Err r) = 0

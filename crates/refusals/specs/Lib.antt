@@ -1,2 +1,2 @@
--- The figures of each refusal.
+-- The figures of refusals and answers.
 pub mod Figures

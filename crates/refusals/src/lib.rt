@@ -1,65 +1,67 @@
-// What a box answers: the output's length, or one numbered refusal, as a `Result<usize, Refusal>`.
-//
-// A refusal is a case of `Refusal` with the places it carries; code never passes bare numbers
-// around. `number`, `offset` and `place` give its figures (docs/REFUSALS.md), and promise
-// the definitions of specs/Figures.antt. This crate decides nothing: the conditions stand in the
-// crates that answer.
+//! Refusals: one enum case for each number of docs/REFUSALS.md.
+//!
+//! An entry answers `Result<usize, Refusal>`: the length of the finished text, or why there is
+//! none. `number`, `offset` and `place` give a case's figures to callers that want plain numbers,
+//! as C does. When a case applies is decided by the crates that answer it.
 #![tactic(auto)]
 
 ghost use Rattle.std.specs.Prelude.{◌≡◌};
 ghost use Rattle.refusals.specs.Figures.{number_of, offset_of, place_of};
 
-// One case for each number. `at` is both offset and place; a case without `offset` has the
-// offset 0.
+/// Why there is no text.
+///
+/// `place` is the `<` of the tag at fault, and `offset` is where the missing thing was due, unless
+/// the case says otherwise; `at` is both. A case without one of them has 0 for it.
 #[derive(Clone, Copy, Debug, PartialEq, Eq)]
 pub enum Refusal {
-    // 1: the document, or a name, is longer than 32,768 bytes.
+    /// 1: the document, or a name, is longer than 32,768 bytes.
     TooLong,
-    // 2: a work buffer is too short.
+    /// 2: a work buffer is too short.
     NoWorkSpace,
-    // 3: the output is shorter than the finished text.
+    /// 3: the output is shorter than the finished text.
     NoRoom,
-    // 10: a byte of 128 or more.
+    /// 10: a byte of 128 or more; `at` is the first.
     NotAscii { at: usize },
-    // 11: a comment without end.
+    /// 11: a comment without end; `at` is its `<`.
     OpenComment { at: usize },
-    // 12: a processing instruction without end.
+    /// 12: a processing instruction without end; `at` is its `<`.
     OpenInstruction { at: usize },
-    // 13: a declaration without end.
+    /// 13: a declaration without end; `at` is its `<`.
     OpenDeclaration { at: usize },
-    // 14: no '>' after a close tag's name and spaces.
+    /// 14: no `>` after a close tag's name and spaces.
     NoCloseTagEnd { offset: usize, place: usize },
-    // 15: no tag name after '<'.
+    /// 15: no tag name after `<`.
     NoTagName { offset: usize, place: usize },
-    // 16: the document ends where an attribute, '/>' or '>' is due.
+    /// 16: the document ends where an attribute, `/>` or `>` is due.
     OpenTag { offset: usize, place: usize },
-    // 17: no attribute name.
+    /// 17: no attribute name.
     NoAttributeName { offset: usize, place: usize },
-    // 18: no '=' after an attribute name.
+    /// 18: no `=` after an attribute name.
     NoEquals { offset: usize, place: usize },
-    // 19: no quote after '='.
+    /// 19: no quote after `=`.
     NoQuote { offset: usize, place: usize },
-    // 20: an attribute value without its closing quote.
+    /// 20: an attribute value without its closing quote; `offset` is its first byte.
     OpenValue { offset: usize, place: usize },
-    // 30: a close name differs from the innermost open name.
+    /// 30: a close tag's name differs from the innermost open one.
     WrongClose { place: usize },
-    // 31: elements are open at the end of the document.
+    /// 31: elements are open at the end; `place` is the document's length.
     OpenElements { place: usize },
-    // 32: an invalid unsigned number.
+    /// 32: an invalid unsigned number.
     BadNumber { place: usize },
-    // 33: a field under a group of another message.
+    /// 33: a field under a group of another message.
     MisplacedField { place: usize },
-    // 34: too many open elements.
+    /// 34: too many open elements.
     TooDeep { place: usize },
-    // 35: too many items.
+    /// 35: too many items.
     TooManyItems { place: usize },
-    // 40: an array in a composite; `place` is its position among all composites.
+    /// 40: an array in a composite; `place` is its position among all composites, from 0.
     ArrayInComposite { place: usize },
-    // 41: an array in a message or its groups; `place` is the message's position.
+    /// 41: an array in a message or its groups; `place` is the message's position, from 0.
     ArrayInMessage { place: usize },
 }
 
 impl Refusal {
+    /// The number in docs/REFUSALS.md.
     pub fn number(self) -> u32
         ensures { result ≡ number_of self }
     {
@@ -89,6 +91,7 @@ impl Refusal {
         }
     }
 
+    /// Where the fault shows; 0 in a case that has no offset.
     pub fn offset(self) -> usize
         ensures { result ≡ offset_of self }
     {
@@ -108,6 +111,7 @@ impl Refusal {
         }
     }
 
+    /// What the refusal points at, as its case says; 0 for 1, 2 and 3.
     pub fn place(self) -> usize
         ensures { result ≡ place_of self }
     {

@@ -1,8 +1,8 @@
-// The program on the service port: an SBE schema on standard input becomes proto3 source on standard
-// output; a refusal is one line, `refused`, number, offset and place, parted by tabs.
-//
-// All of it is service::serve, whose contract says which bytes are read and written. What the system
-// hands over as input, and what it makes of the output, no proof can say.
+//! The program `schema2proto`: it reads an SBE schema from standard input, and writes proto3
+//! source, or one line with a refusal, to standard output.
+//!
+//! All of it is `service::serve`, whose contract says which bytes are read and written. No proof
+//! covers what the system hands over as input, and what it makes of the output.
 #![tactic(auto)]
 
 use service::serve;

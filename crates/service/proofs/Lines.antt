@@ -1,4 +1,4 @@
--- A refusal's line is short, so that every output of the program holds it.
+-- Laws of a refusal's line: it is shorter than the program's output.
 use mathlib.Core.Path.{◌≡◌, refl, ap, ◌∙◌}
 use mathlib.Core.List.{List, [], ◌∷◌, ◌++◌}
 use Prim.Native.Nat.{ℕ, zero, suc, ◌+◌, ◌*◌, ◌/◌, ◌%◌, ◌≤◌, ◌<◌, ◌^◌}
@@ -29,7 +29,7 @@ digits-most (suc d) n h =
     (λ t. rw (decimal-one n (ltb-true n 10 t)) (omega arith))
     (λ f. rw (decimal-more n (ltb-false n 10 f)) (omega (arith, length-append (decimal (n / 10)) ((48 + n % 10) ∷ []), digits-most d (n / 10) (omega arith))))
 
--- of a number that fits a word
+-- a number of 64 bits has at most 20 digits
 decimal-most : (n : ℕ) → n < 2 ^ 64 → length (decimal n) ≤ 20
 decimal-most n h = digits-most 19 n (omega arith)
 
@@ -46,7 +46,7 @@ line-most a b c p q r =
     let third : length (to-b ++ t ++ decimal c) ≤ 70 = joined (to-b ++ t) (decimal c) 50 20 (joined to-b t 49 1 second (omega arith) (omega arith)) (decimal-most c r) (omega arith) in
     joined (to-b ++ t ++ decimal c) (ascii "\n") 70 1 third (omega arith) (omega arith)
 
--- what stands at the output's beginning once a text is printed that fits
+-- a text that fits stands at the start of the output once it is printed
 finished-front : (text out : List ℕ) {out' : List ℕ} {r : Answer} → length text ≤ length out → Finishes text out out' r → piece out' 0 (result_unwrap_or r 0) ≡ text
 unfolding finished output_after
 finished-front text out {out'} {r} h f =

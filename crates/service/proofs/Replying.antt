@@ -1,4 +1,4 @@
--- What stands at the beginning of the output after the converter's answer.
+-- Laws of a reply: what stands at the start of the output after the converter's answer.
 use mathlib.Core.Path.{◌≡◌, sym, ap, ◌∙◌}
 use mathlib.Core.List.{List, ◌++◌}
 use Prim.Native.Nat.{ℕ}
@@ -38,7 +38,7 @@ unfolding generated
 converted-length (accepted s) room n e = answer-length (array_refusal s) (source s) room n e
 converted-length (refused_by q) room n e = absurd (let z : ◌≡◌ {A = ℕ} 0 1 = cc in omega arith)
 
--- `rs`, `ts` and the output have the lengths that the program lends
+-- `rs`, `ts` and the output have the lengths of the program's buffers
 module _ (doc rs ts out : List ℕ) (lr : length rs ≡ 16384) (lt : length ts ≡ 65536) (lo : length out ≡ 65536) {out' : List ℕ} {r : Answer} (c : Converts doc (length rs) (length ts) out out' r) where
   whole : answer_of doc (length rs) (length ts) ≡ answer_of doc 16384 65536
   whole = rw (lr, lt)

@@ -5,7 +5,7 @@ use Rattle.refusals.specs.declared.Refusal.TheVariants.{NoEquals, WrongClose}
 use Rattle.printing.specs.Decimal.{decimal, digits}
 use Rattle.service.specs.Printed.{refusal_line}
 
--- `<a b></a>` behind 49 bytes
+-- `<a b></a>` after 49 other bytes
 no_equals : refusal_line (NoEquals 53 49) ≡ ascii "refused\t18\t53\t49\n"
 unfolding decimal digits
 no_equals = refl

@@ -1,4 +1,4 @@
--- What was written of a text, after one more write.
+-- Laws of writing in pieces: what was written of a text, after one more write.
 use Rattle.std.proofs.Common.{◌≡◌, ℕ, ◌+◌, ◌-◌, List, ◌++◌, Option, length, take, drop, sym, ap, subst, ◌∙◌, arith, take-add, take_all, length-drop}
 use Rattle.std.specs.Io.KnownBytes.{Appends}
 use Rattle.std.proofs.KnownBytes.{Appends-trans}

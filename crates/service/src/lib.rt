@@ -1,10 +1,11 @@
-// The program's work: a document comes in, its source or its refusal's line goes out.
-//
-// `reply` gives every byte that is printed for a document, and `serve` reads the document from any reader and writes the
-// reply to any writer, so that the program has nothing left to do but to hand over its own. A refusal is one line:
-// `refused`, number, offset and place, parted by tabs.
-//
-// Up to 32,769 bytes are read, one more than the converter takes, so that a longer document gets its refusal 1.
+//! The program's work: a document in, its source or the line of its refusal out.
+//!
+//! `reply` gives every byte that is printed for a document. `serve` reads the document from any
+//! reader and writes the reply to any writer; the program passes in its own. A refusal is one
+//! line: `refused`, number, offset and place, separated by tabs.
+//!
+//! Up to 32,769 bytes are read, one more than a document may have, so that a longer one is
+//! refused (1).
 #![tactic(auto)]
 
 ghost use Rattle.std.specs.Prelude.{◌≡◌, List, ℕ, OnOk, OnErr};
@@ -21,7 +22,7 @@ use std::io::{self, ErrorKind, Read, Write};
 use texts::part;
 use xmltoproto::xml_to_proto;
 
-// A number in decimal: offsets and places are of any size.
+/// Prints `n` in decimal. Offsets and places are `usize`; `Output::decimal` takes a `u32`.
 fn write_number(out: &mut Output<'_>, n: usize)
     ensures { Wrote out.old out.new (decimal n) }
 {
@@ -33,7 +34,7 @@ fn write_number(out: &mut Output<'_>, n: usize)
     }
 }
 
-// The line of a refusal, by its figures.
+/// The line of a refusal, by its figures.
 #[derive(Clone, Copy)]
 struct Line {
     number: u32,
@@ -56,7 +57,7 @@ impl Print for Line {
     }
 }
 
-// What is printed for a refusal.
+/// The line of `refusal`, printed into `output`.
 fn refuse<'a>(refusal: Refusal, output: &'a mut [u8; 65536]) -> &'a [u8]
     ensures { result.now ≡ refusal_line refusal }
 {
@@ -68,11 +69,13 @@ fn refuse<'a>(refusal: Refusal, output: &'a mut [u8; 65536]) -> &'a [u8]
         offset,
         place,
     };
+    // `finish` always succeeds: a line is shorter than `output`.
     let n = finish(&line, output).unwrap_or(0);
     part(output, 0, n)
 }
 
-// What is printed for a document. What the buffers held is of no account.
+/// What the program prints for `document`: the source, or the line of the refusal. What the buffers
+/// hold does not matter.
 pub fn reply<'a>(
     document: &[u8],
     records: &mut [u32; 16384],
@@ -87,13 +90,14 @@ pub fn reply<'a>(
     }
 }
 
-// Writes all of a text, or, where a write fails, a front of it.
+/// Writes all of `text`, or a prefix of it if a write fails. A write that takes no bytes fails with
+/// `WriteZero`.
 fn write_whole<W: Write>(output: &mut W, text: &[u8]) -> io::Result<()>
     ensures all { OnOk result (Appends (W.contents output.old) (W.contents output.new) text.now) }
     ensures front { OnErr result ((n : ℕ) × Front (W.contents output.old) (W.contents output.new) text.now n) }
 {
     let mut done = 0;
-    // kept: a `while`, since a write takes as many bytes as it likes.
+    // `while`: a write may take fewer bytes than given, so the step is not 1.
     while done < text.len() {
         let n = output.write(&text[done..])?;
         if n == 0 {
@@ -104,7 +108,8 @@ fn write_whole<W: Write>(output: &mut W, text: &[u8]) -> io::Result<()>
     Ok(())
 }
 
-// Reads the document from `input`, and writes what is printed for it to `output`.
+/// Reads a document from `input`, and writes the reply to `output`. Fails with their first error:
+/// after one of `input` nothing is written, after one of `output` a prefix of the reply.
 pub fn serve<R: Read, W: Write>(input: &mut R, output: &mut W) -> io::Result<()>
     ensures served { OnOk result (Served (R.remaining input.old) (R.remaining input.new) (W.contents output.old) (W.contents output.new)) }
     ensures cut { OnErr result (CutOff (R.remaining input.old) (R.remaining input.new) (W.contents output.old) (W.contents output.new)) }

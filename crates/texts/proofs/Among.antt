@@ -1,4 +1,4 @@
--- Laws of a word among several: the code asks for one after the other, or for parts of the list.
+-- Laws of `among`: a text is compared with one after another, or the list is split.
 use mathlib.Core.Path.{◌≡◌, refl, sym, ap, ◌∙◌}
 use mathlib.Core.Bool.{Bool, true, false}
 use mathlib.Core.List.{List, [], ◌∷◌, ◌++◌}
@@ -38,7 +38,7 @@ unfolding among
 among-append w [] l = refl
 among-append w (v ∷ k) l = ap (λ (b : Bool). same w v or b) (among-append w k l) ∙ sym (or_assoc (same w v) (among w k) (among w l))
 
--- ---- a word among the texts of a slice: a loop over it stands at i
+-- ---- a loop over the texts of a slice, at i
 
 abbrev pub texts : List (Bor (List ℕ)) → List (List ℕ)
 texts names = map (λ r. r.now) names

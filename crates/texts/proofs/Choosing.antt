@@ -6,7 +6,7 @@ use native.Mathlib.Omega.{arith}
 use lib.Dec.{T}
 use Rattle.texts.specs.Choice.{pick, ◌and◌}
 
--- go by what a test says
+-- by cases of a test
 pub by-test {ℓ} : {X : Type ℓ} (b : Bool) → (b ≡ true → X) → (b ≡ false → X) → X
 by-test true f g = f refl
 by-test false f g = g refl
@@ -22,7 +22,7 @@ pub pick-by : {X : Type 0} (P : X → Type 0) (b : Bool) {x y : X} → (b ≡ tr
 pick-by P true f g = f refl
 pick-by P false f g = g refl
 
--- and what relates two pairs of answers relates those picked
+-- and what relates two pairs of answers relates the two that are picked
 pub pick-both : {X : Type 0} (R : X → X → Type 0) (b : Bool) {x y u v : X} → R x u → R y v → R (pick b x y) (pick b u v)
 pick-both R true f g = f
 pick-both R false f g = g

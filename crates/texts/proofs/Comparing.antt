@@ -1,4 +1,4 @@
--- Laws of comparing two texts: what the library's comparisons of slices say, and what the answers mean.
+-- Laws of comparing two texts: `same` and `starts_with`, and the library's comparisons of slices.
 use mathlib.Core.Path.{◌≡◌, refl, sym, ap, ◌∙◌}
 use mathlib.Core.Bool.{Bool, true, false, true≢false}
 use mathlib.Core.List.{List, [], ◌∷◌, ◌++◌}
@@ -24,7 +24,7 @@ same-no : (x y : ℕ) (xs ys : List ℕ) → eqb x y ≡ false → same (x ∷ x
 unfolding same
 same-no x y xs ys t = rw (t, same)
 
--- same texts are equal, and equal texts are the same
+-- `same` holds of equal texts alone, and of all of them
 pub same-equal : (a b : List ℕ) → same a b ≡ true → a ≡ b
 unfolding same
 same-equal [] [] t = refl
@@ -83,7 +83,7 @@ starts-length (n ∷ ns) (x ∷ xs) t =
     (λ e. suc-le-suc (starts-length ns xs (sym (starts-yes n x ns xs e) ∙ t)))
     (λ e. absurd (let z : ◌≡◌ {A = ℕ} 0 1 = cc (starts-no n x ns xs e) in omega arith))
 
--- a text in two parts stands at the front where each part stands in its place
+-- two texts, one behind the other, stand at the front if each stands in its place
 pub starts-append : (a b s : List ℕ) → starts_with (a ++ b) s ≡ (starts_with a s and starts_with b (drop (length a) s))
 unfolding starts_with
 starts-append [] b s = refl

@@ -1,4 +1,4 @@
--- The laws of trimming that the proofs of functions over texts cite, in one set: `search laws` at each goal.
+-- The laws of trimming, as one set for proofs to cite.
 use borrow.Author.Rules.{rules}
 use Rattle.texts.proofs.Trimming.{blank-below, blank-among, blank-above, shrink-start, shrink-on, shrink-stop, shrink-end}
 

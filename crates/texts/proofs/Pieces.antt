@@ -1,4 +1,4 @@
--- Laws of a piece of a text.
+-- Laws of pieces of a text.
 use mathlib.Core.Path.{◌≡◌, sym}
 use mathlib.Core.List.{List, []}
 use Prim.Native.Nat.{ℕ, ◌+◌, ◌≤◌}
@@ -10,7 +10,7 @@ use Rattle.texts.specs.Text.{piece}
 pub piece-none : (s : List ℕ) (a n : ℕ) → length s ≤ a → [] ≡ piece s a n
 piece-none s a n h = sym (rw (drop_of_length-le s h, take-nil))
 
--- from a on there are at most n bytes, so that the piece is all of them, whatever count k covers them
+-- if s ends within n bytes from a, the piece is all that is left, whatever k reaches the end
 pub piece-rest : (s : List ℕ) (a n k : ℕ) → length s ≤ a + n → length s ≤ a + k → take k (drop a s) ≡ piece s a n
 piece-rest s a n k h j =
     let l : length (drop a s) ≤ k = simp length-drop (omega arith) in

@@ -1,5 +1,5 @@
--- Laws of a scan. A loop's invariant is that the scan from `i` ends where the scan from `at` does: a byte that passes keeps
--- it; at a byte that fails, or at the end, `i` is the answer.
+-- Laws of scans. A loop's invariant is that the scan from `i` ends where the scan from `at` does. A
+-- byte that passes keeps it; at a byte that fails, or at the end, `i` is the answer.
 use mathlib.Core.Path.{◌≡◌, refl, sym, ap, ◌∙◌}
 use mathlib.Core.Bool.{Bool, true, false, not}
 use mathlib.Core.List.{List, ◌∷◌}
@@ -20,7 +20,7 @@ count_yes p x xs t = rw (t, count_while)
 pub count_no : (p : ℕ → Bool) (x : ℕ) (xs : List ℕ) → p x ≡ false → count_while p (x ∷ xs) ≡ 0
 count_no p x xs t = rw (t, count_while)
 
--- a loop that scans s from `at` stands at i
+-- a loop that scans s from `at` has come to i
 pub record Scanning (p : ℕ → Bool) (s : List ℕ) (at i : ℕ) : Type 0 where
   pub rest : scan p s i ≡ scan p s at
 
@@ -77,7 +77,7 @@ or-below a b h = (omega (arith, or_add_and a b, and_le_r a b), omega (arith, or_
 or-none : (a b : ℕ) → bit_or a b ≡ 0 → (a ≡ 0) × (b ≡ 0)
 or-none a b h = (omega (arith, or_add_and a b, and_le_r a b), omega (arith, or_add_and a b, and_le_l a b))
 
--- k bytes from i on of which none fails, and one byte more; f is whether it fails
+-- one byte more than k bytes from i on that all pass; f is 1 if it fails, else 0
 pub passes-on : (p : ℕ → Bool) (s : List ℕ) (i k failed : ℕ) {b : Bool} {f : ℕ} → i + k < length s → (failed ≡ 0 → scan p s (i + k) ≡ scan p s i)
     → b ≡ p (get_or s (i + k) 0) → f ≡ bool_byte (not b) → bit_or failed f ≡ 0 → scan p s (i + (k + 1)) ≡ scan p s i
 passes-on p s i k failed {b} {f} h inv e q z =
@@ -90,7 +90,7 @@ passes-on p s i k failed {b} {f} h inv e q z =
     passed true w = refl
     passed false w = absurd (omega arith)
 
--- the bits of k bytes from i on, and one byte more
+-- one byte more than k bytes from i on, of which `all` is the bitwise OR
 pub bits-on : (s : List ℕ) (i k all : ℕ) → i + k < length s → (all < 128 → scan is_ascii s (i + k) ≡ scan is_ascii s i)
     → bit_or all (get_or s (i + k) 0) < 128 → scan is_ascii s (i + (k + 1)) ≡ scan is_ascii s i
 bits-on s i k all h inv l =
@@ -99,6 +99,6 @@ bits-on s i k all h inv l =
     let e : i + k + 1 ≡ i + (k + 1) = omega arith in
     (rw e at (ascii-on at h both.1)).rest
 
--- a scan goes on, and ends within the text where it starts there
+-- a scan never goes back
 pub scan-from : (p : ℕ → Bool) (s : List ℕ) (at : ℕ) → at ≤ scan p s at
 scan-from p s at = omega arith

@@ -38,7 +38,7 @@ drop-stored vs l i h = ap (drop i) (sets-eq vs l i h ∙ append_assoc (take i l)
 pub piece-stored : (vs l : List ℕ) (i n : ℕ) → length vs ≡ n → i + n ≤ length l → piece (sets l i vs) i n ≡ vs
 piece-stored vs l i n e h = ap (take n) (drop-stored vs l i (omega arith)) ∙ take_at vs (drop (i + length vs) l) n e
 
--- a piece that lies where two texts agree
+-- a piece is the same in two texts that agree up to its end, or from its start on
 pub piece-below : (s t : List ℕ) (low a n : ℕ) → a + n ≤ low → take low t ≡ take low s → piece t a n ≡ piece s a n
 piece-below s t low a n h e =
     let f : (l : List ℕ) → piece l a n ≡ drop a (take (a + n) l) = λ l. swap l a n in

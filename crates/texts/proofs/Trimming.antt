@@ -1,4 +1,4 @@
--- Laws of trimming: what the loop over the back keeps, and how the front and the back make the whole.
+-- Laws of trimming: the loop over the back, and how front and back make the whole.
 use mathlib.Core.Path.{◌≡◌, refl, sym, ap, ◌∙◌}
 use mathlib.Core.Bool.{Bool, true, false}
 use mathlib.Core.List.{List, [], ◌∷◌, ◌++◌}
@@ -111,7 +111,7 @@ module _ (s : List ℕ) (from len a : ℕ) (whole : List ℕ) (ew : whole ≡ pi
   within : a ≤ length whole
   within = omega (arith, count-within is_blank whole, ea)
 
-  -- where the range moves, it stays within the text
+  -- `from + a` is no more than `from` or the text's length, and so does not overflow
   pub trim-fits : (m : ℕ) → from ≤ m → length s ≤ m → from + a ≤ m
   trim-fits m h k =
       let l : length whole ≤ length s - from = rw (ew, length-take, length-drop) (omega arith) in

@@ -1,4 +1,4 @@
--- Texts as lists of bytes: what every crate above speaks in.
+-- Texts as lists of bytes: the vocabulary of all definitions above.
 pub mod Choice
 pub mod Text
 pub mod Lists

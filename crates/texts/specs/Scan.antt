@@ -1,4 +1,4 @@
--- Scans: how far a run of bytes that pass a test goes.
+-- Where a run of bytes that pass a test ends: vocabulary for all rules.
 use Rattle.std.specs.Prelude.{Bool, true, false, not, List, [], ◌∷◌, ℕ, suc, ◌+◌, eqb, ltb, drop}
 
 -- how many bytes at the front pass the test
@@ -6,17 +6,18 @@ abbrev pub count_while : (ℕ → Bool) → List ℕ → ℕ
 count_while p [] = 0
 count_while p (x ∷ xs) = elim (p x) [ true ↦ suc (count_while p xs) | false ↦ 0 ]
 
--- the first place from `at` on whose byte fails the test, or the end; `at` itself where it is past the end
+-- the first place from `at` on whose byte fails the test, or the end; `at` if it is past the end
 abbrev pub scan : (ℕ → Bool) → List ℕ → ℕ → ℕ
 scan p s at = at + count_while p (drop at s)
 
--- what fails the test q
+-- the test that passes what fails q
 abbrev pub until : (ℕ → Bool) → ℕ → Bool
 until q x = not (q x)
 
+-- the byte x is b
 abbrev pub is : ℕ → ℕ → Bool
 is b x = eqb x b
 
--- ASCII: below 128
+-- ASCII, as Rules: Limits and refusals asks of every byte: below 128
 unfoldable pub is_ascii : ℕ → Bool
 is_ascii b = ltb b 128

@@ -1,25 +1,25 @@
--- Texts: a quoted text's bytes, a piece of a text, sameness, and what stands at its front.
+-- Literals, pieces, equality and prefixes of texts: vocabulary for all rules.
 use Rattle.std.specs.Prelude.{Bool, true, false, List, [], ◌∷◌, ℕ, eqb, take, drop}
 use Prim.Native.Char.{code}
 use Prim.Native.String.{String, [] as none, ◌∷◌ as ◌then◌}
 
--- the bytes of a quoted text, where it is ASCII
+-- the bytes of a quoted ASCII text
 abbrev pub ascii : String → List ℕ
 ascii none = []
 ascii (c then s) = code c ∷ ascii s
 
--- n bytes of s from the place a on, or what there is of them
+-- the n bytes of s from the place a on, or as many as there are
 abbrev pub piece : List ℕ → ℕ → ℕ → List ℕ
 piece s a n = take n (drop a s)
 
--- whether two texts are one
+-- two texts have the same bytes
 unfoldable pub same : List ℕ → List ℕ → Bool
 same [] [] = true
 same [] (y ∷ ys) = false
 same (x ∷ xs) [] = false
 same (x ∷ xs) (y ∷ ys) = elim (eqb x y) [ true ↦ same xs ys | false ↦ false ]
 
--- whether the text n stands at the front of s
+-- the text n stands at the front of s
 unfoldable pub starts_with : List ℕ → List ℕ → Bool
 starts_with [] s = true
 starts_with (n ∷ ns) [] = false

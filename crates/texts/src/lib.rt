@@ -1,8 +1,8 @@
-// Texts: lent slices of bytes, read as lists.
-//
-// A part of a text, whether two texts are one, or one of a list, whether one stands at a place of another, where the
-// first byte beyond ASCII is, and a text trimmed. Every function is total, asks nothing of its caller, and promises
-// a definition of specs/.
+//! Texts: slices of bytes, which contracts see as lists of bytes.
+//!
+//! Clamped sub-slices, equality, membership in a few constants, a prefix test at an offset, the
+//! first byte beyond ASCII, and trimming; `scan` finds where a run of bytes ends. No public
+//! function has a `requires`: a text has nothing past its end, and any offset may be asked for.
 #![tactic(auto)]
 
 pub mod scan;
@@ -15,14 +15,14 @@ ghost use Rattle.texts.specs.Trim.{is_blank, trimmed, TrimmedTo, KeptTo};
 
 use crate::scan::{ByteTest, scan_each};
 
-// `len` bytes from `from` on.
+/// The `len` bytes from `from` on, in some text.
 #[derive(Clone, Copy)]
 pub struct Range {
     pub from: usize,
     pub len: usize,
 }
 
-// `n` bytes of `s` from `a` on, or what there is of them.
+/// Up to `n` bytes of `s` from `a` on: fewer near its end, none past it.
 pub fn part(s: &[u8], a: usize, n: usize) -> &[u8]
     ensures { result.now ≡ piece s.now a n }
 {
@@ -37,21 +37,21 @@ pub fn part(s: &[u8], a: usize, n: usize) -> &[u8]
     }
 }
 
-// The byte at `i`, and 0 past the end.
+/// The byte at `i`, or 0 past the end.
 pub fn byte_at(s: &[u8], i: usize) -> u8
     ensures { result ≡ get_or s.now i 0 }
 {
     if i < s.len() { s[i] } else { 0 }
 }
 
-// Whether two texts are one.
+/// Whether two texts have the same bytes.
 pub fn equal(a: &[u8], b: &[u8]) -> bool
     ensures { result ≡ same a.now b.now }
 {
     a == b
 }
 
-// Whether a text is one of these: inlined, it compares with each as a constant.
+/// Whether `s` is one of `texts`. Inlined, so that literals become comparisons with constants.
 #[inline(always)]
 pub fn is_among(s: &[u8], texts: &[&[u8]]) -> bool
     ensures { result ≡ among s.now (map (λ t. t.now) texts.now) }
@@ -64,8 +64,7 @@ pub fn is_among(s: &[u8], texts: &[&[u8]]) -> bool
     false
 }
 
-// Whether `needle` stands at `at`.
-// kept: a place beside the text, since it may lie past the end.
+/// Whether `needle` stands in `s` at `at`. Past the end only an empty one does.
 pub fn starts_with(s: &[u8], at: usize, needle: &[u8]) -> bool
     ensures { result ≡ starts_with needle.now (drop at s.now) }
 {
@@ -78,6 +77,7 @@ pub fn starts_with(s: &[u8], at: usize, needle: &[u8]) -> bool
 
 // ---- ASCII
 
+/// The test for a byte below 128.
 struct Ascii;
 
 impl ByteTest for Ascii {
@@ -88,7 +88,8 @@ impl ByteTest for Ascii {
     }
 }
 
-// The bits of the `N` bytes from `i` on: one test tells of all of them.
+/// The bitwise OR of the `N` bytes from `i` on: below 128 only if all of them are, so that one
+/// branch tests them all. Compiles to vector code.
 fn bits<const N: usize>(s: &[u8], i: usize) -> u8
     requires { i + N ≤ length s.now }
     ensures { result < 128 → scan is_ascii s.now (i + N) ≡ scan is_ascii s.now i }
@@ -100,8 +101,8 @@ fn bits<const N: usize>(s: &[u8], i: usize) -> u8
     all
 }
 
-// From `from` on past blocks of `N` bytes that are ASCII.
-// kept: a place beside the text, since the next walk goes on from the place that is found.
+/// Skips blocks of `N` ASCII bytes from `from` on. Answers where the next block is not all ASCII,
+/// or fewer than `N` bytes are left: an offset into `s`, from which the next scan goes on.
 fn past_blocks<const N: usize>(s: &[u8], from: usize) -> usize
     requires some { 0 < N }
     requires within { from ≤ length s.now }
@@ -109,7 +110,7 @@ fn past_blocks<const N: usize>(s: &[u8], from: usize) -> usize
     ensures same { scan is_ascii s.now result ≡ scan is_ascii s.now from }
 {
     let mut i = from;
-    // kept: a `while`, since its steps are blocks.
+    // `while`: each turn passes a block, so the step is not 1.
     while N <= s.len() - i {
         if 128 <= bits::<N>(s, i) {
             return i;
@@ -119,10 +120,11 @@ fn past_blocks<const N: usize>(s: &[u8], from: usize) -> usize
     i
 }
 
-// Where the first byte of 128 or more stands, or the end.
+/// The offset of the first byte of 128 or more, or `s.len()`.
 pub fn ascii_end(s: &[u8]) -> usize
     ensures { result ≡ scan is_ascii s.now 0 }
 {
+    // Wide blocks for long documents, narrower ones for what is left.
     let far = past_blocks::<512>(s, 0);
     let wide = past_blocks::<128>(s, far);
     let near = past_blocks::<8>(s, wide);
@@ -131,7 +133,7 @@ pub fn ascii_end(s: &[u8]) -> usize
 
 // ---- trimming
 
-// Bytes 9 to 13 and 32.
+/// Whether trimming drops `b`: bytes 9 to 13 and 32.
 #[tactic(auto, using(crate::proofs::Laws::laws))]
 fn is_blank(b: u8) -> bool
     ensures { result ≡ is_blank b }
@@ -145,6 +147,7 @@ fn is_blank(b: u8) -> bool
     b == 32
 }
 
+/// The test for a byte that trimming drops.
 struct Blank;
 
 impl ByteTest for Blank {
@@ -155,7 +158,7 @@ impl ByteTest for Blank {
     }
 }
 
-// How many bytes are left when those at the back that are blank are dropped.
+/// The length of `s` without the blanks at its end.
 #[tactic(auto, using(crate::proofs::Laws::laws))]
 fn kept(s: &[u8]) -> usize
     ensures { KeptTo s.now result }
@@ -168,7 +171,7 @@ fn kept(s: &[u8]) -> usize
     0
 }
 
-// A text trimmed.
+/// `s` without the blanks (bytes 9 to 13 and 32) at both ends.
 pub fn trim(s: &[u8]) -> &[u8]
     ensures { result.now ≡ trimmed s.now }
 {
@@ -177,8 +180,8 @@ pub fn trim(s: &[u8]) -> &[u8]
     part(rest, 0, kept(rest))
 }
 
-// Where a piece of a text lies when it is trimmed.
-// kept: a place beside the text, since the range that is answered is of the whole text.
+/// As `trim`, of the `len` bytes of `s` from `from` on. The answer is a range of `s`, which is why
+/// this takes an offset and no sub-slice.
 pub fn trim_range(s: &[u8], from: usize, len: usize) -> Range
     ensures { TrimmedTo s.now from len result }
 {

@@ -1,18 +1,22 @@
-// Scans: how far a run of bytes goes that pass a test.
+//! Scans: where a run of bytes that pass a test ends.
+//!
+//! `scan_each`, `scan_fours` and `scan_eights` answer the same and suit different lengths of runs.
+//! They take and answer offsets into the whole text, so that one scan goes on from another's end.
 ghost use Rattle.std.specs.Prelude.{◌≡◌, true, Bool, ℕ, ◌+◌, ◌≤◌, length};
 ghost use Rattle.texts.specs.Scan.{scan};
 
-// A test of bytes.
+/// A test of bytes; each scan is compiled for the test that it is given.
 pub trait ByteTest {
-    // What it says of each byte.
+    /// What the test says of each byte.
     ghost test: { ℕ → Bool };
 
+    /// Whether `b` passes.
     fn passes(&self, b: u8) -> bool
         ensures { result ≡ test b };
 }
 
-// Where the first byte from `from` on stands that fails the test, or the end; `from` itself where it is past the end.
-// kept, here and below: a place beside the text, since what is found is a place of the whole text.
+/// The offset of the first byte from `from` on that fails the test, or `s.len()`; `from` itself
+/// where it is past the end. Byte by byte.
 pub fn scan_each<T: ByteTest>(s: &[u8], from: usize, by: &T) -> usize
     ensures { result ≡ scan T.test s.now from }
 {
@@ -24,12 +28,12 @@ pub fn scan_each<T: ByteTest>(s: &[u8], from: usize, by: &T) -> usize
     from.max(s.len())
 }
 
-// Whether the `N` bytes from `i` on pass, with one branch for all of them. By a byte and not by a bool, of which the compiler would keep
-// a bit for each test.
+/// Whether the `N` bytes from `i` on all pass, with one branch for all of them.
 fn all_pass<T: ByteTest, const N: usize>(s: &[u8], i: usize, by: &T) -> bool
     requires { i + N ≤ length s.now }
     ensures { result ≡ true → scan T.test s.now (i + N) ≡ scan T.test s.now i }
 {
+    // A byte, not a bool: for a bool the compiler extracts one bit for each test.
     let mut failed: u8 = 0;
     for k in 0..N {
         failed |= u8::from(!by.passes(s[i + k]));
@@ -37,7 +41,8 @@ fn all_pass<T: ByteTest, const N: usize>(s: &[u8], i: usize, by: &T) -> bool
     failed == 0
 }
 
-// From `from` on past blocks of eight bytes that pass.
+/// Skips blocks of eight bytes that pass, from `from` on. Answers where the next block has a byte
+/// that fails, or where fewer than eight bytes are left.
 fn past_eights<T: ByteTest>(s: &[u8], from: usize, by: &T) -> usize
     ensures { scan T.test s.now result ≡ scan T.test s.now from }
 {
@@ -46,7 +51,7 @@ fn past_eights<T: ByteTest>(s: &[u8], from: usize, by: &T) -> usize
     }
     let last = s.len() - 8;
     let mut i = from;
-    // kept: a `while`, since its steps are of eight bytes.
+    // `while`: each turn passes a block, so the step is not 1.
     while i <= last {
         if !all_pass::<T, 8>(s, i, by) {
             return i;
@@ -56,8 +61,7 @@ fn past_eights<T: ByteTest>(s: &[u8], from: usize, by: &T) -> usize
     i
 }
 
-// The same, with one test of the end for each four bytes, where a run is likely to be short. Each byte has a return of its own: the
-// processor guesses it, and waits for no choice between places.
+/// As `scan_each`, with one test of the end for four bytes: for runs that are likely short.
 pub fn scan_fours<T: ByteTest>(s: &[u8], from: usize, by: &T) -> usize
     ensures { result ≡ scan T.test s.now from }
 {
@@ -66,7 +70,8 @@ pub fn scan_fours<T: ByteTest>(s: &[u8], from: usize, by: &T) -> usize
     }
     let last = s.len() - 4;
     let mut i = from;
-    // kept: a `while`, since its steps are of four bytes.
+    // `while`: each turn passes four bytes, so the step is not 1. Each byte has its own return, a
+    // branch that the processor predicts; one offset chosen among four would be waited for.
     while i <= last {
         if !by.passes(s[i]) {
             return i;
@@ -85,7 +90,7 @@ pub fn scan_fours<T: ByteTest>(s: &[u8], from: usize, by: &T) -> usize
     scan_each(s, i, by)
 }
 
-// The same, with one branch for each eight bytes that pass, where a run may be long.
+/// As `scan_each`, with one branch for eight bytes that pass: for runs that may be long.
 pub fn scan_eights<T: ByteTest>(s: &[u8], from: usize, by: &T) -> usize
     ensures { result ≡ scan T.test s.now from }
 {

@@ -1,4 +1,4 @@
--- Laws of comparing two names by their numbers: what is compared reaches from the front, and the last number up to their ends.
+-- Laws of comparing two names by numbers: from the front on, and last by one that ends with them.
 use mathlib.Core.Path.{◌≡◌, refl, sym, ap, ap₂, ◌∙◌}
 use mathlib.Core.Bool.{true, false}
 use mathlib.Core.List.{List, ◌++◌}
@@ -28,7 +28,7 @@ module _ (a b : List ℕ) (i n : ℕ) {x y : ℕ} (u : x ≡ word_of (piece a i 
     tell : x ≡ y → piece a i n ≡ piece b i n
     tell e = word-tells (piece a i n) (piece b i n) k h l (sym u ∙ e ∙ v)
 
-    -- the last one decides, where what stands before it is the same
+    -- the last number decides, if all bytes before it are the same
     decide : length a ≡ i + n → length b ≡ i + n → (m : ℕ) → i ≤ m → take m a ≡ take m b → eqb x y ≡ same a b
     decide ea eb m w front =
         by-test (same a b)
@@ -44,7 +44,7 @@ module _ (a b : List ℕ) (i n : ℕ) {x y : ℕ} (u : x ≡ word_of (piece a i 
         whole : x ≡ y → a ≡ b
         whole e = sym (take-append-drop i a) ∙ ap₂ ◌++◌ before (sym (ends a ea) ∙ tell e ∙ ends b eb) ∙ take-append-drop i b
 
--- ---- words: a loop that compares has passed k bytes, which are the same
+-- ---- words: a loop has compared k bytes, and they are the same
 
 pub record Alike (a b : List ℕ) (k : ℕ) : Type 0 where
   pub front : take k a ≡ take k b

@@ -15,7 +15,7 @@ sets-append d at (x ∷ xs) ys =
     let z : suc at + length xs ≡ at + suc (length xs) = omega arith in
     rw (← z) (sets-append (set d at x) (suc at) xs ys)
 
--- k bytes of a piece are read into an array, and one more
+-- one byte more than k bytes of a piece is read into an array
 pub read-more : (s : List ℕ) (i k : ℕ) → i + k < length s → (few : List ℕ) → k < length few → take k few ≡ piece s i k
     → take (k + 1) (set few k (get_or s (i + k) 0)) ≡ piece s i (k + 1)
 read-more s i k h few l q =
@@ -24,7 +24,7 @@ read-more s i k h few l q =
     let read : take (k + 1) (set few k (get_or s (i + k) 0)) ≡ take k few ++ (get_or s (i + k) 0 ∷ []) = rw add-one (take-suc-set few k (get_or s (i + k) 0) l) in
     read ∙ rw q (sym more)
 
--- k bytes of t are written, and one more
+-- one byte more than k bytes of t is written
 pub written-more : (t d : List ℕ) (at k : ℕ) → k < length t → {e : List ℕ} → e ≡ sets d at (take k t) → set e (at + k) (get_or t k 0) ≡ sets d at (take (k + 1) t)
 written-more t d at k h q =
     let l : length (take k t) ≡ k = length-take-le k t (omega arith) in

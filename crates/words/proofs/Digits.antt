@@ -1,4 +1,4 @@
--- Laws of the number of a run of bytes: it tells the bytes.
+-- Laws of the number of a run of bytes: it determines the bytes.
 use mathlib.Core.Path.{◌≡◌, refl, sym, ap, ap₂, ◌∙◌}
 use mathlib.Core.Bool.{true}
 use mathlib.Core.List.{List, [], ◌∷◌}
@@ -19,7 +19,7 @@ use Rattle.texts.proofs.Choosing.{by-test}
 use Rattle.texts.proofs.Comparing.{starts-yes, starts-no}
 use Rattle.words.specs.Word.{word_of, IsWord, IsHalf}
 
--- ---- equal numbers of as many bytes are of the same bytes
+-- ---- equal numbers of equally many bytes are of the same bytes
 
 pub word-tells : (s t : List ℕ) → length s ≡ length t → Every (λ b. b < 256) s → Every (λ b. b < 256) t → word_of s ≡ word_of t → s ≡ t
 unfolding word_of Every
@@ -52,13 +52,13 @@ pub word-tells-front : (n : ℕ) (s t : List ℕ) → n ≤ length s → length 
 word-tells-front n s t g l h k e =
     word-tells (take n s) t (length-take-le n s g ∙ sym l) (every_take (λ b. b < 256) n s h) k (sym (word-take n s h) ∙ e)
 
--- literal bytes are bytes by computing
+-- literal bytes are below 256, by computation
 pub bytes-are : (s : List ℕ) → T (are_bytes s) → Every (λ b. b < 256) s
 unfolding Every
 bytes-are [] t = tt
 bytes-are (b ∷ s) t = (lit< (and_l (ltb b 256) (are_bytes s) t), bytes-are s (and_r (ltb b 256) (are_bytes s) t))
 
--- ---- a text of at most eight bytes stands at a place where the word there begins with its number
+-- ---- a text of at most eight bytes stands where the low bytes of the word there are its number
 
 pub front-is : (t u : List ℕ) → starts_with t u ≡ true → take (length t) u ≡ t
 unfolding starts_with
@@ -113,7 +113,7 @@ module _ (s : List ℕ) (i : ℕ) (room : i + 8 ≤ length s) where
       ∙ ap (λ (t : List ℕ). get_or s i 0 ∷ t) (next s i 1 6 (omega arith) ∙ ap (at 1) (next s i 2 5 (omega arith) ∙ ap (at 2) (next s i 3 4 (omega arith)
       ∙ ap (at 3) (next s i 4 3 (omega arith) ∙ ap (at 4) (next s i 5 2 (omega arith) ∙ ap (at 5) (next s i 6 1 (omega arith) ∙ ap (at 6) (next s i 7 0 (omega arith))))))))
 
-  -- each of the eight is read by itself: the number read, and that it is a byte
+  -- each byte is read by itself: its value, and that it is below 256
   pub word_read : {a b c d e f g h : ℕ}
       → (a ≡ get_or s i 0) × (get_or s i 0 < 256)
       → (b ≡ get_or s (i + 1) 0) × (get_or s (i + 1) 0 < 256)

@@ -1,4 +1,4 @@
--- Laws of finding a byte among eight: the marks tell how many bytes stand before it.
+-- Laws of finding a byte among eight: the lowest mark gives the number of bytes before it.
 use mathlib.Core.Path.{◌≡◌, refl, sym, ap, ap₂, ◌∙◌}
 use mathlib.Core.Bool.{Bool, not}
 use mathlib.Core.List.{List, [], ◌∷◌, map}
@@ -21,7 +21,7 @@ use Rattle.texts.proofs.Scanning.{Scanning, count_yes, count_no}
 use Rattle.words.specs.Word.{word_of}
 use Rattle.words.specs.Marks.{mark, Marked}
 
--- ---- the zeros below a word's lowest mark
+-- ---- the zero bits below the lowest mark of a word
 
 shift : (k n : ℕ) → count_trailing_zeros (suc k) (n * 2) ≡ suc (count_trailing_zeros k n)
 unfolding count_trailing_zeros
@@ -93,7 +93,7 @@ module _ (p : ℕ → Bool) where
       (λ t. omega (arith, count_yes p b s t, count_yes p b (take n s) t, count-front n s))
       (λ f. omega (arith, count_no p b (take n s) f))
 
-  -- what is passed is counted, and the rest
+  -- the count is of the bytes that are passed, and of the rest
   pub count_past : (n : ℕ) (s : List ℕ) → n ≤ count_while p s → count_while p s ≡ n + count_while p (drop n s)
   count_past zero s h = omega arith
   count_past (suc n) [] h = absurd (omega arith)
@@ -102,7 +102,7 @@ module _ (p : ℕ → Bool) where
       (λ t. omega (arith, count_yes p b s t, count_past n s (omega (arith, count_yes p b s t))))
       (λ f. absurd (omega (arith, count_no p b s f)))
 
--- a word has at most 64 zeros
+-- a word has at most 64 trailing zeros
 pub zeros-fit : (m : ℕ) → Fits w64 (count_trailing_zeros 64 m / 8)
 zeros-fit m = omega (arith, trailing_le 64 m)
 
@@ -137,6 +137,6 @@ module _ {x : ℕ} {s : List ℕ} {i m : ℕ} (e : Marked x s i m) (room : i + 8
 pub scan-rest : {p : ℕ → Bool} {s : List ℕ} {at i : ℕ} → Scanning p s at i → {r : ℕ} → r ≡ scan p s i → r ≡ scan p s at
 scan-rest inv e = e ∙ inv.rest
 
--- a word that begins at the last place for one, or before it, is within
+-- a word that begins at the last place where one fits, or before it, lies within
 pub word-within : {i last n : ℕ} → i ≤ last → last + 8 ≡ n → i + 8 ≤ n
 word-within h e = omega arith

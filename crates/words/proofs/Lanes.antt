@@ -1,4 +1,4 @@
--- Words byte by byte: what the operations of `marks` do to each byte, which is a lane of its own.
+-- Laws of words byte by byte: each operation of `marks` acts on a byte as on a lane of its own.
 use mathlib.Core.Path.{◌≡◌, refl, sym, ap, ap₂, ◌∙◌}
 use mathlib.Core.List.{List, [], ◌∷◌, map, map-id}
 use Prim.Native.Nat.{ℕ, zero, suc, ◌+◌, ◌-◌, ◌*◌, ◌^◌, ◌≤◌, ◌<◌}
@@ -44,7 +44,7 @@ unfolding word_of Every
 eq-lanes n f g e [] h = refl
 eq-lanes n f g e (b ∷ s) h = ap₂ (λ (m k : ℕ). m * 256 + k) (eq-lanes n f g e s h.1) (e b h.0)
 
--- an operation that goes digit by digit
+-- a bitwise operation, which acts on each byte by itself
 module _ (op : ℕ → ℕ → ℕ) (nought : op 0 0 ≡ 0)
     (block : (k a b r s : ℕ) → r < 2 ^ k → s < 2 ^ k → op (a * 2 ^ k + r) (b * 2 ^ k + s) ≡ op a b * 2 ^ k + op r s)
     (f g : ℕ → ℕ) (hf : (b : ℕ) → b < 256 → f b < 256) (hg : (b : ℕ) → b < 256 → g b < 256) where
@@ -100,7 +100,7 @@ unfolding word_of Every
 low-bytes [] h e = tt
 low-bytes (b ∷ s) h e = (low_byte b h.0 (omega arith), low-bytes s h.1 (omega arith))
 
--- and below 128 the difference from 128 has the high bit where there is no other to take away
+-- of bytes below 128, 128 minus their difference has the high bit only if they are equal
 low-mark : (x b : ℕ) → x < 128 → b < 128 → bit_and (128 - bit_xor b x) 128 ≡ mark x b
 low-mark x b hx h =
     by-test (eqb b x)

@@ -1,4 +1,4 @@
--- The laws that the proofs of functions over words cite, in one set: `search laws` at each goal.
+-- The laws of words, as one set for proofs to cite.
 use borrow.Author.Rules.{rules}
 use Rattle.texts.proofs.Comparing.{same-lengths}
 use Rattle.texts.proofs.Scanning.{scan-start, scan-end, byte-on, byte-stop}

@@ -1,4 +1,4 @@
--- Laws of finding a short text at eight places: the marks of its bytes, each a place on, and what they share.
+-- Laws of finding a short text at eight places, by what the marks of its bytes have in common.
 use mathlib.Core.Path.{◌≡◌, refl, sym, ap, ap₂, ◌∙◌}
 use mathlib.Core.Bool.{Bool, true, false}
 use mathlib.Core.List.{List, [], ◌∷◌, ◌++◌, map}
@@ -35,7 +35,7 @@ flag-and true true = refl
 flag-and true false = refl
 flag-and false b = refl
 
--- a byte by itself
+-- a text of one byte
 starts-byte : (x b : ℕ) (u : List ℕ) → eqb b x ≡ starts_with (x ∷ []) (b ∷ u)
 unfolding starts_with
 starts-byte x b u =
@@ -49,7 +49,7 @@ byte-flags x zero u h = refl
 byte-flags x (suc n) [] h = absurd (omega arith)
 byte-flags x (suc n) (b ∷ u) h = ap₂ (λ (m : ℕ) (r : List ℕ). m ∷ r) (ap flag (starts-byte x b u)) (byte-flags x n u (omega arith))
 
--- and two texts, the second behind the first
+-- two texts, the second right behind the first
 both-flags : (v w : List ℕ) (n : ℕ) (u : List ℕ) → bit_and (word_of (flags v n u)) (word_of (flags w n (drop (length v) u))) ≡ word_of (flags (v ++ w) n u)
 unfolding word_of flags
 both-flags v w zero u = refl
@@ -64,7 +64,7 @@ both-flags v w (suc n) u =
     (ap (λ (t : List ℕ). bit_and a (word_of (flags w n t))) e ∙ both-flags v w n (drop 1 u))
     (flag-and (starts_with v u) (starts_with w (drop l u)) ∙ ap flag (sym (starts-append v w u)))
 
--- the zeros below the lowest mark are of places where the text does not stand
+-- the zero bits below the lowest mark: eight for each place before the first where the text stands
 module _ (text : List ℕ) (n : ℕ) (u : List ℕ) where
   abbrev zeros : ℕ
   zeros = count_trailing_zeros (8 * n) (word_of (flags text n (drop 1 u)))
@@ -129,7 +129,7 @@ module _ {text s : List ℕ} {at i m : ℕ} (inv : Lacks text s at i) (e : Flagg
   flagged-stop : Lacks text s at (i + count_trailing_zeros 64 m / 8)
   flagged-stop = flagged-to (count_trailing_zeros 64 m / 8) (omega arith)
 
--- ---- as the loops come to it
+-- ---- the steps of the loops
 
 -- the empty text stands everywhere
 none-flagged : (s : List ℕ) (n : ℕ) → word_of (flags [] n s) ≡ word_of (replicate n 128)
@@ -141,7 +141,7 @@ pub flagged-start : (s : List ℕ) (i : ℕ) → Flagged [] s i 9259542123273814
 unfolding word_of
 flagged-start s i = record { is = sym (none-flagged (drop i s) 8) }
 
--- one byte of the text more
+-- one more byte of the text
 pub flagged-more : (t s : List ℕ) (i k : ℕ) {m a : ℕ} → Flagged (take k t) s i m → k < length t → Marked (get_or t k 0) s (i + k) a → i + k + 8 ≤ length s → Flagged (take (k + 1) t) s i (bit_and m a)
 flagged-more t s i k {m} {a} p h e room =
     let l : length (take k t) ≡ k = length-take-le k t (omega arith) in

@@ -1,4 +1,4 @@
--- Laws of the comparison with a text by its numbers.
+-- Laws of comparing with a literal that is given by its numbers.
 use mathlib.Core.Path.{◌≡◌, sym, ap, ◌∙◌}
 use mathlib.Core.Bool.{Bool, false}
 use mathlib.Core.List.{List}
@@ -15,7 +15,7 @@ use Rattle.words.specs.Word.{IsWord}
 use Rattle.words.specs.Standing.{ShortText, LongText, StandsShort, StandsLong}
 use Rattle.words.proofs.Digits.{word-starts, word-starts-whole}
 
--- a power of 256 is no zero
+-- a power of 256 is positive
 pub power-some : {text : List ℕ} {modulus front : ℕ} → ShortText text modulus front → 0 < modulus
 power-some {text} t = rw t.power (one-le-pow (length text) 256 (zero-lt-suc 255))
 
@@ -23,7 +23,7 @@ module _ (s : List ℕ) (i : ℕ) {w : ℕ} (q : IsWord (piece s i 8) w) where
   pub stands-short : (modulus front : ℕ) → StandsShort s i modulus front (eqb (w % modulus) front)
   stands-short modulus front = record { is = λ text t. rw (t.power, t.number) (word-starts s i q text t.bytes t.few) }
 
-  -- a text whose first eight bytes stand, or do not
+  -- a longer text, by whether its first eight bytes stand there
   module _ (front modulus back : ℕ) where
     first-eight : (text : List ℕ) → LongText text front modulus back → starts_with text (drop i s) ≡ (eqb w front and starts_with (drop 8 text) (drop (i + 8) s))
     first-eight text t =

@@ -1,10 +1,10 @@
--- Where a byte stands among eight, and where a text does. Internal.
+-- Where a byte, and where a text, stands among eight places. Internal.
 use Rattle.std.specs.Prelude.{◌≡◌, List, [], ◌∷◌, map, ℕ, zero, suc, eqb, drop}
 use Rattle.texts.specs.Choice.{pick}
 use Rattle.texts.specs.Text.{piece, starts_with}
 use Rattle.words.specs.Word.{word_of}
 
--- the high bit where b is x
+-- 128, a byte's high bit, if b is x, else 0
 abbrev pub mark : ℕ → ℕ → ℕ
 mark x b = pick (eqb b x) 128 0
 
@@ -12,7 +12,7 @@ mark x b = pick (eqb b x) 128 0
 pub record Marked (x : ℕ) (s : List ℕ) (i m : ℕ) : Type 0 where
   pub is : m ≡ word_of (map (mark x) (piece s i 8))
 
--- of n places of u, the high bit of each where the text stands
+-- for each of the first n places of u: 128 if the text stands there, else 0
 unfoldable pub flags : List ℕ → ℕ → List ℕ → List ℕ
 flags text zero u = []
 flags text (suc n) u = pick (starts_with text u) 128 0 ∷ flags text n (drop 1 u)

@@ -1,13 +1,13 @@
-// Words: eight bytes of a lent slice at once, as one number.
-//
-// `word_at` gives the number of the eight bytes at a place, the first one lowest (specs/Word.antt); a word tells its
-// bytes (proofs/Digits.antt). By words `byte_from` finds where a byte first stands, whatever the bytes are, and `text_from`
-// does so for a short text, all but near the end. `lacks` and `both_lack` tell that a byte is not among a few, how many is a
-// const; `copy_few` copies a few. `stands_short` and `stands_long` compare with a text that is given by its numbers, and
-// `same_name` compares two names. What works on one word asks that eight bytes are there, and no more. A half is four bytes.
-//
-// kept: a text and a place in it are two parameters, as in tags, and so are the numbers of a short text, constants at each call. That a
-// word is there is asked of the caller, who tests it once for a loop; a slice of eight bytes would be tested again.
+//! SWAR: eight bytes of a slice as one little-endian `u64`.
+//!
+//! `byte_from` searches for a byte, as memchr does, and `text_from` for a short text. `lacks` and
+//! `both_lack` test a few bytes without a branch for each, and `copy_few` copies a few.
+//! `stands_short` and `stands_long` compare with a literal that is given as numbers, and
+//! `same_name` compares two names. A word is eight bytes, a half is four.
+//!
+//! Functions take a slice and an offset, not a sub-slice, since what they find is an offset into
+//! the whole slice. Those that load a word require its bytes to be there: a caller tests that once
+//! for its loop, where a sub-slice would be tested again.
 #![tactic(auto, using(crate::proofs::Laws::laws))]
 
 ghost use Rattle.std.specs.Prelude.{◌≡◌, true, false, [], ◌∷◌, ◌+◌, ◌≤◌, ◌<◌, length};
@@ -18,14 +18,16 @@ ghost use Rattle.words.specs.Word.{IsWord, IsHalf};
 ghost use Rattle.words.specs.Marks.{Marked, Flagged};
 ghost use Rattle.words.specs.Standing.{StandsShort, StandsLong, Lacks};
 
-// A 1, the seven low bits, and the high bit, in each of the eight bytes.
+/// 1 in each of the eight bytes.
 const ONES: u64 = 0x0101_0101_0101_0101;
 
+/// The low seven bits of each byte.
 const LOW: u64 = 0x7f7f_7f7f_7f7f_7f7f;
 
+/// The high bit of each byte.
 const HIGH: u64 = 0x8080_8080_8080_8080;
 
-// The number of the 8 bytes from `i` on, the first one lowest. Written as this sum it is one load.
+/// The eight bytes from `i` on, little-endian. The sum compiles to one load.
 pub fn word_at(s: &[u8], i: usize) -> u64
     requires { i + 8 ≤ length s.now }
     ensures { IsWord (piece s.now i 8) result }
@@ -40,8 +42,8 @@ pub fn word_at(s: &[u8], i: usize) -> u64
         + u64::from(s[i + 7]) * 72057594037927936
 }
 
-// The number of the 4 bytes from `i` on, the first one lowest.
-// kept: a sum of its own, since a loop over a const for both would have to show that each partial sum fits.
+/// The four bytes from `i` on, little-endian. Spelled out as `word_at` is: a loop over a const
+/// length would need a proof that each partial sum fits.
 pub fn half_at(s: &[u8], i: usize) -> u64
     requires { i + 4 ≤ length s.now }
     ensures { IsHalf (piece s.now i 4) result }
@@ -52,7 +54,10 @@ pub fn half_at(s: &[u8], i: usize) -> u64
         + u64::from(s[i + 3]) * 16777216
 }
 
-// The high bit of each of the 8 bytes from `i` on that is `x`, and no other bit. No byte carries into the next.
+/// A word with the high bit of each of the eight bytes from `i` on that is `x`, and no other bit.
+///
+/// A byte of `differs` is 0 where `x` stands. A byte that is not 0 has its high bit set in `full`:
+/// adding `LOW` to the low seven bits carries into it, never into the next byte, or it was set.
 fn marks(s: &[u8], i: usize, x: u8) -> u64
     requires { i + 8 ≤ length s.now }
     ensures { Marked x s.now i result }
@@ -62,8 +67,10 @@ fn marks(s: &[u8], i: usize, x: u8) -> u64
     HIGH - (full & HIGH)
 }
 
-// The same where one word after the other waits for it: where `x` and the bytes are below 128 none borrows from the next either,
-// and a difference tells as much in fewer steps.
+/// As `marks`, in fewer dependent steps where `x` and all eight bytes are ASCII: for hot loops.
+///
+/// Each byte of `differs` is below 128 then, so taking it from 128 never borrows, and leaves the
+/// high bit only where it is 0.
 fn quick_marks(s: &[u8], i: usize, x: u8) -> u64
     requires { i + 8 ≤ length s.now }
     ensures { Marked x s.now i result }
@@ -78,7 +85,7 @@ fn quick_marks(s: &[u8], i: usize, x: u8) -> u64
     marks(s, i, x)
 }
 
-// Whether none of the `N` bytes from `i` on is `x`: with no branch it is one comparison of all of them.
+/// Whether none of the `N` bytes from `i` on is `x`. Branch-free, and compiles to vector code.
 pub fn lacks<const N: usize>(s: &[u8], i: usize, x: u8) -> bool
     requires { i + N ≤ length s.now }
     ensures { result ≡ true → scan (until (is x)) s.now (i + N) ≡ scan (until (is x)) s.now i }
@@ -90,7 +97,8 @@ pub fn lacks<const N: usize>(s: &[u8], i: usize, x: u8) -> bool
     lacks
 }
 
-// Whether `x` is neither among the `N` bytes from `i` on nor among those from `j` on: one test for both.
+/// Whether `x` is neither among the `N` bytes from `i` on nor among those from `j` on, with one
+/// branch for both.
 pub fn both_lack<const N: usize>(s: &[u8], i: usize, j: usize, x: u8) -> bool
     requires first { i + N ≤ length s.now }
     requires second { j + N ≤ length s.now }
@@ -100,8 +108,8 @@ pub fn both_lack<const N: usize>(s: &[u8], i: usize, j: usize, x: u8) -> bool
     lacks::<N>(s, i, x) & lacks::<N>(s, j, x)
 }
 
-// Copies the `N` bytes from `i` on to `at`. All are read before the first is written: it is one load and one store.
-// kept: a place beside each slice, since callers copy from and into the middle of theirs.
+/// Copies `N` bytes, from `i` on in `s` to `at` on in `dst`. All are read before the first is
+/// written, so that it is one load and one store.
 pub fn copy_few<const N: usize>(s: &[u8], i: usize, dst: &mut [u8], at: usize)
     requires from { i + N ≤ length s.now }
     requires to { at + N ≤ length dst.old }
@@ -116,8 +124,7 @@ pub fn copy_few<const N: usize>(s: &[u8], i: usize, dst: &mut [u8], at: usize)
     }
 }
 
-// Where the first `x` from `at` on stands, or the end, byte by byte.
-// kept: this and the next two take a place beside the text, since what they find is a place of the whole text.
+/// As `byte_from`, byte by byte.
 fn byte_each(s: &[u8], at: usize, x: u8) -> usize
     ensures { result ≡ scan (until (is x)) s.now at }
 {
@@ -129,7 +136,7 @@ fn byte_each(s: &[u8], at: usize, x: u8) -> usize
     at.max(s.len())
 }
 
-// Where the first `x` from `at` on stands, or the end.
+/// The offset of the first `x` from `at` on, or `s.len()`; `at` itself where it is past the end.
 pub fn byte_from(s: &[u8], at: usize, x: u8) -> usize
     ensures { result ≡ scan (until (is x)) s.now at }
 {
@@ -138,10 +145,11 @@ pub fn byte_from(s: &[u8], at: usize, x: u8) -> usize
     }
     let last = s.len() - 8;
     let mut i = at;
-    // kept: a `while`, since its steps are words.
+    // `while`: each turn passes a word, so the step is not 1.
     while i <= last {
         let m = quick_marks(s, i, x);
         if m != 0 {
+            // The lowest mark is the first match, with eight bits for each byte before it.
             return i + (u64::trailing_zeros(m) / 8) as usize;
         }
         i += 8;
@@ -149,7 +157,8 @@ pub fn byte_from(s: &[u8], at: usize, x: u8) -> usize
     byte_each(s, i, x)
 }
 
-// The high bit of each of the 8 places from `i` on where `text` stands, and no other bit.
+/// As `marks`, for a text: the high bit of byte j where `text` stands at `i + j`. That is where all
+/// its bytes are marked, byte k at `i + j + k`.
 fn marks_of<const N: usize>(s: &[u8], i: usize, text: &[u8; N]) -> u64
     requires { i + 7 + N ≤ length s.now }
     ensures { Flagged text.now s.now i result }
@@ -161,7 +170,8 @@ fn marks_of<const N: usize>(s: &[u8], i: usize, text: &[u8; N]) -> u64
     m
 }
 
-// Where `text` first stands from `at` on, or a place near the end: before it it stands nowhere, which is all that is promised.
+/// The first place from `at` on where `text` stands, or one near the end of `s`, from which the
+/// caller searches on. Promised is only that `text` stands nowhere before it.
 pub fn text_from<const N: usize>(s: &[u8], at: usize, text: &[u8; N]) -> usize
     ensures { Lacks text.now s.now at result }
 {
@@ -170,7 +180,7 @@ pub fn text_from<const N: usize>(s: &[u8], at: usize, text: &[u8; N]) -> usize
     }
     let room = s.len() - N;
     let mut i = at;
-    // kept: a `while`, since its steps are words.
+    // `while`: each turn passes a word, so the step is not 1.
     while i < room && 7 <= room - i {
         let m = marks_of(s, i, text);
         if m != 0 {
@@ -181,7 +191,9 @@ pub fn text_from<const N: usize>(s: &[u8], at: usize, text: &[u8; N]) -> usize
     i
 }
 
-// Whether a text of at most eight bytes stands at `i`: `modulus` is 256 to its length, and `front` its number.
+/// Whether a literal of up to seven bytes stands at `i`: `modulus` is 256 to the power of its
+/// length, `front` its bytes as a little-endian number. Two parameters, not a struct: both are
+/// constants at each call.
 pub fn stands_short(s: &[u8], i: usize, modulus: u64, front: u64) -> bool
     requires { (i + 8 ≤ length s.now) × (0 < modulus) }
     ensures { StandsShort s.now i modulus front result }
@@ -189,7 +201,8 @@ pub fn stands_short(s: &[u8], i: usize, modulus: u64, front: u64) -> bool
     word_at(s, i) % modulus == front
 }
 
-// The same for a text of 8 to 16 bytes: `front` is the number of its first eight, `modulus` and `back` are of the others.
+/// The same of a literal of 8 to 15 bytes: `front` is its first eight bytes, and `modulus` and
+/// `back` are of the others, as in `stands_short`.
 pub fn stands_long(s: &[u8], i: usize, front: u64, modulus: u64, back: u64) -> bool
     requires { (i + 16 ≤ length s.now) × (0 < modulus) }
     ensures { StandsLong s.now i front modulus back result }
@@ -200,7 +213,8 @@ pub fn stands_long(s: &[u8], i: usize, front: u64, modulus: u64, back: u64) -> b
     false
 }
 
-// Two names of one length, less than 8 bytes: from 4 on by their first four bytes and their last four.
+/// `same_name` for two names of one length below 8: byte by byte below 4, else by the first four
+/// bytes and the last four, which may overlap.
 fn same_short(a: &[u8], b: &[u8]) -> bool
     requires { (length a.now < 8) × (length a.now ≡ length b.now) }
     ensures { result ≡ same a.now b.now }
@@ -215,13 +229,14 @@ fn same_short(a: &[u8], b: &[u8]) -> bool
     half_at(a, last) == half_at(b, last)
 }
 
-// Two names of one length, 8 bytes at least: their words, the last of them up to their ends.
+/// `same_name` for two names of one length from 8 on: by words from the front, then by the last
+/// eight bytes, which may overlap the word before them.
 fn same_long(a: &[u8], b: &[u8]) -> bool
     requires { (8 ≤ length a.now) × (length a.now ≡ length b.now) }
     ensures { result ≡ same a.now b.now }
 {
     let mut k = 0;
-    // kept: a `while`, since its steps are words.
+    // `while`: each turn compares a word, so the step is not 1.
     while k + 8 < a.len() {
         if word_at(a, k) != word_at(b, k) {
             return false;
@@ -232,7 +247,7 @@ fn same_long(a: &[u8], b: &[u8]) -> bool
     word_at(a, last) == word_at(b, last)
 }
 
-// Whether two names are one.
+/// Whether two names have the same bytes.
 pub fn same_name(a: &[u8], b: &[u8]) -> bool
     ensures { result ≡ same a.now b.now }
 {

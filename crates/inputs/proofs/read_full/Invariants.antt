@@ -1,4 +1,4 @@
--- What was read stands in the buffer, and each turn leaves less of it to fill.
+-- What was read is the first `done` bytes of the buffer, and each turn leaves less of it to fill.
 use Rattle.std.proofs.Common.{◌≡◌, length, take, ◌-◌, ◌≤◌}
 use Rattle.std.specs.Io.KnownBytes.{Consumes}
 use Rattle.inputs.proofs.read_full.Given as goal

@@ -1,4 +1,4 @@
--- What was written is the front of the text up to `done`, and each turn leaves less of it.
+-- The first `done` bytes of the text were written, and each turn leaves less of it.
 use Rattle.std.proofs.Common.{length, take, ◌-◌, ◌≤◌}
 use Rattle.std.specs.Io.KnownBytes.{Appends}
 use Rattle.service.proofs.write_whole.Given as goal
