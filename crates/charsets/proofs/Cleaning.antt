@@ -1,4 +1,4 @@
--- Laws of the charset test: punctuation, one byte and eight at once; the letters that are left; the names.
+-- Laws of the charset test: punctuation, one byte and eight at once; what is left; the names.
 use mathlib.Core.Path.{◌≡◌, refl, sym, ap, ◌∙◌}
 use mathlib.Core.Bool.{Bool, true, false, ◌&&◌}
 use mathlib.Core.List.{List, [], ◌∷◌, ◌++◌, append_assoc, append-nil}
@@ -51,9 +51,9 @@ passed_start h = record { rest = refl; within = h; on = omega arith }
 pub passed_on : {s : List ℕ} {from i : ℕ} → Passed s from i → i + 8 ≤ length s → {b : Bool} → (b ≡ true → cleaned (drop (i + 8) s) ≡ cleaned (drop i s)) → b ≡ true → Passed s from (i + 8)
 passed_on p h e t = record { rest = e t ∙ p.rest; within = h; on = omega (arith, p.on) }
 
--- ---- the letters
+-- ---- cleaning
 
--- a loop that cleans s stands at i, and the first n of out are the letters before it
+-- a loop that cleans s stands at i, and the first n of out are what is left of the bytes before it
 pub record Cleaning (s out : List ℕ) (i n : ℕ) : Type 0 where
   pub rest : take n out ++ cleaned (drop i s) ≡ cleaned s
   pub few : n ≤ 13

@@ -1,4 +1,4 @@
--- The laws that the proofs of functions cite, in one set: `search laws` at each goal.
+-- The laws of cleaning as one rule set, for the `tactic` attribute of src/lib.rt.
 use borrow.Author.Rules.{rules}
 use Rattle.charsets.proofs.Cleaning.{passed_start, passed_on, cleaning-start, cleaning-mark, cleaning-more, cleaning-end, compatible-none, compatible-long, compatible-short}
 

@@ -1,4 +1,4 @@
--- Which character encodings are UTF-8 compatible.
+-- Rules: Printing. Which character encodings are UTF-8 compatible.
 pub mod Charset
 pub mod Names
 pub mod Letters

@@ -1,8 +1,9 @@
-// Which character encodings are UTF-8 compatible.
-//
-// `is_compatible` promises `compatible` of specs/Charset.antt for every text: trimmed and cleaned, it is
-// empty or one of 13 names. The text is cleaned once, into an array that the longest name fits in: one
-// letter more, and it is none of them.
+//! Which character encodings are UTF-8 compatible.
+//!
+//! An encoding's name is trimmed and cleaned: punctuation is dropped, letters are lowered. It is
+//! compatible if nothing is left, or one of 13 names (`compatible`, specs/Charset.antt). The
+//! cleaned name goes to an array on the stack that holds the longest of the 13; a longer one is
+//! none of them.
 #![tactic(auto, using(crate::proofs::Laws::laws))]
 
 ghost use Rattle.std.specs.Prelude.{◌≡◌, true, ◌+◌, ◌≤◌, length, drop};
@@ -13,12 +14,12 @@ ghost use Rattle.charsets.specs.Letters.{Passed, Letters};
 use conversions::convert::lower;
 use texts::{is_among, part, trim};
 
-// How many letters the longest name has.
+/// The length of the longest known name, cleaned.
 const LONGEST: usize = 13;
 
-// ---- punctuation: '-', '_', '.', ':' and the space
+// ---- punctuation: `-`, `_`, `.`, `:` and the space
 
-// Without a branch, so that eight are tested at once.
+/// Whether a byte is punctuation. Branch-free, so that the compiler tests eight at once.
 #[tactic(auto, unfolding(crate::specs::Charset::is_punctuation))]
 fn is_punctuation(b: u8) -> bool
     ensures { result ≡ is_punctuation b }
@@ -26,7 +27,7 @@ fn is_punctuation(b: u8) -> bool
     (b == b'-') | (b == b'_') | (b == b'.') | (b == b':') | (b == b' ')
 }
 
-// Whether the 8 bytes from `i` on are punctuation.
+/// Whether the eight bytes from `i` on are all punctuation.
 fn is_punctuation_eight(s: &[u8], i: usize) -> bool
     requires { i + 8 ≤ length s.now }
     ensures { result ≡ true → cleaned (drop (i + 8) s.now) ≡ cleaned (drop i s.now) }
@@ -38,13 +39,14 @@ fn is_punctuation_eight(s: &[u8], i: usize) -> bool
     all
 }
 
-// Passes punctuation from `from` on, eight bytes at once.
-// kept: a `while`, since its steps are of eight bytes; and a place beside the text, since `clean` goes on from it.
+/// Goes from `from` on past punctuation, eight bytes at a time, and returns where the first eight
+/// stand that are not all punctuation, or where fewer than eight are left.
 fn past_eights(s: &[u8], from: usize) -> usize
     requires { from ≤ length s.now }
     ensures { Passed s.now from result }
 {
     let mut i = from;
+    // `while`: each turn consumes eight bytes.
     while i + 8 <= s.len() {
         if !is_punctuation_eight(s, i) {
             return i;
@@ -54,16 +56,16 @@ fn past_eights(s: &[u8], from: usize) -> usize
     i
 }
 
-// ---- the letters
+// ---- cleaning
 
-// Puts the letters of the cleaned text into `out`, and gives their number, where there are no more than 13.
-// kept: a `while`, since punctuation is passed eight bytes at once.
+/// Writes the cleaned name to the front of `out`, and returns its length; `None` above 13 bytes.
 fn clean(out: &mut [u8], s: &[u8]) -> Option<usize>
     requires { 13 ≤ length out.old }
     ensures { Letters s.now out.new result }
 {
     let mut i = 0;
     let mut n = 0;
+    // `while`: a turn consumes one byte, or a run of punctuation.
     while i < s.len() {
         if is_punctuation(s[i]) {
             i = past_eights(s, i + 1);
@@ -81,7 +83,7 @@ fn clean(out: &mut [u8], s: &[u8]) -> Option<usize>
 
 // ---- the names
 
-// UTF-8 compatible encodings, as they are cleaned.
+/// The known names, cleaned.
 const CHARSETS: [&[u8]; 13] = [
     b"usascii",
     b"ascii",
@@ -98,7 +100,7 @@ const CHARSETS: [&[u8]; 13] = [
     b"csutf8",
 ];
 
-// Whether a cleaned text is empty or one of the names.
+/// Whether a cleaned name is empty or a known one.
 #[tactic(auto, using(crate::proofs::Cleaning::names))]
 fn is_name(w: &[u8]) -> bool
     ensures { result ≡ is_name w.now }
@@ -106,7 +108,8 @@ fn is_name(w: &[u8]) -> bool
     w.len() == 0 || is_among(w, &CHARSETS)
 }
 
-// A text that is not empty: its array is kept out of the way of the many types that name no encoding.
+/// `is_compatible` of a name that is not empty. Out of line: most types name no encoding, and need
+/// no array.
 #[inline(never)]
 fn is_known(encoding: &[u8]) -> bool
     ensures { result ≡ compatible encoding.now }
@@ -118,6 +121,7 @@ fn is_known(encoding: &[u8]) -> bool
     is_name(part(&letters, 0, n))
 }
 
+/// Whether an encoding is UTF-8 compatible; an empty name is.
 pub fn is_compatible(encoding: &[u8]) -> bool
     ensures { result ≡ compatible encoding.now }
 {

@@ -1,4 +1,4 @@
--- Laws of the prefix cut: a text is passed part by part.
+-- Laws of the prefix cut: a text is matched part by part.
 use mathlib.Core.Path.{◌≡◌, refl, sym, ◌∙◌}
 use Rattle.std.specs.Prelude.{Option, Some, None}
 use mathlib.Core.Bool.{Bool, true, false}
@@ -54,7 +54,7 @@ module _ (s : List ℕ) (j b : ℕ) where
     unfolding past_text starts_with
     past-byte-no n = sym (pick_no (starts_with (b ∷ []) (drop j s)) _ _ (rw (drop-cons s j 0) (starts-no b (get_or s j 0) [] (drop (suc j) s) (ne_eqb _ b n))))
 
--- ---- a position of the enum name: v is its byte as shown, d whether an underscore stands before it
+-- ---- a position of the enum's name: v is its byte as shown, d whether a `_` goes before it
 
 module _ (s n : List ℕ) (i j : ℕ) {v : ℕ} (ev : v ≡ raised (get_or n i 0)) {d : Bool} (ed : d ≡ breaks_screaming n i) where
   pub past-plain : d ≡ false → {r : Option ℕ} → r ≡ past_text (v ∷ []) s j → r ≡ past_text (screaming_at n i) s j

@@ -1,4 +1,4 @@
--- Names stored where they surely fit: for each position two bytes are left.
+-- Laws of storing a name that surely fits: two bytes are left for each of its positions.
 use mathlib.Core.Path.{◌≡◌}
 use mathlib.Core.Bool.{Bool, true, false}
 use mathlib.Core.List.{List, [], ◌∷◌, ◌++◌}

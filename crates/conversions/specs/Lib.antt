@@ -1,4 +1,4 @@
--- The six name conversions.
+-- Rules: Names. The six conversions of a name.
 pub mod Letters
 pub mod Conversions
 pub mod Rules

@@ -1,5 +1,8 @@
-// The conversions as printing steps: each prints its text to an output (crate `printing`).
-// Where a name surely fits, it is stored by a loop without a test for room.
+//! Snake case, screaming snake case, camel case and Pascal case.
+//!
+//! Two traits serve the four: a `Case` puts `_` between words, a `Join` takes them out, and either
+//! changes the case of the letters. In a `Case`, a name that would fit even with a `_` before every
+//! byte, as nearly all do, is stored by a loop that does not test for room.
 ghost use Rattle.std.specs.Prelude.{◌≡◌, Bool, List, [], ◌∷◌, ℕ, ◌+◌, ◌*◌, ◌<◌, ◌≤◌, length, get_or};
 ghost use Rattle.texts.specs.Choice.{pick};
 ghost use Rattle.texts.specs.Text.{ascii};
@@ -16,6 +19,7 @@ use classes::{is_lower, is_upper};
 use printing::Output;
 use texts::byte_at;
 
+/// An upper-case letter in lower case; any other byte as it is.
 #[tactic(auto, using(crate::proofs::Letters::letters))]
 pub fn lower(b: u8) -> u8
     ensures { result ≡ lowered b }
@@ -23,6 +27,7 @@ pub fn lower(b: u8) -> u8
     if is_upper(b) { b + 32 } else { b }
 }
 
+/// A lower-case letter in upper case; any other byte as it is.
 #[tactic(auto, using(crate::proofs::Letters::letters))]
 pub(crate) fn raise(b: u8) -> u8
     ensures { result ≡ raised b }
@@ -30,26 +35,28 @@ pub(crate) fn raise(b: u8) -> u8
     if is_lower(b) { b - 32 } else { b }
 }
 
-// ---- cases whose words are parted by underscores
+// ---- snake case and screaming snake case
 
-// Such a case: where it breaks, and how it shows a byte.
+/// A case with `_` between words: where a `_` goes (`breaks`), and how a byte is shown (`shown`).
 pub(crate) trait Case {
     ghost breaks: { List ℕ → ℕ → Bool };
 
     ghost shown: { ℕ → ℕ };
 
-    // Whether an underscore stands before position `i`, and how its byte is shown: by one look at the byte's class.
+    /// Whether a `_` goes before position `i`, and the byte there as it is shown. One call for
+    /// both, as the class of the byte decides both.
     fn at(&self, name: &[u8], i: usize) -> (bool, u8)
         requires { i < length name.now }
         ensures { (result.0 ≡ breaks name.now i) × (result.1 ≡ shown (get_or name.now i 0)) };
 }
 
-// Whether a small letter follows position `i`.
-// kept: the place is compared with the last one, not the next with the end, so that the loop above counts by one number.
+/// Whether a lower-case letter stands right after position `i`.
 fn precedes_lower(name: &[u8], i: usize) -> bool
     requires { i < length name.now }
     ensures { result ≡ is_lower (get_or name.now (i + 1) 0) }
 {
+    // `i` against the last position, not `i + 1` against the length: the loop that inlines this
+    // then counts with one variable.
     if name.len() - 1 <= i {
         return false;
     }
@@ -61,6 +68,7 @@ struct Snake;
 
 #[tactic(auto, unfolding(crate::specs::Conversions::breaks_snake))]
 impl Snake {
+    /// Whether a `_` goes before position `i`.
     fn breaks(&self, name: &[u8], i: usize) -> bool
         requires { i < length name.now }
         ensures { result ≡ breaks_snake name.now i }
@@ -128,15 +136,16 @@ impl Case for Screaming {
     }
 }
 
-// Whether a name of `n` bytes fits into `room` from `at` on even with an underscore before each byte.
+/// Whether `n` bytes, each with a `_` before it, fit from `at` on in a slice of `room` bytes.
 fn surely_fits(room: usize, at: usize, n: usize) -> bool
     ensures { Roomy result room at n }
 {
     at < room && n <= (room - at) / 2
 }
 
-// An underscore at `at`, where `on` says so.
-// kept, here and below: a slice and a position, as under `Output` itself, so that the loop has both in registers.
+/// Stores a `_` at `at` where `on` is set, and returns the next position.
+///
+/// A slice and a position, not an `Output`: so the loop below has both in registers.
 fn store_break(out: &mut [u8], at: usize, on: bool) -> usize
     requires { Ample out.old at }
     ensures { Printed out.old at out.new result (pick on (ascii "_") []) }
@@ -148,7 +157,7 @@ fn store_break(out: &mut [u8], at: usize, on: bool) -> usize
     at
 }
 
-// A name that surely fits.
+/// Stores a name that surely fits, and returns the next position.
 fn store<C: Case>(out: &mut [u8], at: usize, case: &C, name: &[u8]) -> usize
     requires { at + 2 * length name.now ≤ length out.old }
     ensures { Printed out.old at out.new result (cased C.breaks C.shown name.now) }
@@ -163,7 +172,7 @@ fn store<C: Case>(out: &mut [u8], at: usize, case: &C, name: &[u8]) -> usize
     p
 }
 
-// A position of a name that may not fit.
+/// Writes what position `i` of a name gives.
 #[tactic(auto, unfolding(crate::specs::Rules::cased_at), using(printing::proofs::Writing::writing))]
 fn write_at<C: Case>(out: &mut Output<'_>, case: &C, name: &[u8], i: usize)
     requires { i < length name.now }
@@ -174,6 +183,7 @@ fn write_at<C: Case>(out: &mut Output<'_>, case: &C, name: &[u8], i: usize)
     out.byte(shown);
 }
 
+/// Writes a name that may not fit: what does not is counted.
 #[tactic(auto, unfolding(crate::specs::Rules::cased), using(printing::proofs::Writing::writing))]
 fn write_each<C: Case>(out: &mut Output<'_>, case: &C, name: &[u8])
     ensures { Wrote out.old out.new (cased C.breaks C.shown name.now) }
@@ -183,7 +193,8 @@ fn write_each<C: Case>(out: &mut Output<'_>, case: &C, name: &[u8])
     }
 }
 
-// A name that may not fit: rare, and so kept out of the way of those that do.
+/// `write_each` over a slice and a position. Cold and out of line, since names that do not fit are
+/// rare.
 #[cold]
 #[inline(never)]
 #[tactic(auto, unfolding(printing::specs::Written::written))]
@@ -195,6 +206,7 @@ fn put_each<C: Case>(out: &mut [u8], at: usize, case: &C, name: &[u8]) -> usize
     o.at
 }
 
+/// Prints a name from `at` on, and returns the next position.
 #[inline(always)]
 fn put<C: Case>(out: &mut [u8], at: usize, case: &C, name: &[u8]) -> usize
     ensures { Printed out.old at out.new result (cased C.breaks C.shown name.now) }
@@ -205,6 +217,7 @@ fn put<C: Case>(out: &mut [u8], at: usize, case: &C, name: &[u8]) -> usize
     put_each(out, at, case, name)
 }
 
+/// Prints a name in a case.
 #[inline(always)]
 #[tactic(auto, unfolding(printing::specs::Written::written))]
 fn write<C: Case>(out: &mut Output<'_>, case: &C, name: &[u8])
@@ -213,7 +226,7 @@ fn write<C: Case>(out: &mut Output<'_>, case: &C, name: &[u8])
     out.at = put(out.bytes, out.at, case, name);
 }
 
-// kept, with the three like it: each names the text that it writes.
+/// Prints a name in snake case.
 #[tactic(auto, unfolding(crate::specs::Conversions::camel_to_snake, crate::specs::Conversions::snake_at, crate::specs::Rules::cased, crate::specs::Rules::cased_at))]
 #[inline(always)]
 pub fn write_snake(out: &mut Output<'_>, name: &[u8])
@@ -222,6 +235,7 @@ pub fn write_snake(out: &mut Output<'_>, name: &[u8])
     write(out, &Snake, name);
 }
 
+/// Prints a name in screaming snake case.
 #[tactic(auto, unfolding(crate::specs::Conversions::camel_to_screaming_snake, crate::specs::Conversions::screaming_at, crate::specs::Rules::cased, crate::specs::Rules::cased_at))]
 pub fn write_screaming(out: &mut Output<'_>, name: &[u8])
     ensures { Wrote out.old out.new (camel_to_screaming_snake name.now) }
@@ -229,17 +243,19 @@ pub fn write_screaming(out: &mut Output<'_>, name: &[u8])
     write(out, &Screaming, name);
 }
 
-// ---- back from snake
+// ---- camel case and Pascal case
 
-// A case whose words are joined, each raised: how it shows a position that is no underscore.
+/// A case without `_` between words: how a position is shown that is no `_`.
 trait Join {
     ghost shown: { List ℕ → ℕ → ℕ };
 
+    /// The byte at position `i` as it is shown.
     fn at(&self, name: &[u8], i: usize) -> u8
         requires { i < length name.now }
         ensures { result ≡ shown name.now i };
 }
 
+/// Whether position `i` stands right after a `_`.
 #[tactic(auto, unfolding(crate::specs::Conversions::follows))]
 fn follows_underscore(name: &[u8], i: usize) -> bool
     ensures { result ≡ follows name.now i }
@@ -250,6 +266,7 @@ fn follows_underscore(name: &[u8], i: usize) -> bool
     byte_at(name, i - 1) == b'_'
 }
 
+/// Camel case: a letter is raised after `_`.
 #[derive(Clone, Copy)]
 struct Camel;
 
@@ -266,6 +283,7 @@ impl Join for Camel {
     }
 }
 
+/// Pascal case: a letter is raised at the front and after `_`, and lowered elsewhere.
 #[derive(Clone, Copy)]
 struct Pascal;
 
@@ -285,6 +303,7 @@ impl Join for Pascal {
     }
 }
 
+/// Writes what position `i` of a name gives: nothing for `_`.
 #[tactic(auto, unfolding(crate::specs::Rules::joined_at), using(printing::proofs::Writing::writing))]
 fn write_joined_at<J: Join>(out: &mut Output<'_>, join: &J, name: &[u8], i: usize)
     requires { i < length name.now }
@@ -295,6 +314,7 @@ fn write_joined_at<J: Join>(out: &mut Output<'_>, join: &J, name: &[u8], i: usiz
     }
 }
 
+/// Writes a name without its `_`.
 #[tactic(auto, unfolding(crate::specs::Rules::joined), using(printing::proofs::Writing::writing))]
 fn write_joined<J: Join>(out: &mut Output<'_>, join: &J, name: &[u8])
     ensures { Wrote out.old out.new (joined J.shown name.now) }
@@ -304,6 +324,7 @@ fn write_joined<J: Join>(out: &mut Output<'_>, join: &J, name: &[u8])
     }
 }
 
+/// Prints a name in camel case.
 #[tactic(auto, unfolding(crate::specs::Conversions::snake_to_camel, crate::specs::Conversions::camel_at, crate::specs::Rules::joined, crate::specs::Rules::joined_at, crate::specs::Rules::camel_shown))]
 pub fn write_camel(out: &mut Output<'_>, name: &[u8])
     ensures { Wrote out.old out.new (snake_to_camel name.now) }
@@ -311,6 +332,7 @@ pub fn write_camel(out: &mut Output<'_>, name: &[u8])
     write_joined(out, &Camel, name);
 }
 
+/// Prints a name in Pascal case.
 #[tactic(auto, unfolding(crate::specs::Conversions::screaming_snake_to_pascal, crate::specs::Conversions::pascal_at, crate::specs::Rules::joined, crate::specs::Rules::joined_at, crate::specs::Rules::pascal_shown))]
 pub fn write_pascal(out: &mut Output<'_>, name: &[u8])
     ensures { Wrote out.old out.new (screaming_snake_to_pascal name.now) }

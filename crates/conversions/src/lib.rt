@@ -1,9 +1,8 @@
-// The six name conversions as printing steps, for the generator and for the entries of the crate `names`.
-//
-// Each step prints its name to an output, and promises on all inputs that what stands there is the
-// converted name of specs/Conversions.antt (`Wrote`, crate `printing`). None refuses a name, and none has a work buffer.
-//
-// kept: a value name and its enum's name are two parameters, as a caller has them, and so are a name and a place in it.
+//! The six name conversions as printing steps.
+//!
+//! Each step prints its converted name (specs/Conversions.antt) to an `Output` and promises every
+//! byte of it, on all inputs (`Wrote`, crate `printing`). None refuses a name, and none needs a
+//! work buffer. The generator calls them as they are; the crate `names` makes entries of them.
 #![tactic(auto)]
 
 pub mod convert;

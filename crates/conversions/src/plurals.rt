@@ -1,4 +1,5 @@
-// Plurals made singular, in Pascal case: `ies` at the end becomes `y`, and a single `s` goes.
+//! The singular of a plural name, its first letter raised: a last `ies` becomes `y`, and a last `s`
+//! goes unless it follows another `s`.
 ghost use Rattle.std.specs.Prelude.{◌≡◌};
 ghost use Rattle.printing.specs.Written.{Wrote};
 ghost use Rattle.conversions.specs.Conversions.{ends_with, ends_in_ies, ends_in_s, capitalized, singular_pascal};
@@ -7,7 +8,6 @@ use crate::convert::raise;
 use printing::Output;
 use texts::part;
 
-// Whether the name ends with `end`.
 fn ends_with(name: &[u8], end: &[u8]) -> bool
     ensures { result ≡ ends_with end.now name.now }
 {
@@ -17,7 +17,6 @@ fn ends_with(name: &[u8], end: &[u8]) -> bool
     texts::starts_with(name, name.len() - end.len(), end)
 }
 
-// Writes the name with its first letter raised.
 #[tactic(auto, using(crate::proofs::Singular::laws))]
 fn write_capitalized(out: &mut Output<'_>, name: &[u8])
     ensures { Wrote out.old out.new (capitalized name.now) }
@@ -29,6 +28,7 @@ fn write_capitalized(out: &mut Output<'_>, name: &[u8])
     out.text(&name[1..]);
 }
 
+/// Whether the name ends in `ies` and is longer than that.
 #[tactic(auto, unfolding(crate::specs::Conversions::ends_in_ies))]
 fn ends_in_ies(name: &[u8]) -> bool
     ensures { result ≡ ends_in_ies name.now }
@@ -36,6 +36,7 @@ fn ends_in_ies(name: &[u8]) -> bool
     3 < name.len() && ends_with(name, b"ies")
 }
 
+/// Whether the name ends in one `s`, not two, and is longer than that.
 #[tactic(auto, unfolding(crate::specs::Conversions::ends_in_s))]
 fn ends_in_s(name: &[u8]) -> bool
     ensures { result ≡ ends_in_s name.now }
@@ -43,6 +44,7 @@ fn ends_in_s(name: &[u8]) -> bool
     1 < name.len() && ends_with(name, b"s") && !ends_with(name, b"ss")
 }
 
+/// Prints the singular of a name, its first letter raised.
 #[tactic(auto, using(crate::proofs::Singular::laws))]
 pub fn write_singular(out: &mut Output<'_>, name: &[u8])
     ensures { Wrote out.old out.new (singular_pascal name.now) }

@@ -1,5 +1,7 @@
-// The enum's prefix of a value name: cut without a work buffer, by comparing the value name with the
-// enum's screaming name as it would be printed.
+//! The prefix of an enum's value names: the enum's name in screaming snake case and a `_`.
+//!
+//! The prefix is never written out. The value's name is compared with it position by position, so
+//! that no work buffer is needed.
 ghost use Rattle.std.specs.Prelude.{◌≡◌, [], ◌∷◌, ◌<◌, length};
 ghost use Rattle.printing.specs.Written.{Wrote};
 ghost use Rattle.conversions.specs.Conversions.{screaming_at, prefix_of, without_prefix, strip_enum_prefix};
@@ -8,7 +10,7 @@ ghost use Rattle.conversions.specs.Prefix.{past_text};
 use crate::convert::{Case, Screaming, write_pascal};
 use printing::Output;
 
-// The place past the byte `b`, where it stands at `j`.
+/// The position after `j` if `b` stands at `j`, else `None`.
 #[tactic(auto, using(crate::proofs::Cutting::cutting))]
 fn past_byte(value: &[u8], j: usize, b: u8) -> Option<usize>
     ensures { result ≡ past_text (b ∷ []) value.now j }
@@ -19,7 +21,8 @@ fn past_byte(value: &[u8], j: usize, b: u8) -> Option<usize>
     if value[j] == b { Some(j + 1) } else { None }
 }
 
-// The place past what position `i` of the enum name gives, where it stands at `j`.
+/// The position after what position `i` of the enum's name gives in screaming snake case, if that
+/// stands at `j`; else `None`.
 #[tactic(auto, using(crate::proofs::Cutting::cutting))]
 fn past_position(
     case: &Screaming,
@@ -39,7 +42,7 @@ fn past_position(
     past_byte(value, j, shown)
 }
 
-// The place past the enum's screaming name and an underscore, where they stand at the front of the value name.
+/// The position after the prefix if the value's name begins with it, else `None`.
 #[tactic(auto, using(crate::proofs::Cutting::cutting))]
 fn past_prefix(value: &[u8], enum_name: &[u8]) -> Option<usize>
     ensures { result ≡ past_text (prefix_of enum_name.now) value.now 0 }
@@ -52,7 +55,8 @@ fn past_prefix(value: &[u8], enum_name: &[u8]) -> Option<usize>
     past_byte(value, j, b'_')
 }
 
-// The value name without the enum's prefix: a part of the value name, never of the enum name.
+/// The value's name without the prefix, or all of it where it does not begin with it. The result is
+/// a part of the value's name, never of the enum's, as its lifetime says.
 #[tactic(auto, using(crate::proofs::Cutting::cutting))]
 pub fn without_prefix<'a>(value: &'a [u8], enum_name: &[u8]) -> &'a [u8]
     ensures { result.now ≡ without_prefix value.now enum_name.now }
@@ -63,7 +67,7 @@ pub fn without_prefix<'a>(value: &'a [u8], enum_name: &[u8]) -> &'a [u8]
     }
 }
 
-// Writes the value name without the enum's prefix, in Pascal case.
+/// Prints the value's name without the prefix, in Pascal case.
 #[tactic(auto, unfolding(crate::specs::Conversions::strip_enum_prefix))]
 pub fn write_stripped(out: &mut Output<'_>, value: &[u8], enum_name: &[u8])
     ensures { Wrote out.old out.new (strip_enum_prefix value.now enum_name.now) }

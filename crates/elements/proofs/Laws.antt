@@ -1,4 +1,4 @@
--- The laws that the proofs of functions cite, in one set, which the attribute of each file names.
+-- The laws of the elements' names as one rule set, for the `tactic` attribute of src/lib.rt.
 use borrow.Author.Rules.{rules}
 use Rattle.elements.proofs.Naming.{is-schema, is-type, is-ref, is-composite, is-enum, is_later, is-value, is-message, is-group, is_field, is-other, at_field, at-group, at-type, at_enum, at-message, at_value, at-composite, at-any, other-four, other-five}
 

@@ -70,7 +70,7 @@ module _ (name : List ℕ) {a : Bool} (ea : a ≡ same name (ascii "validValue")
         unfolding other_element_of
         is-other t = rw (← ea, fa, ← eb, fb, ← ec, fc, ← ed, t)
 
--- ---- a name that stands in a document, told by its numbers
+-- ---- a name in a document, compared as integers
 
 module _ (doc : List ℕ) (at : ℕ) {len : ℕ} {b : Bool} where
   by-short : (name : List ℕ) {modulus front : ℕ} → ShortText name modulus front → StandsShort doc at modulus front b → b ≡ true → len ≡ length name → element_of (piece doc at len) ≡ element_of name

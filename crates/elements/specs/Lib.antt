@@ -1,2 +1,2 @@
--- The elements that a schema is made of.
+-- Rules: The builder. The elements that it knows.
 pub mod Elements

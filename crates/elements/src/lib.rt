@@ -1,9 +1,8 @@
-// The elements that the builder knows.
-//
-// `element_of` promises `element_of` of specs/Elements.antt for every name, and `element_at` for every piece of a document:
-// it tells the names that nearly every tag has by a word or two.
-//
-// kept: a document and a place in it are two parameters, as in tags.
+//! The elements that the builder knows, by name.
+//!
+//! `element_of` compares a name with each of theirs. `element_at` answers the same for a name in a
+//! document (specs/Elements.antt), by the name's length and then eight bytes at once as one integer
+//! (SWAR).
 #![tactic(auto, using(crate::proofs::Laws::laws))]
 
 ghost use Rattle.std.specs.Prelude.{◌≡◌, ◌+◌, ◌≤◌, length};
@@ -13,6 +12,7 @@ ghost use Rattle.elements.specs.Elements.{element_of, other_element_of};
 use texts::{equal, part};
 use words::{stands_long, stands_short};
 
+/// An element that the builder knows; `Other` is every other.
 #[derive(Clone, Copy)]
 pub enum Element {
     MessageSchema,
@@ -27,8 +27,7 @@ pub enum Element {
     Other,
 }
 
-// The names behind the first five.
-// kept: text by text, as in `element_of`.
+/// The element of a name that is none of the first five; split off as in the definition.
 fn other_element_of(name: &[u8]) -> Element
     ensures { result ≡ other_element_of name.now }
 {
@@ -45,11 +44,12 @@ fn other_element_of(name: &[u8]) -> Element
     }
 }
 
-// What an element's name says.
-// kept: a `match` of byte strings would tell the proof of the last arm only lengths.
+/// The element of a name.
 pub fn element_of(name: &[u8]) -> Element
     ensures { result ≡ element_of name.now }
 {
+    // An `if` chain, not a `match` of byte strings: the proof of its last arm would know lengths
+    // only.
     if equal(name, b"messageSchema") {
         Element::MessageSchema
     } else if equal(name, b"type") {
@@ -65,7 +65,8 @@ pub fn element_of(name: &[u8]) -> Element
     }
 }
 
-// What a name of 3 to 5 bytes in a document says.
+/// The element of the name of 3 to 5 bytes at `at`. Each pair of numbers is 256 to the power of the
+/// name's length, and the name as an integer, its first byte lowest.
 #[inline(always)]
 fn short_element_at(doc: &[u8], at: usize, len: usize) -> Element
     requires { at + 16 ≤ length doc.now }
@@ -84,7 +85,8 @@ fn short_element_at(doc: &[u8], at: usize, len: usize) -> Element
     }
 }
 
-// The same of a longer one.
+/// The same for a name of 7, 9, 10 or 13 bytes. `stands_long` takes the first eight bytes as an
+/// integer, then the rest as above.
 #[inline(always)]
 fn long_element_at(doc: &[u8], at: usize, len: usize) -> Element
     requires { at + 16 ≤ length doc.now }
@@ -99,8 +101,9 @@ fn long_element_at(doc: &[u8], at: usize, len: usize) -> Element
     }
 }
 
-// What the name of `len` bytes at `at` says. Up to 16 bytes before the document's end a length that no element's name has
-// says it at once, and else words are compared.
+/// The element of the name of `len` bytes at `at`. A length that no element's name has is answered
+/// at once, without a look at the bytes; near the document's end, where sixteen bytes cannot be
+/// loaded, the name is compared as a slice.
 #[inline(always)]
 pub fn element_at(doc: &[u8], at: usize, len: usize) -> Element
     ensures { result ≡ element_of (piece doc.now at len) }

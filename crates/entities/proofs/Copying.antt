@@ -1,4 +1,5 @@
--- Laws of copying words that lack '&': the loop that copies them, the last word over what is copied already, and the rest.
+-- Laws of copying text without `&`: eight bytes at a time, the last eight over bytes that are
+-- copied already, and the rest.
 use mathlib.Core.Path.{◌≡◌, refl, sym, ap, ◌∙◌}
 use mathlib.Core.Bool.{Bool, true, false, not}
 use mathlib.Core.List.{List, [], ◌∷◌, ◌++◌, append-nil}
@@ -161,7 +162,7 @@ module _ (w : ℕ) (s d : List ℕ) (at : ℕ) (g : w ≤ length s) {d₁ : List
       let front : PlainTo s d at d₁ w = record { left = p; lacks = f₁ t; within = g } in
       plain_over front w g (omega arith) (f₂ t) q
 
--- ---- a part of the document, known by another name
+-- ---- a part of the document, as another list that equals it
 
 length-piece-le : (s : List ℕ) (a n : ℕ) → length (piece s a n) ≤ n
 length-piece-le s a n = rw length-take (omega arith)

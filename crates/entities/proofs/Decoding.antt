@@ -135,7 +135,8 @@ module _ (s : List ℕ) (i : ℕ) {u : Unit} (h : i < length s) (e : u ≡ front
       let k : suc i + (u.len - 1) ≡ i + u.len = omega (arith, unit-some) in
       rw (drop-cons s i 0 h, decoded-cons (get_or s i 0) (drop (suc i) s) u unit-is, drop-drop, k)
 
--- a loop that decodes s from `from` on into d₀ from `to` on has read up to i, and written up to o, where d stands now
+-- a loop that decodes s from `from` on into d₀ from `to` on has read up to i and written up to o,
+-- which makes d of d₀
 pub record Decoding (s : List ℕ) (from : ℕ) (d₀ : List ℕ) (to : ℕ) (d : List ℕ) (i o : ℕ) : Type 0 where
   pub out : sets d o (decoded (drop i s)) ≡ sets d₀ to (decoded (drop from s))
   pub past : o + length (decoded (drop i s)) ≡ to + length (decoded (drop from s))
@@ -168,11 +169,11 @@ decoding-not s d at h = let t = lt-leb (at + length s) (length d) (omega arith) 
 pub decoding-short : (s d : List ℕ) (at : ℕ) → length d - at < length s → DecodedInto s d at None d
 decoding-short s d at h = let t = lt-leb (at + length s) (length d) (omega arith) in record { says = rw t; left = rw t }
 
--- the text is known under another name
+-- the text as another list that equals it
 pub decoding-same : {w raw d e : List ℕ} {at : ℕ} {r : Option ℕ} → w ≡ raw → DecodedInto w d at r e → DecodedInto raw d at r e
 decoding-same p q = rw (← p) q
 
--- ---- what the answer tells: room for the raw text is asked, and no more
+-- ---- the answer: whether the raw text fits
 
 module _ (raw d e : List ℕ) (at : ℕ) {r : Option ℕ} (q : DecodedInto raw d at r e) where
   pub decoded-fits : at + length raw ≤ length d → (r ≡ Some (length (decoded raw))) × (e ≡ sets d at (decoded raw))

@@ -1,11 +1,13 @@
--- The five entities, decoded once, from left to right in one pass; every other '&' stays.
+-- Rules: Markup. The five entities, decoded once, from left to right in one pass; every other `&`
+-- stays.
 use Rattle.std.specs.Prelude.{◌≡◌, List, [], ◌∷◌, ℕ, zero, suc, ◌+◌, ◌-◌, eqb, leb, length, Option, Some, None}
 use Rattle.std.proofs.lemmas.List.Edits.{sets}
 use Rattle.texts.specs.Choice.{pick}
 use Rattle.texts.specs.Text.{ascii, starts_with}
 use Rattle.entities.specs.declared.Unit.{Unit}
 
--- a '&' and what follows it: the byte that they stand for, and how many bytes they are together
+-- a `&` with the text s behind it: the byte that they stand for, and how many bytes they take
+-- together
 unfoldable pub entity : List ℕ → Unit
 entity s =
     pick (starts_with (ascii "lt;") s) (record { byte = 60; len = 4 })
@@ -15,22 +17,24 @@ entity s =
     (pick (starts_with (ascii "amp;") s) (record { byte = 38; len = 5 })
     (record { byte = 38; len = 1 })))))
 
--- the byte that the front of a text stands for, and how many bytes the front is
+-- the byte that the front of a text stands for, and how many bytes the front takes
 unfoldable pub front : List ℕ → Unit
 front [] = record { byte = 0; len = 1 }
 front (x ∷ xs) = pick (eqb x 38) (entity xs) (record { byte = x; len = 1 })
 
--- the text decoded, with its first k bytes passed over
+-- a text decoded, but for its first k bytes
 unfoldable pub decoded_past : ℕ → List ℕ → List ℕ
 decoded_past k [] = []
 decoded_past zero (x ∷ xs) = let u = front (x ∷ xs) in u.byte ∷ decoded_past (u.len - 1) xs
 decoded_past (suc k) (x ∷ xs) = decoded_past k xs
 
+-- a text decoded
 abbrev pub decoded : List ℕ → List ℕ
 decoded s = decoded_past 0 s
 
--- Decoding a text into a lent slice dst at a place: room is asked for the raw length, and then the decoded bytes lie in dst from
--- that place on; else dst is as it was.
+-- what decoding promises of the text raw, the slice dst and the place `at`: where the raw bytes
+-- fit, the answer is the decoded length, and the decoded bytes lie in dst from `at` on; else None,
+-- and dst is as it was
 pub record DecodedInto (raw dst : List ℕ) (at : ℕ) (answer : Option ℕ) (after : List ℕ) : Type 0 where
   pub says : answer ≡ pick (leb (at + length raw) (length dst)) (Some (length (decoded raw))) None
   pub left : after ≡ pick (leb (at + length raw) (length dst)) (sets dst at (decoded raw)) dst

@@ -1,3 +1,3 @@
--- The five entities, and what decoding has written on the way.
+-- Rules: Markup. The five entities; and what decoding has written so far.
 pub mod Entities
 pub mod Copying

@@ -1,12 +1,12 @@
-// The five entities.
-//
-// `decode` writes a part of the document, its entities decoded, into a lent slice. It requires
-// nothing of a caller: it asks for room itself, and promises `DecodedInto` of specs/Entities.antt
-// on all inputs. `decode_room` is the same for a caller that has room. Decoding never lengthens a
-// text (proofs/Decoding.antt), and one without '&' stays as it is (proofs/Copying.antt).
-//
-// kept: what is decoded, where to, and at which place are three parameters: the text buffer is filled from both ends, so that no output
-// with a position of its own stands for it. The room is asked of the caller, as `decode` alone tests it.
+//! The five entities, `&lt;` `&gt;` `&quot;` `&apos;` and `&amp;`, decoded once.
+//!
+//! `decode` writes a piece of the document, decoded, into a lent slice at a position, or answers
+//! `None` where the raw bytes would not fit there (`DecodedInto`, specs/Entities.antt);
+//! `decode_room` is for a caller that knows that they fit. Decoding never lengthens a text. Texts
+//! without `&`, nearly all, are copied four or eight bytes at a time, the last copy overlapping the
+//! one before.
+//!
+//! A slice and a position, not an `Output`: the builder fills its text buffer from both ends.
 #![tactic(auto, using(crate::proofs::Laws::laws, crate::proofs::Copying::plain))]
 
 ghost use Rattle.std.specs.Prelude.{◌≡◌, ◌+◌, ◌-◌, ◌≤◌, ◌<◌, length, drop};
@@ -17,14 +17,15 @@ ghost use Rattle.entities.specs.Copying.{PlainTo, RestInto};
 
 use words::{both_lack, copy_few, lacks};
 
-// The byte that stands at a place, and of how many bytes it is written.
+/// What stands at a position of a text: the byte that it decodes to, and how many raw bytes it
+/// takes.
 #[derive(Clone, Copy)]
 pub struct Unit {
     pub byte: u8,
     pub len: usize,
 }
 
-// kept, here and below: places beside the texts, since the builder counts those of the whole document and text buffer.
+/// The entity or the byte at `at`.
 fn unit_at(s: &[u8], at: usize) -> Unit
     requires { at < length s.now }
     ensures { result ≡ front (drop at s.now) }
@@ -34,7 +35,8 @@ fn unit_at(s: &[u8], at: usize) -> Unit
         return Unit { byte: b, len: 1 };
     }
     let n = at + 1;
-    // kept: a `match` of byte strings would tell the proof of the last arm only lengths.
+    // An `if` chain, not a `match` of byte strings: the proof of its last arm would know lengths
+    // only.
     if texts::starts_with(s, n, b"lt;") {
         Unit { byte: b'<', len: 4 }
     } else if texts::starts_with(s, n, b"gt;") {
@@ -53,8 +55,8 @@ fn unit_at(s: &[u8], at: usize) -> Unit
     }
 }
 
-// Unit by unit from `from` on, into `dst` from `to` on: the place where they end. Decoding never lengthens, so that room
-// for the raw bytes is room enough.
+/// Decodes `raw` from `from` on into `dst` from `to` on, one entity or byte at a time, and returns
+/// the position behind it. Room for the raw bytes is enough.
 #[inline(never)]
 fn decode_each(raw: &[u8], from: usize, dst: &mut [u8], to: usize) -> usize
     requires { to + (length raw.now - from) ≤ length dst.old }
@@ -62,7 +64,7 @@ fn decode_each(raw: &[u8], from: usize, dst: &mut [u8], to: usize) -> usize
 {
     let mut i = from;
     let mut o = to;
-    // kept: a `while`, since its steps are entities or bytes.
+    // `while`: each turn consumes an entity or a byte, so the step is not 1.
     while i < raw.len() {
         let u = unit_at(raw, i);
         dst[o] = u.byte;
@@ -72,13 +74,14 @@ fn decode_each(raw: &[u8], from: usize, dst: &mut [u8], to: usize) -> usize
     o
 }
 
-// Copies the words at the front that lack '&': how many bytes they are.
+/// Copies `raw` eight bytes at a time, up to the first eight that contain a `&`, and returns how
+/// many bytes it copied.
 fn copy_plain(raw: &[u8], dst: &mut [u8], at: usize) -> usize
     requires { at + length raw.now ≤ length dst.old }
     ensures { PlainTo raw.now dst.old at dst.new result }
 {
     let mut i = 0;
-    // kept: a `while`, since its steps are words.
+    // `while`: each turn consumes eight bytes.
     while i + 8 <= raw.len() {
         if lacks::<8>(raw, i, b'&') {
             copy_few::<8>(raw, i, dst, at + i);
@@ -90,8 +93,8 @@ fn copy_plain(raw: &[u8], dst: &mut [u8], at: usize) -> usize
     i
 }
 
-// Eight bytes at once as long as they lack '&', the last eight over what is copied already; the rest unit by unit: how
-// many bytes are written.
+/// Decodes a text of any length, and returns how many bytes it wrote: eight bytes at a time as far
+/// as there is no `&`, the last eight overlapping those before, and what is left by `decode_each`.
 #[inline(never)]
 fn decode_long(raw: &[u8], dst: &mut [u8], at: usize) -> usize
     requires { at + length raw.now ≤ length dst.old }
@@ -114,7 +117,8 @@ fn decode_long(raw: &[u8], dst: &mut [u8], at: usize) -> usize
     decode_each(raw, i, dst, at + i) - at
 }
 
-// At most 8 bytes: where there are 4 and none is '&', as two halves, of which the second may lie over the first.
+/// Decodes a text of at most 8 bytes, and returns how many bytes it wrote. From 4 bytes on, and
+/// without `&`, it is copied as its first four bytes and its last four, which may overlap.
 fn decode_short(raw: &[u8], dst: &mut [u8], at: usize) -> usize
     requires { (at + length raw.now ≤ length dst.old) × (length raw.now ≤ 8) }
     ensures { RestInto raw.now dst.old at (at + result) dst.new }
@@ -131,7 +135,8 @@ fn decode_short(raw: &[u8], dst: &mut [u8], at: usize) -> usize
     decode_each(raw, 0, dst, at) - at
 }
 
-// Most values have 8 to 16 bytes, and no '&': two words, of which the second may lie over the first.
+/// Decodes a text of any length, and returns how many bytes it wrote. Most have 8 to 16 bytes and
+/// no `&`, and are copied as their first eight bytes and their last eight, which may overlap.
 fn decode_all(raw: &[u8], dst: &mut [u8], at: usize) -> usize
     requires { at + length raw.now ≤ length dst.old }
     ensures { RestInto raw.now dst.old at (at + result) dst.new }
@@ -151,8 +156,8 @@ fn decode_all(raw: &[u8], dst: &mut [u8], at: usize) -> usize
     decode_long(raw, dst, at)
 }
 
-// Writes `len` bytes of the document from `from` on, entities decoded, into `dst` at `at`, where there is room for them
-// raw: how many bytes are written.
+/// Writes `len` bytes of the document from `from` on, decoded, into `dst` at `at`, and returns how
+/// many bytes it wrote. The caller has room for the raw bytes.
 pub fn decode_room(doc: &[u8], from: usize, len: usize, dst: &mut [u8], at: usize) -> usize
     requires { at + len ≤ length dst.old }
     ensures { (result ≡ length (decoded (piece doc.now from len))) × (dst.new ≡ sets dst.old at (decoded (piece doc.now from len))) }
@@ -160,8 +165,7 @@ pub fn decode_room(doc: &[u8], from: usize, len: usize, dst: &mut [u8], at: usiz
     decode_all(texts::part(doc, from, len), dst, at)
 }
 
-// The same wherever it is to be written: how many bytes are written, or nothing, where there is no room. Room is asked for
-// the raw bytes.
+/// The same for any `dst` and `at`: `None`, and nothing written, where the raw bytes would not fit.
 pub fn decode(doc: &[u8], from: usize, len: usize, dst: &mut [u8], at: usize) -> Option<usize>
     ensures { DecodedInto (piece doc.now from len) dst.old at result dst.new }
 {

@@ -1,4 +1,5 @@
--- Runs of bytes that are shown as they stand: what is to be written from the place i on is the run, then what is to be written behind it.
+-- Laws of writing run by run: what is to be written from position i on is the run, then what comes
+-- behind it.
 use mathlib.Core.Path.{◌≡◌, refl, sym, ap, ◌∙◌}
 use mathlib.Core.Bool.{Bool, true, false}
 use mathlib.Core.List.{List, [], ◌∷◌, ◌++◌}
@@ -41,7 +42,7 @@ shown b t =
     (past (eqb b 92) _ _ (omega arith)
     (past (ltb b 32 or eqb b 127) _ _ (omega arith) (λ _. refl))))))) (eqb-true _ 1 t)
 
--- where nothing of a text fits, its length is all that is to be counted
+-- where nothing of a text fits, counting its length writes it
 pub counted : {o o' : Output} {n : ℕ} (t : List ℕ) → length o.bytes.now ≤ o.at → length o.bytes.now < 2 ^ 63 →
     n ≡ length t → o' ≡ moved o n → Wrote o o' t
 unfolding written
@@ -63,7 +64,7 @@ run_at s i e q =
     let z : e - i ≡ k = omega arith in
     rw (z, q, ← drop-drop k i s) (run (drop i s))
 
--- ---- the loop: what is still to be written from i on makes the output what the whole would have made it
+-- ---- the loop: what is left from i on makes the output what the whole text would have made it
 
 pub record Runs (s : List ℕ) (o₀ o : Output) (i : ℕ) : Type 0 where
   pub is : written o (each escaped (drop i s)) ≡ written o₀ (each escaped s)

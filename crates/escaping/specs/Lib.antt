@@ -1,3 +1,3 @@
--- A text as Rust's `{:?}` quotes it.
+-- Rules: Printing. A text as Rust's `{:?}` quotes it.
 pub mod Escape
 pub mod Escaping

@@ -1,7 +1,7 @@
-// Debug escaping: a text as Rust's `{:?}` quotes it.
-//
-// `write_quoted` writes a text in quotes, each byte escaped by its range; it asks nothing of its caller,
-// and its contract is `Wrote` of `quoted` (specs/Escape.antt).
+//! Debug escaping: a text as Rust's `{:?}` quotes it (`quoted`, specs/Escape.antt).
+//!
+//! Runs of bytes that stand for themselves are copied whole, and the others escaped one by one. For
+//! a long text the lengths of the escapes are noted in a lookup table first.
 #![tactic(auto)]
 
 ghost use Rattle.std.specs.Prelude.{◌≡◌, Bool, true, false, [], ◌∷◌, ◌++◌, ℕ, ◌+◌, ◌-◌, ◌≤◌, ◌<◌, length, slice_index_or};
@@ -15,22 +15,22 @@ use printing::Output;
 use texts::part;
 use texts::scan::{ByteTest, scan_each};
 
-// A text of so many bytes is long: noting how long each byte's escape is pays.
+/// From this length on, in bytes, the lookup table pays for itself.
 const LONG: usize = 1024;
 
-// How a byte is shown.
+/// How a byte is shown.
 #[derive(Clone, Copy)]
 enum Kind {
-    // As it stands.
+    /// As it stands.
     Plain,
-    // A backslash, then this.
+    /// As a backslash and this letter.
     Letter(u8),
-    // `\u{..}`.
+    /// As `\u{..}`, with hexadecimal digits.
     Hex,
 }
 
-// A byte's escape, by its range: its kind, and how many bytes long it is. This alone decides
-// which bytes a run may hold, what is written of any other, and how much.
+/// A byte's escape, by ranges of the byte: its kind and its length. Everything else goes by this
+/// `match`: which bytes make a run, what is written of any other, and how much.
 #[tactic(auto, unfolding(crate::specs::Escape::escaped, crate::specs::Escape::hex))]
 fn escape_of(b: u8) -> (Kind, u8)
     ensures kind { shown_as result.0 b ≡ escaped b }
@@ -58,7 +58,7 @@ fn hex_digit(d: u8) -> u8
     if d < 10 { 48 + d } else { 87 + d }
 }
 
-// Writes `\u{..}`, as many bytes as `len` says: with one digit where they are 5.
+/// Writes `\u{..}`, with one digit where the escape has the length 5 and two where it has 6.
 #[tactic(auto, unfolding(crate::specs::Escape::hex))]
 fn write_hex(out: &mut Output<'_>, b: u8, len: u8)
     requires { len ≡ 4 + length (hex b) }
@@ -78,7 +78,7 @@ fn write_hex(out: &mut Output<'_>, b: u8, len: u8)
     }
 }
 
-// Writes a byte's escape, or counts its length where nothing of it fits, as when measuring.
+/// Writes a byte's escape. Where the output is full, as when measuring, its length is counted.
 #[tactic(auto, using(crate::proofs::Runs::counted))]
 fn write_escaped(out: &mut Output<'_>, b: u8)
     ensures { Wrote out.old out.new (escaped b) }
@@ -95,10 +95,10 @@ fn write_escaped(out: &mut Output<'_>, b: u8)
     }
 }
 
-// ---- which bytes a run holds: those whose escape is one byte long
+// ---- runs: the bytes that stand for themselves, as their escape has the length 1
 
-// How long the bytes' escapes are: noted for each, so that a long text costs one look a byte, or
-// for none.
+/// A lookup table of the escapes' lengths: of the 128 ASCII bytes, or empty. A byte beyond it goes
+/// by `escape_of`.
 #[derive(Clone, Copy)]
 struct Lengths<'a> {
     noted: &'a [u8],
@@ -119,7 +119,7 @@ impl ByteTest for Lengths<'_> {
     }
 }
 
-// Noted of the ASCII bytes, which are all that a document has.
+/// The table of all ASCII bytes; a document has no others.
 fn note() -> [u8; 128]
     ensures { (b : ℕ) → b < 128 → slice_index_or result b 0 ≡ length (escaped b) }
 {
@@ -132,13 +132,13 @@ fn note() -> [u8; 128]
 
 // ---- texts
 
-// Writes the escapes run by run: the bytes that are shown as they stand at once, then the one that is not.
-// kept: a `while`, since its steps are runs.
+/// Writes the escapes of a text: run by run, each followed by the byte that ends it.
 #[tactic(auto, using(crate::proofs::Runs::runs))]
 fn write_runs(out: &mut Output<'_>, lengths: &Lengths<'_>, s: &[u8])
     ensures { Wrote out.old out.new (each escaped s.now) }
 {
     let mut i = 0;
+    // `while`: each turn consumes a run, so the step is not 1.
     while i < s.len() {
         let e = scan_each(s, i, lengths);
         out.text(part(s, i, e - i));
@@ -150,7 +150,7 @@ fn write_runs(out: &mut Output<'_>, lengths: &Lengths<'_>, s: &[u8])
     }
 }
 
-// Writes the escapes of a text; how long each byte's is, is noted for a long one only.
+/// Writes the escapes of a text, by a lookup table where it is long enough.
 fn write_escapes(out: &mut Output<'_>, s: &[u8])
     ensures { Wrote out.old out.new (each escaped s.now) }
 {
@@ -162,7 +162,7 @@ fn write_escapes(out: &mut Output<'_>, s: &[u8])
     }
 }
 
-// Writes a text in quotes.
+/// Prints a text in double quotes, escaped.
 #[tactic(auto, unfolding(crate::specs::Escape::quoted), using(printing::proofs::Writing::writing))]
 pub fn write_quoted(out: &mut Output<'_>, s: &[u8])
     ensures { Wrote out.old out.new (quoted s.now) }

@@ -56,7 +56,7 @@ module _ (v n : List ℕ) (h : length v ≤ 32768) where
 -- ---- the answer: t is what the tests say
 
 module _ {t : Tested} (text out : List ℕ) where
-  -- what a `?` hands on
+  -- a refusal that `?` returns
   pub entry-refused : {q : Refusal} → t ≡ Err q → {r : Answer} → IsErrAnd r (λ e. e ≡ q) → Answers t text out out r
   unfolding answer_after output_after
   entry-refused {q} e {r} h =

@@ -1,9 +1,10 @@
--- What one name is made into.
+-- Rules: Names. The conversion that each case of `Case` stands for.
 use Rattle.std.specs.Prelude.{List, ℕ}
 use Rattle.conversions.specs.Conversions.{camel_to_snake, snake_to_camel, camel_to_screaming_snake, screaming_snake_to_pascal, singular_pascal}
 use Rattle.names.specs.declared.Case.{Case}
 use Rattle.names.specs.declared.Case.TheVariants.{Snake, Camel, Screaming, Pascal, Singular}
 
+-- the name, converted
 unfoldable pub converted : Case → List ℕ → List ℕ
 converted Snake name = camel_to_snake name
 converted Camel name = snake_to_camel name

@@ -1,3 +1,3 @@
--- What the entries of the six name conversions answer, and what a name is made into.
+-- What the entries of the six name conversions answer, and the conversion of each.
 pub mod Entry
 pub mod Converted

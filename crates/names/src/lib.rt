@@ -1,10 +1,10 @@
-// The six name conversions, for customers' own programs.
-//
-// Each is a public entry: the name and the output are lent, and the answer is the number of bytes
-// written or one of the refusals 1, 10 and 3, in that order. Its contract, on all inputs: the answer
-// is the one of specs/Entry.antt, and the output is the converted name (specs/Conversions.antt of the
-// crate `conversions`) and then what stood there, or, after a refusal, what it held. No entry asks
-// anything of its caller.
+//! The six name conversions, for customers' own programs.
+//!
+//! Each entry takes a name and an output, and answers how many bytes it wrote or a refusal: 1 where
+//! the name is longer than 32,768 bytes, 10 where it has a byte of 128 or more, 3 where the output
+//! is too short, in this order. The output then begins with the converted name and is otherwise as
+//! it was; after a refusal all of it is as it was. `Answers` (specs/Entry.antt) promises both, on
+//! all inputs; no entry asks anything of its caller.
 #![tactic(auto, unfolding(crate::specs::Converted::converted))]
 
 ghost use Rattle.std.specs.Prelude.{ℕ, ◌≡◌, length};
@@ -20,10 +20,10 @@ use conversions::prefix::write_stripped;
 use printing::{Output, Print, finish};
 use refusals::Refusal;
 
-// The longest name that is taken.
+/// The longest name that is taken, in bytes.
 const MAX_NAME: usize = 32768;
 
-// 1 and 10 of one name.
+/// Tests a name: refusal 1, then 10.
 #[tactic(auto, using(crate::proofs::Entering::tests))]
 fn test(name: &[u8]) -> Result<(), Refusal>
     ensures { result ≡ tested name.now }
@@ -38,7 +38,8 @@ fn test(name: &[u8]) -> Result<(), Refusal>
     Ok(())
 }
 
-// 1 of both names, then 10 of both.
+/// Tests a value's name and its enum's: refusal 1 of either, then 10 of either, the value's name
+/// first.
 #[tactic(auto, using(crate::proofs::Entering::tests))]
 fn test_two(value: &[u8], enum_name: &[u8]) -> Result<(), Refusal>
     ensures { result ≡ tested_two value.now enum_name.now }
@@ -60,7 +61,7 @@ fn test_two(value: &[u8], enum_name: &[u8]) -> Result<(), Refusal>
     Ok(())
 }
 
-// What one name is made into.
+/// The conversions of a single name.
 #[derive(Clone, Copy)]
 enum Case {
     Snake,
@@ -70,7 +71,7 @@ enum Case {
     Singular,
 }
 
-// A name to be converted.
+/// A name, and the conversion that it is printed in.
 #[derive(Clone, Copy)]
 struct Converted<'a> {
     to: Case,
@@ -91,7 +92,8 @@ impl Print for Converted<'_> {
     }
 }
 
-// What an entry answers after the tests.
+/// The refusal of the tests; or the name, measured and then written where the output has room for
+/// it.
 fn answer<P: Print>(tested: Result<(), Refusal>, name: &P, out: &mut [u8]) -> Result<usize, Refusal>
     ensures { Answers tested (P.text name.now) out.old out.new result }
 {
@@ -100,7 +102,7 @@ fn answer<P: Print>(tested: Result<(), Refusal>, name: &P, out: &mut [u8]) -> Re
 }
 
 impl Case {
-    // The answer of the entry for this case.
+    /// The entry for this conversion.
     fn convert(self, name: &[u8], out: &mut [u8]) -> Result<usize, Refusal>
         ensures { Answers (tested name.now) (converted self name.now) out.old out.new result }
     {
@@ -108,37 +110,42 @@ impl Case {
     }
 }
 
-// kept: a function for each conversion, as customers call them.
+/// Converts to snake case: `MDEntryPx` becomes `md_entry_px`.
 pub fn camel_to_snake(name: &[u8], out: &mut [u8]) -> Result<usize, Refusal>
     ensures { Answers (tested name.now) (camel_to_snake name.now) out.old out.new result }
 {
     Case::Snake.convert(name, out)
 }
 
+/// Converts to camel case: `order_id` becomes `orderId`.
 pub fn snake_to_camel(name: &[u8], out: &mut [u8]) -> Result<usize, Refusal>
     ensures { Answers (tested name.now) (snake_to_camel name.now) out.old out.new result }
 {
     Case::Camel.convert(name, out)
 }
 
+/// Converts to screaming snake case: `MDEntryPx` becomes `MDENTRY_PX`.
 pub fn camel_to_screaming_snake(name: &[u8], out: &mut [u8]) -> Result<usize, Refusal>
     ensures { Answers (tested name.now) (camel_to_screaming_snake name.now) out.old out.new result }
 {
     Case::Screaming.convert(name, out)
 }
 
+/// Converts to Pascal case: `ORDER_ID` becomes `OrderId`.
 pub fn screaming_snake_to_pascal(name: &[u8], out: &mut [u8]) -> Result<usize, Refusal>
     ensures { Answers (tested name.now) (screaming_snake_to_pascal name.now) out.old out.new result }
 {
     Case::Pascal.convert(name, out)
 }
 
+/// Converts to the singular, its first letter raised: `entries` becomes `Entry`.
 pub fn singular_pascal(name: &[u8], out: &mut [u8]) -> Result<usize, Refusal>
     ensures { Answers (tested name.now) (singular_pascal name.now) out.old out.new result }
 {
     Case::Singular.convert(name, out)
 }
 
+/// A value's name and its enum's, printed as the value's without the enum's prefix.
 #[derive(Clone, Copy)]
 struct Stripped<'a> {
     value: &'a [u8],
@@ -153,6 +160,8 @@ impl Print for Stripped<'_> {
     }
 }
 
+/// Cuts the enum's prefix, and converts what remains to Pascal case: `SIDE_BUY` of `Side` becomes
+/// `Buy`. A name without the prefix is converted whole.
 pub fn strip_enum_prefix(value: &[u8], enum_name: &[u8], out: &mut [u8]) -> Result<usize, Refusal>
     ensures { Answers (tested_two value.now enum_name.now) (strip_enum_prefix value.now enum_name.now) out.old out.new result }
 {

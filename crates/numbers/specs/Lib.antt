@@ -1,2 +1,2 @@
--- What a numeric attribute's text says.
+-- Rules: Numbers. The number that an attribute's text says.
 pub mod Numbers

@@ -1,9 +1,7 @@
-// Numbers of attributes.
-//
-// `number_of` promises `number_of` of specs/Numbers.antt for every text: empty is 0; else an optional `+` and
-// digits, at most 4294967295.
-//
-// kept: a document and a place in it are two parameters, as in tags.
+//! The numbers of attributes: ids, versions and lengths.
+//!
+//! An empty text is 0. Any other is one or more digits, perhaps behind one `+`, of a value up to
+//! 4,294,967,295; else it is no number (specs/Numbers.antt).
 #![tactic(auto, using(crate::proofs::Laws::laws))]
 
 ghost use Rattle.std.specs.Prelude.{◌≡◌, ℕ, Some};
@@ -12,8 +10,8 @@ ghost use Rattle.numbers.specs.Numbers.{digits_of, number_of};
 
 use texts::part;
 
-// One or more digits, at most 4294967295. Once a value is above that it stays above, so the loop
-// ends there.
+/// The value of one or more digits; `None` where there are none, where a byte is no digit, or above
+/// 4,294,967,295.
 fn digits(s: &[u8]) -> Option<u32>
     ensures { result ≡ digits_of s.now }
 {
@@ -26,6 +24,7 @@ fn digits(s: &[u8]) -> Option<u32>
             return None;
         };
         let m = 10 * n + u64::from(*b - b'0');
+        // Further digits make no value smaller: the loop can stop, and never overflows.
         if 4294967295 < m {
             return None;
         }
@@ -34,7 +33,7 @@ fn digits(s: &[u8]) -> Option<u32>
     Some(n as u32)
 }
 
-// The number that a text says: empty is 0; else an optional `+`, then digits.
+/// The number that a text says, or `None` where it is no number.
 pub fn number_of(s: &[u8]) -> Option<u32>
     ensures { result ≡ number_of (Some s.now) }
 {
@@ -45,7 +44,8 @@ pub fn number_of(s: &[u8]) -> Option<u32>
     }
 }
 
-// The number that the one byte at a place says, where it is a digit; else nothing is said.
+/// The number of a text of one byte, the one at `at`, where it is a digit. `None` says nothing: the
+/// caller reads the text by `number_of`.
 pub fn digit_at(s: &[u8], at: usize) -> Option<u32>
     ensures { (n : ℕ) → result ≡ Some n → result ≡ number_of (Some (piece s.now at 1)) }
 {

@@ -1,13 +1,13 @@
-// The model of a document, through the accessors alone, as bytes. The document is ASCII, so that no
-// text holds a mark:
-//
-//     0x80 package, 0x8a id, 0x8b version
-//     0x80 + kind of an item, its name, 0x8c its second text, 0x8d its number, 0x8e whether a length
-//     is given (1 or 0), 0x8f its encoding
-//
-// Types come first, then composites, enums and messages, each in the order of the document. After
-// each of them comes what it holds: members, refs, values, fields, then groups, each with its fields.
-// A refusal writes nothing.
+//! The model of a document as bytes, read through the view alone. A document is ASCII, so no text
+//! holds a mark:
+//!
+//!     0x80 package, 0x8a id, 0x8b version
+//!     0x80 + kind of an item, its name, 0x8c its second text, 0x8d its number,
+//!     0x8e whether a length is given (1 or 0), 0x8f its encoding
+//!
+//! Types come first, then composites, enums and messages, each kind in the order of the document.
+//! Behind each item stands what it holds: members, refs, values, fields, then groups, each with its
+//! fields. A refusal writes nothing.
 use crate::{finished, write_name};
 use model::view::View;
 use model::{COMPOSITE, ENUM, FIELD, GROUP, MEMBER, MESSAGE, REF, TYPE, VALUE};
@@ -29,12 +29,12 @@ const GIVEN: u8 = 0x8e;
 
 const ENCODING: u8 = 0x8f;
 
+/// Writes a mark and a number in decimal.
 fn write_number(out: &mut Output<'_>, mark: u8, n: u32) {
     out.byte(mark);
     out.decimal(n);
 }
 
-// The mark of an item.
 fn mark_of(kind: u32) -> u8 {
     match kind {
         TYPE => 0x81,
@@ -58,14 +58,14 @@ fn write_item(out: &mut Output<'_>, v: &View<'_>, i: u32) {
     write_name(out, ENCODING, v.encoding(i));
 }
 
-// The items of a kind under an owner.
+/// Writes the items of a kind that `owner` holds.
 fn write_under(out: &mut Output<'_>, v: &View<'_>, kind: u32, owner: u32) {
     for i in v.under(kind, owner) {
         write_item(out, v, i);
     }
 }
 
-// The groups of a message, each with its fields.
+/// Writes the groups of a message, each with its fields.
 fn write_groups(out: &mut Output<'_>, v: &View<'_>, owner: u32) {
     for i in v.under(GROUP, owner) {
         write_item(out, v, i);
@@ -73,7 +73,7 @@ fn write_groups(out: &mut Output<'_>, v: &View<'_>, owner: u32) {
     }
 }
 
-// An item with all that it holds.
+/// Writes an item and all that it holds.
 fn write_whole(out: &mut Output<'_>, v: &View<'_>, i: u32) {
     write_item(out, v, i);
     write_under(out, v, MEMBER, i);
@@ -83,7 +83,7 @@ fn write_whole(out: &mut Output<'_>, v: &View<'_>, i: u32) {
     write_groups(out, v, i);
 }
 
-// All items of a kind.
+/// Writes all items of a kind, each with all that it holds.
 fn write_all(out: &mut Output<'_>, v: &View<'_>, kind: u32) {
     for i in v.all_of(kind) {
         write_whole(out, v, i);
@@ -100,7 +100,8 @@ fn write_model(out: &mut Output<'_>, v: &View<'_>) {
     write_all(out, v, MESSAGE);
 }
 
-// The model of a document: how many bytes were written, or its refusal; 3 where the output is too short.
+/// The model of a document: how many bytes were written, or its refusal; 3 where the output is too
+/// short.
 pub fn schema(
     document: &[u8],
     records: &mut [u32],

@@ -1,15 +1,14 @@
-// A library for tests alone: the events of a document, and its model (dump.rt), as bytes that two
-// readers can be compared by.
-//
-// `events` reads a document with saxlite's reader from its first byte on. What it writes is a list of
-// marks, each with a text behind it. The document is ASCII, so that no text holds a mark:
-//
-//     0x80 text decoded          0x81 local name of an open tag
-//     0x82 local name, 0x83 decoded value: an attribute, of each name one, in the order of the names
-//     0x84 local name of a close
-//
-// The value is the one that `tags::tag::attribute` finds under the name. Nothing here is part of
-// the product; no contract is given beyond safety and termination.
+//! For tests alone: the events of a document, and its model (dump.rt), as bytes by which two
+//! readers can be compared. The contracts promise safety and termination, and no more.
+//!
+//! `events` writes a list of marks, each with a text behind it. A document is ASCII, so no text
+//! holds a mark:
+//!
+//!     0x80 text, decoded         0x81 local name of an open tag
+//!     0x82 local name, 0x83 decoded value: an attribute; each name once, in byte order
+//!     0x84 local name of a close
+//!
+//! The value is the one that `tags::tag::attribute` finds under the name.
 #![tactic(auto)]
 
 pub mod dump;
@@ -33,14 +32,14 @@ const VALUE: u8 = 0x83;
 
 const CLOSE: u8 = 0x84;
 
-// How many bytes of events were written, and the refusal that the reading ended in.
+/// How many bytes the events take, and the refusal that reading ended in.
 #[derive(Clone, Copy)]
 pub struct Reading {
     pub n: usize,
     pub refusal: Option<Refusal>,
 }
 
-// An output that was too short is refusal 3.
+/// How many bytes were written; 3 where the output is too short for them.
 fn finished(out: &Output<'_>) -> Result<usize, Refusal> {
     if out.bytes.len() < out.at {
         return Err(Refusal::NoRoom);
@@ -48,15 +47,16 @@ fn finished(out: &Output<'_>) -> Result<usize, Refusal> {
     Ok(out.at)
 }
 
-// ---- attributes, in the order of their names
+// ---- attributes, in byte order of their names
 
-// A name without its prefix.
+/// A name without its prefix.
 fn local(doc: &[u8], name: Range) -> &[u8] {
     let whole = part(doc, name.from, name.len);
     part(whole, prefix_len(whole), name.len)
 }
 
-// Whether the local name of `a` comes before that of `b` in the order of bytes; so it does where there is one name only.
+/// Whether the local name of `a` is less than that of `b`, in byte order; true where one of them is
+/// missing.
 fn precedes(doc: &[u8], a: Option<Range>, b: Option<Range>) -> bool {
     match (a, b) {
         (Some(a), Some(b)) => local(doc, a) < local(doc, b),
@@ -64,7 +64,8 @@ fn precedes(doc: &[u8], a: Option<Range>, b: Option<Range>) -> bool {
     }
 }
 
-// The least of `best` and `this` where `this` comes after `last` and declares no namespace.
+/// The lesser of `best` and `this`. `this` counts only if it is greater than `last` and declares no
+/// namespace.
 fn least(doc: &[u8], last: Option<Range>, best: Option<Range>, this: Range) -> Option<Range> {
     if is_xmlns(part(doc, this.from, this.len)) {
         return best;
@@ -75,11 +76,11 @@ fn least(doc: &[u8], last: Option<Range>, best: Option<Range>, this: Range) -> O
     best
 }
 
-// The least name after `last` in the tag whose attributes begin at `at`. Each attribute takes a byte.
-// kept, here and below: places beside the document, since the reader under test goes by them.
+/// The least name greater than `last` in the tag whose attributes begin at `at`.
 fn name_after(doc: &[u8], at: usize, last: Option<Range>) -> Option<Range> {
     let mut best = None;
     let mut i = at;
+    // An attribute takes at least one byte, so `doc.len()` turns suffice.
     for _ in 0..doc.len() {
         let Ok(
             TagPart::Attribute {
@@ -104,7 +105,8 @@ fn name_after(doc: &[u8], at: usize, last: Option<Range>) -> Option<Range> {
 
 // ---- events
 
-// Where room is short the raw bytes are counted.
+/// Writes a piece of the document, decoded. Where the raw bytes do not fit, the output is too short
+/// in any case, and they are counted.
 fn write_decoded(out: &mut Output<'_>, doc: &[u8], from: usize, len: usize) {
     match decode(doc, from, len, out.bytes, out.at) {
         Some(n) => out.skip(n),
@@ -117,11 +119,13 @@ fn write_name(out: &mut Output<'_>, mark: u8, name: &[u8]) {
     out.text(name);
 }
 
+/// Writes a mark and a piece of the document, decoded.
 fn write_text(out: &mut Output<'_>, doc: &[u8], mark: u8, text: Range) {
     out.byte(mark);
     write_decoded(out, doc, text.from, text.len);
 }
 
+/// Writes an attribute: its name, and the value that the look-up finds.
 fn write_attribute(out: &mut Output<'_>, doc: &[u8], attributes: usize, name: &[u8]) {
     write_name(out, NAME, name);
     if let Some(value) = attribute(doc, attributes, name) {
@@ -129,9 +133,9 @@ fn write_attribute(out: &mut Output<'_>, doc: &[u8], attributes: usize, name: &[
     }
 }
 
-// Each name takes a byte of the document.
 fn write_attributes(out: &mut Output<'_>, doc: &[u8], attributes: usize) {
     let mut last = None;
+    // A name takes at least one byte, so `doc.len()` turns suffice.
     for _ in 0..doc.len() {
         let Some(name) = name_after(doc, attributes, last) else {
             return;
@@ -157,9 +161,10 @@ fn write_event(out: &mut Output<'_>, doc: &[u8], event: Event) {
     }
 }
 
-// The events up to the end or a refusal. There are never more events than bytes: a self-closed tag, which is two, has four.
+/// Writes the events up to the end of the document or a refusal.
 fn write_events(out: &mut Output<'_>, doc: &[u8]) -> Result<(), Refusal> {
     let mut reader = Reader::new(doc);
+    // There are never more events than bytes: a self-closed tag gives two, and takes four bytes.
     for _ in 0..doc.len() {
         let Some(told) = reader.next()? else {
             return Ok(());
@@ -169,7 +174,8 @@ fn write_events(out: &mut Output<'_>, doc: &[u8]) -> Result<(), Refusal> {
     Ok(())
 }
 
-// What was written before a refusal counts, but nothing where the output was too short.
+/// Reads a whole document. At a refusal `n` counts the events before it; at the end of the document
+/// an output that is too short is refusal 3, with `n` 0.
 fn read_all(doc: &[u8], out: &mut Output<'_>) -> Reading {
     if let Err(r) = write_events(out, doc) {
         return Reading {
@@ -184,7 +190,8 @@ fn read_all(doc: &[u8], out: &mut Output<'_>) -> Reading {
     }
 }
 
-// The events of a document, up to a refusal; 10 before anything is read.
+/// The events of a document, up to the end or a refusal. A byte of 128 or more is refused before
+/// anything is read.
 pub fn events(document: &[u8], output: &mut [u8]) -> Reading {
     let at = texts::ascii_end(document);
     if at < document.len() {

@@ -1,11 +1,10 @@
-// The C functions of `probe`, a static library for tests alone: each calls the function of its name there.
-//
-// As there, no contract is given beyond safety and termination.
+//! The crate `probe` for C, a static library for tests alone: each function calls the one of its
+//! name there. The contracts promise safety and termination, and no more.
 #![tactic(auto)]
 
 use refusals::Refusal;
 
-// A refusal's three figures, 0 where there is none.
+/// Sets offset and place of a refusal, and returns its number; all are 0 where there is none.
 fn report(refusal: Option<Refusal>, offset: &mut usize, place: &mut usize) -> u32 {
     match refusal {
         Some(r) => {
@@ -21,7 +20,7 @@ fn report(refusal: Option<Refusal>, offset: &mut usize, place: &mut usize) -> u3
     }
 }
 
-// The events of a document, up to a refusal, for C.
+/// The events of a document, up to the end or a refusal (`probe::events`).
 #[unsafe(no_mangle)]
 pub extern "C" fn probe_events(
     document: &[u8],
@@ -35,7 +34,7 @@ pub extern "C" fn probe_events(
     report(reading.refusal, offset, place)
 }
 
-// The model of a document in the form of dump.rt, for C.
+/// The model of a document (`probe::dump::schema`).
 #[unsafe(no_mangle)]
 pub extern "C" fn probe_schema(
     document: &[u8],

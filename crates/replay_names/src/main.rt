@@ -1,17 +1,18 @@
-// Replays recorded name conversions: `stdin` holds the inputs, `stdout` what the Rust answered.
-//
-// The sample is made by tests/compare from the Rust reference alone, without the code that is
-// tested here; `tests/run record` makes it again (tests/README.md). A line of input is
-//
-//     C RRRR PPPP VVVV EEEE NAMES
-//
-// C is the conversion: `n` snake, `c` camel, `u` screaming, `p` pascal, `s` singular, `x` strip the
-// enum's prefix. The four numbers have four hex digits each: the room of the output, how many `_`
-// stand before the name (so that long names have short lines), the name's further bytes, and the
-// enum name's. NAMES is the bytes of both in hex. The output is filled with `#` before the call.
-//
-// A line of the answer is number, offset, place and n in decimal, then the whole output in hex: so it
-// also shows what a refusal leaves, and what stands behind the text.
+//! Replays recorded name conversions: `stdin` holds the inputs, `stdout` what the Rust answered.
+//!
+//! tests/compare makes the sample with the Rust reference alone, without the code under test;
+//! `tests/run record` makes it again (tests/README.md). A line of input is
+//!
+//!     C RRRR PPPP VVVV EEEE NAMES
+//!
+//! C is the conversion: `n` snake, `c` camel, `u` screaming, `p` pascal, `s` singular, `x` without
+//! the enum's prefix. The four numbers have four hex digits each: the room of the output; how many
+//! `_` stand before the name, which keeps the lines of long names short; how many bytes of the name
+//! follow them; and the length of the enum's name. NAMES is the bytes of both in hex.
+//!
+//! A line of the answer is number, offset, place and n in decimal, then the whole output in hex.
+//! The output is filled with `#` beforehand, and so shows what a refusal leaves and what stands
+//! behind the text.
 #![tactic(auto)]
 
 use names::{
@@ -24,7 +25,7 @@ use replaying::{hex_number, print_answer, replay_lines, write_unhexed, written};
 use std::io;
 use texts::{byte_at, part};
 
-// Where the four numbers and the names stand in a line.
+/// Where the four numbers and the names begin in a line.
 const ROOM: usize = 2;
 
 const PAD: usize = 7;
@@ -35,7 +36,7 @@ const ENUM: usize = 17;
 
 const NAMES: usize = 22;
 
-// What is asked for.
+/// The conversion that a line asks for.
 #[derive(Clone, Copy)]
 enum Conversion {
     Snake,
@@ -47,7 +48,7 @@ enum Conversion {
 }
 
 impl Conversion {
-    // The one that a letter stands for.
+    /// The conversion that a letter stands for.
     fn of(letter: u8) -> Option<Conversion> {
         match letter {
             b'n' => Some(Conversion::Snake),
@@ -60,7 +61,7 @@ impl Conversion {
         }
     }
 
-    // kept: a `match`, since each entry under test is a function of its own.
+    /// The answer of the entry under test.
     fn convert(self, value: &[u8], enum_name: &[u8], out: &mut [u8]) -> Result<usize, Refusal> {
         match self {
             Conversion::Snake => camel_to_snake(value, out),
@@ -73,7 +74,7 @@ impl Conversion {
     }
 }
 
-// Converts into an output filled with `#`, of the length of `out`, and prints the answer.
+/// Converts into `out`, filled with `#` beforehand, and prints the answer and all of `out`.
 fn replay(
     rt: &HostRuntime,
     asked: Conversion,
@@ -86,7 +87,7 @@ fn replay(
     print_answer(rt, answer.err(), answer.unwrap_or(0), out)
 }
 
-// Writes the value name of a line: its padding, then its further bytes.
+/// Writes the name of a line: as many `_` as it says, then the bytes in `hex`.
 fn write_value(out: &mut Output<'_>, line: &[u8], hex: &[u8]) {
     for _ in 0..hex_number(part(line, PAD, 4)) {
         out.byte(b'_');
@@ -94,7 +95,7 @@ fn write_value(out: &mut Output<'_>, line: &[u8], hex: &[u8]) {
     write_unhexed(out, hex);
 }
 
-// Replays a line. No line asks for more room than there is.
+/// Replays a line; no line asks for more room than there is.
 fn replay_line(rt: &HostRuntime, line: &[u8]) -> io::Result<()> {
     let Some(asked) = Conversion::of(byte_at(line, 0)) else {
         return Ok(());

@@ -1,10 +1,11 @@
-// Runs the program's work on documents that are told in few words: a line of `stdin` is a name, a count and three texts,
-// parted by tabs, and its document is the first text, the second one `count` times, and the third. `stdout`, written by
-// hand and not taken from a run, has for each the name and the document's length, what is printed for it, and how many of
-// its bytes were not read.
-//
-// The document is read from memory, at most 1,000 bytes at a time, and what is printed is written at most 100 bytes at a
-// time, as a pipe may do. Proved safe and ending.
+//! Runs the service (`service::serve`) on documents given in shorthand. A line of `stdin` is a
+//! name, a count and three texts, tab-separated; its document is the first text, the second one
+//! `count` times, and the third. For each line `stdout`, written by hand and not taken from a run,
+//! has the name and the document's length, what is printed for it, and how many of its bytes were
+//! not read.
+//!
+//! A read gives at most 1,000 bytes, and a write takes at most 100, as with a pipe. Proved safe and
+//! terminating, and no more.
 #![tactic(auto)]
 
 use inputs::read_full;
@@ -14,7 +15,7 @@ use replaying::written;
 use service::serve;
 use std::io::{self, Read, Write};
 
-// A document of which a read gives at most 1,000 bytes.
+/// A reader over a document that gives at most 1,000 bytes at a time.
 #[derive(Clone, Copy)]
 struct Bits<'a> {
     rest: &'a [u8],
@@ -27,7 +28,7 @@ impl Read for Bits<'_> {
     }
 }
 
-// An output of which a write takes at most 100 bytes.
+/// A writer that takes at most 100 bytes at a time.
 #[derive(Drop)]
 struct Sips<W: Write + Drop> {
     output: W,
@@ -52,7 +53,7 @@ fn ends_line(b: &u8) -> bool {
     *b == b'\n'
 }
 
-// The document that a line tells, and its name.
+/// Writes the document of a line, and returns its name.
 fn write_told<'a>(out: &mut Output<'_>, line: &'a [u8]) -> &'a [u8] {
     let mut parts = line.split(is_tab);
     let name = parts.next().unwrap_or(b"");

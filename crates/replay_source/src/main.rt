@@ -1,11 +1,11 @@
-// Replays recorded conversions: `stdin` holds documents, `stdout` the sources that the Rust made of
-// them.
-//
-// The sample is made by tests/compare from the Rust reference alone, without the code that is
-// tested here; `tests/run record` makes it again (tests/README.md). A line of input is the length of
-// a document in four hex digits, a space, and the document in hex. A line of the answer is number,
-// offset, place and n in decimal, then the n bytes of the source in hex: the whole source, or nothing
-// after a refusal.
+//! Replays recorded conversions: `stdin` holds documents, `stdout` the sources that the Rust made
+//! of them.
+//!
+//! tests/compare makes the sample with the Rust reference alone, without the code under test;
+//! `tests/run record` makes it again (tests/README.md). A line of input is the length of a document
+//! in four hex digits, a space, and the document in hex. A line of the answer is number, offset,
+//! place and n in decimal, then the n bytes of the source in hex: the whole source, or nothing
+//! after a refusal.
 #![tactic(auto)]
 
 use replaying::{replay_lines, replay_read};

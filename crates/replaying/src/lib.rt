@@ -1,7 +1,9 @@
-// Hex in and out, for the programs that replay recorded answers (tests/README.md).
-//
-// A question is a line with numbers of four hex digits and bytes in hex; an answer is a line with
-// number, offset, place and n in decimal, then bytes in hex. Proved safe and ending.
+//! What the programs share that replay recorded answers (tests/README.md): lines in, hex in and
+//! out.
+//!
+//! A line of input has numbers of four hex digits, and bytes in hex. A line of output has number,
+//! offset, place and n in decimal, then bytes in hex. The contracts promise safety and termination,
+//! and little more.
 #![tactic(auto)]
 
 ghost use Rattle.std.specs.Prelude.{◌<◌};
@@ -12,7 +14,7 @@ use refusals::Refusal;
 use std::io;
 use texts::{byte_at, part};
 
-// What a hex digit stands for. Any other byte counts as 0.
+/// The value of a hex digit in lower case; any other byte counts as 0.
 fn digit(b: u8) -> u8
     ensures { result < 16 }
 {
@@ -23,12 +25,11 @@ fn digit(b: u8) -> u8
     }
 }
 
-// The byte that two hex digits stand for.
 fn hex_byte(high: u8, low: u8) -> u8 {
     digit(high) * 16 + digit(low)
 }
 
-// The number that four hex digits stand for.
+/// The number that the first four bytes stand for, as hex digits.
 pub fn hex_number(s: &[u8]) -> usize
     ensures { result < 65536 }
 {
@@ -37,7 +38,7 @@ pub fn hex_number(s: &[u8]) -> usize
     usize::from(high) * 256 + usize::from(low)
 }
 
-// The hex digit of a number below 16.
+/// The hex digit of a number below 16, in lower case.
 fn hex_digit(n: u8) -> u8 {
     match n {
         0..=9 => 48 + n,
@@ -46,14 +47,13 @@ fn hex_digit(n: u8) -> u8 {
     }
 }
 
-// Writes the bytes that `hex` stands for, two digits each.
+/// Writes the bytes that `hex` stands for, one for each two digits.
 pub fn write_unhexed(out: &mut Output<'_>, hex: &[u8]) {
     for pair in hex.chunks(2) {
         out.byte(hex_byte(byte_at(pair, 0), byte_at(pair, 1)));
     }
 }
 
-// Writes the bytes of `s` in hex.
 fn write_hex(out: &mut Output<'_>, s: &[u8]) {
     for b in s {
         out.byte(hex_digit(*b / 16));
@@ -61,12 +61,12 @@ fn write_hex(out: &mut Output<'_>, s: &[u8]) {
     }
 }
 
-// What was written to an output.
+/// The bytes written to an output so far.
 pub fn written<'a>(out: &'a Output<'_>) -> &'a [u8] {
     part(out.bytes, 0, out.at)
 }
 
-// The bytes of `s` in hex, and the end of the line: up to 32,767 bytes.
+/// Prints up to 32,767 bytes in hex, and a line feed.
 fn print_hex(rt: &impl Print, s: &[u8]) -> io::Result<()> {
     let mut line = [0u8; 65536];
     let mut out = Output::new(&mut line);
@@ -75,7 +75,8 @@ fn print_hex(rt: &impl Print, s: &[u8]) -> io::Result<()> {
     rt.write_all(written(&out))
 }
 
-// An answer: the refusal's three figures, 0 where there is none, n, and the bytes of `s`.
+/// Prints the line of an answer: number, offset and place of the refusal, 0 where there is none,
+/// `n`, and `s` in hex.
 pub fn print_answer(
     rt: &impl Print,
     refusal: Option<Refusal>,
@@ -94,7 +95,7 @@ fn ends_line(b: &u8) -> bool {
     *b == b'\n'
 }
 
-// Replays each line of the input.
+/// Calls `replay` on each line of standard input, which is read up to 65,536 bytes.
 pub fn replay_lines<F: Fn(&HostRuntime, &[u8]) -> io::Result<()>>(
     rt: &HostRuntime,
     replay: F,
@@ -109,15 +110,16 @@ pub fn replay_lines<F: Fn(&HostRuntime, &[u8]) -> io::Result<()>>(
     Ok(())
 }
 
-// Where the document stands in a line that has one alone, behind its length in four hex digits and a space.
+/// Where the document begins in a line that has nothing else: behind its length in four hex digits
+/// and a space.
 const DOCUMENT: usize = 5;
 
-// Writes the document of a line that has one alone.
+/// Writes the document of such a line.
 pub fn write_document(out: &mut Output<'_>, line: &[u8]) {
     write_unhexed(out, part(line, DOCUMENT, 2 * hex_number(line)));
 }
 
-// Prints what `read` answers on the document of a line, and the bytes that it wrote.
+/// Calls `read` on the document of such a line, and prints its answer and the bytes that it wrote.
 pub fn replay_read<F>(rt: &HostRuntime, line: &[u8], read: F) -> io::Result<()>
 where
     F: Fn(&[u8], &mut [u32], &mut [u8], &mut [u8]) -> Result<usize, Refusal>,

@@ -1,8 +1,9 @@
-// Runs the worked examples of the converter, those that are proved (crates/trials) and those that are not. `stdout`, which says
-// what each must give, is written by hand.
-//
-// A line is the input, then `accepted` and the length of what was written, or `refused`, number, offset and place, parted by
-// tabs. What was written follows on lines of its own where it is a name or asked for.
+//! Runs the worked examples of the converter, those that are proved (crates/trials) and the others.
+//! `stdout`, written by hand, says what each must give.
+//!
+//! A line is tab-separated: the input, then `accepted` and the length of the output, or `refused`,
+//! number, offset and place. The output follows for a name, and for a document where it is asked
+//! for.
 #![tactic(auto)]
 
 use names::{camel_to_screaming_snake, camel_to_snake, singular_pascal};
@@ -11,6 +12,7 @@ use std::io;
 use texts::part;
 use xmltoproto::xml_to_proto;
 
+/// Prints the line of an input and its answer.
 fn print_answer(rt: &impl Print, input: &[u8], answer: Result<usize, Refusal>) -> io::Result<()> {
     rt.write_all(input)?;
     match answer {
@@ -24,7 +26,7 @@ fn print_answer(rt: &impl Print, input: &[u8], answer: Result<usize, Refusal>) -
     }
 }
 
-// A name and what a conversion makes of it.
+/// Converts a name, and prints its line and, on a line of its own, the output.
 fn name<F>(rt: &impl Print, input: &[u8], convert: F) -> io::Result<()>
 where
     F: Fn(&[u8], &mut [u8]) -> Result<usize, Refusal>,
@@ -37,7 +39,8 @@ where
     println!(rt; "")
 }
 
-// A document, with an output of `room` bytes; its source follows where it is asked for.
+/// Converts a document, with an output of `room` bytes, and prints its line and, if `shown`, the
+/// source.
 fn document(rt: &impl Print, input: &[u8], room: usize, shown: bool) -> io::Result<()> {
     let mut records = [0u32; 16384];
     let mut text = [0u8; 65536];
@@ -51,6 +54,7 @@ fn document(rt: &impl Print, input: &[u8], room: usize, shown: bool) -> io::Resu
     Ok(())
 }
 
+/// Converts a document, with an output of 65,536 bytes, and prints its line alone.
 fn answered(rt: &impl Print, input: &[u8]) -> io::Result<()> {
     document(rt, input, 65536, false)
 }
@@ -83,7 +87,7 @@ fn markup(rt: &impl Print) -> io::Result<()> {
     answered(rt, b"<a><b></a>")
 }
 
-// The empty document's source is 108 bytes long.
+/// The empty document has a source of 108 bytes.
 fn lengths(rt: &impl Print) -> io::Result<()> {
     document(rt, b"", 65536, true)?;
     document(rt, b"", 108, false)?;

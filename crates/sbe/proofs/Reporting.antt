@@ -1,4 +1,4 @@
--- An answer, told by its four numbers.
+-- Laws of reporting an answer as four numbers.
 use mathlib.Core.Path.{◌≡◌, ◌∙◌, ap, sym}
 use mathlib.Core.List.{List}
 use Prim.Native.Nat.{ℕ}

@@ -1,11 +1,9 @@
-// The static library for customers' own programs (include/sbe.h has its C declarations).
-//
-// Every function answers the refusal's number, 0 for accepted, and always sets offset, place and n.
-// Its contract gives these four numbers and every byte of the output, on all inputs.
-//
-// What C must hand over stands in the header. A null pointer with the length 0 is an empty slice.
-//
-// kept: buffers, offset, place and n are the parameters that C hands over.
+//! The static library: the converter and the six name conversions for C (include/sbe.h).
+//!
+//! Each function answers the refusal's number, 0 for accepted, and always sets `offset`, `place`
+//! and `n`. Its contract gives these four numbers and every byte of the output, on all inputs
+//! (specs/Report.antt). The header says what C must hand over; a null pointer with the length 0
+//! comes in as an empty slice. Loose parameters, not structs: they are those of the C declarations.
 #![tactic(auto, using(crate::proofs::Reporting::laws))]
 
 ghost use Rattle.std.specs.Prelude.{◌≡◌, length};
@@ -16,7 +14,7 @@ ghost use Rattle.sbe.specs.Report.{Reports, NameReports, ConversionReports};
 
 use refusals::Refusal;
 
-// An answer as the four numbers that C takes.
+/// Sets offset, place and n of an answer, and returns its number, 0 for accepted.
 fn report(
     answer: Result<usize, Refusal>,
     offset: &mut usize,
@@ -41,7 +39,7 @@ fn report(
     }
 }
 
-// The converter: a document's source, or its refusal.
+/// Converts a document: its proto3 source, or its refusal. `records` and `text` are work buffers.
 #[unsafe(no_mangle)]
 pub extern "C" fn sbe_xml_to_proto(
     document: &[u8],
@@ -58,7 +56,7 @@ pub extern "C" fn sbe_xml_to_proto(
     report(converted, offset, place, n)
 }
 
-// kept: a function for each conversion, as C calls them.
+/// `names::camel_to_snake` for C.
 #[unsafe(no_mangle)]
 pub extern "C" fn sbe_camel_to_snake(
     name: &[u8],
@@ -73,6 +71,7 @@ pub extern "C" fn sbe_camel_to_snake(
     report(answer, offset, place, n)
 }
 
+/// `names::snake_to_camel` for C.
 #[unsafe(no_mangle)]
 pub extern "C" fn sbe_snake_to_camel(
     name: &[u8],
@@ -87,6 +86,7 @@ pub extern "C" fn sbe_snake_to_camel(
     report(answer, offset, place, n)
 }
 
+/// `names::camel_to_screaming_snake` for C.
 #[unsafe(no_mangle)]
 pub extern "C" fn sbe_camel_to_screaming_snake(
     name: &[u8],
@@ -101,6 +101,7 @@ pub extern "C" fn sbe_camel_to_screaming_snake(
     report(answer, offset, place, n)
 }
 
+/// `names::screaming_snake_to_pascal` for C.
 #[unsafe(no_mangle)]
 pub extern "C" fn sbe_screaming_snake_to_pascal(
     name: &[u8],
@@ -115,6 +116,7 @@ pub extern "C" fn sbe_screaming_snake_to_pascal(
     report(answer, offset, place, n)
 }
 
+/// `names::singular_pascal` for C.
 #[unsafe(no_mangle)]
 pub extern "C" fn sbe_singular_pascal(
     name: &[u8],
@@ -129,6 +131,7 @@ pub extern "C" fn sbe_singular_pascal(
     report(answer, offset, place, n)
 }
 
+/// `names::strip_enum_prefix` for C.
 #[unsafe(no_mangle)]
 pub extern "C" fn sbe_strip_enum_prefix(
     value: &[u8],

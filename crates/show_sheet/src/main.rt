@@ -1,9 +1,9 @@
-// Shows the wire sheets of documents: standard input holds documents, parted by `%`, which none of
-// them has; standard output gets the lines of their sheets, one sheet after the other.
-//
-// `stdout` was written by hand from `stdin`, not by this program, so that the printer of the sheet is
-// held to what a reader finds. A sheet begins with its `schema` line. A document that is refused has
-// no sheet, and gets one line: `refused`, number, offset and place, parted by tabs.
+//! Prints the wire sheets of documents: standard input holds the documents, separated by `%`, and
+//! standard output gets the lines of their sheets, one sheet after the other.
+//!
+//! `stdout` is written by hand from `stdin`, so that the printer is held to what a reader finds. A
+//! sheet begins with its `schema` line. A document that is refused gets one line instead:
+//! `refused`, number, offset and place, tab-separated.
 #![tactic(auto)]
 
 use inputs::read_full;
@@ -29,6 +29,7 @@ fn print_sheet(rt: &impl Print, v: &View<'_>) -> io::Result<()> {
     rt.write_all(written(&out))
 }
 
+/// Prints the sheet of a document, or its refusal.
 fn show(rt: &impl Print, document: &[u8]) -> io::Result<()> {
     let mut records = [0u32; 16384];
     let mut text = [0u8; 65536];
@@ -38,6 +39,7 @@ fn show(rt: &impl Print, document: &[u8]) -> io::Result<()> {
     }
 }
 
+/// Whether the byte separates two documents; none of them has it.
 fn parts_documents(b: &u8) -> bool {
     *b == b'%'
 }

@@ -1,5 +1,5 @@
--- What computing a trial opens. Naming one of these in an `unfolding` line opens its whole list, so that a definition that is
--- moved or named anew is changed here alone.
+-- The definitions that computing a trial unfolds. Each name below stands for its list in an
+-- `unfolding` line, so that a definition that moves or is renamed is changed here alone.
 use Rattle.texts.specs.Text.{same, starts_with}
 use Rattle.texts.specs.Scan.{is_ascii}
 use Rattle.texts.specs.Lists.{each, any, among}

@@ -14,7 +14,7 @@ use Rattle.xmltoproto.specs.Convert.{converted}
 use Rattle.trials.specs.Trials.{Figures, answer, Accepted, Refused, Read, Trials}
 use Rattle.trials.proofs.Opened.{on_names, on_numbers, on_documents, on_schemas}
 
--- work buffers that are long enough are as good as the shortest that are
+-- with any work buffers that are long enough the answer is that with the shortest ones
 enough : (document : List ℕ) (records text : ℕ) → 16384 ≤ records → 65536 ≤ text → answer_of document records text ≡ answer_of document 16384 65536
 unfolding answer_of
 enough document records text p q =

@@ -1,2 +1,2 @@
--- The worked examples of the converter that are proved.
+-- Rules: Trials. The worked examples that are proved.
 pub mod Trials

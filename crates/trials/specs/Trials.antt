@@ -1,4 +1,5 @@
--- The trials of the converter: what the definitions say of each name, number and document.
+-- Rules: Trials. The worked examples that are proved (the scope's starred trials): what the
+-- definitions say of each name, number and document.
 use Prim.Native.String.{String}
 use Rattle.std.specs.Prelude.{◌≡◌, [], ℕ, ◌≤◌, None, Some}
 use Rattle.texts.specs.Text.{ascii}
@@ -9,29 +10,33 @@ use Rattle.model.specs.Schema.{Schema}
 use Rattle.xmlschema.specs.Whole.{accepted, answer_of}
 use Rattle.xmltoproto.specs.Convert.{converted}
 
--- what an answer says in four numbers
+-- the answer, as four numbers
 pub record Figures (answer : Answer) (number offset place n : ℕ) : Type 0 where
   pub the_number : number_in answer ≡ number
   pub the_offset : offset_in answer ≡ offset
   pub the_place : place_in answer ≡ place
   pub the_n : written_in answer ≡ n
 
--- what the converter answers for a document, with work buffers of these lengths and an output of `room` bytes
+-- what the converter answers for a document, with work buffers of these lengths and an output of
+-- `room` bytes
 abbrev pub answer : String → ℕ → ℕ → ℕ → Answer
 answer document records text room = converted (answer_of (ascii document) records text) room
 
--- with work buffers that are long enough: the document is accepted, and its source has n bytes
+-- the document is accepted and its source has n bytes, where the work buffers and the output are
+-- long enough
 pub record Accepted (document : String) (n : ℕ) : Type 0 where
   pub is : (records text room : ℕ) → 16384 ≤ records → 65536 ≤ text → n ≤ room → Figures (answer document records text room) 0 0 0 n
 
--- the document is refused by this number, with this offset and place, whatever room the output has
+-- the document is refused by this number, with this offset and place, where the work buffers are
+-- long enough, whatever room the output has
 pub record Refused (document : String) (number offset place : ℕ) : Type 0 where
   pub is : (records text room : ℕ) → 16384 ≤ records → 65536 ≤ text → Figures (answer document records text room) number offset place 0
 
--- the document is read into this schema
+-- the document is read into this schema, where the work buffers are long enough
 pub record Read (document : String) (schema : Schema) : Type 0 where
   pub is : (records text : ℕ) → 16384 ≤ records → 65536 ≤ text → answer_of (ascii document) records text ≡ accepted schema
 
+-- the trials, in the scope's order
 pub record Trials : Type 0 where
   -- snake: MDEntryPx md_entry_px; orderID order_id; leg2ID leg2id
   pub snake_entry : camel_to_snake (ascii "MDEntryPx") ≡ ascii "md_entry_px"

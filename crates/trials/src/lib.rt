@@ -1,4 +1,4 @@
-// The worked examples of the converter that are proved, as the contract of a function that does nothing.
+//! The worked examples that are proved, as the contract of a function that does nothing.
 #![tactic(auto)]
 
 ghost use Rattle.trials.specs.Trials.{Trials};
