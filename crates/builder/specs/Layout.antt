@@ -5,7 +5,7 @@ use Rattle.texts.specs.Text.{ascii, piece, same}
 use Rattle.texts.specs.declared.Range.{Range}
 use Rattle.refusals.specs.declared.Refusal.{Refusal}
 use Rattle.tags.specs.Noting.{keys_of, NotedBy}
-pub use Rattle.saxlite.specs.Reader.{Tagged}
+pub use Rattle.saxlite.specs.Moving.{Tagged}
 use Rattle.builder.specs.Builder.{Builder, Outcome, on, refused, top, rest}
 use Rattle.model.specs.Store.{entry_at, words_of, item_of, schema_of}
 use Rattle.model.specs.declared.Entry.{Entry}

@@ -20,7 +20,7 @@ use Rattle.refusals.specs.declared.Refusal.TheVariants.{OpenComment, OpenInstruc
 use Rattle.tags.specs.declared.tag.Ending.{Ending}
 use Rattle.tags.specs.Find.{stands, find_from}
 use Rattle.tags.specs.Names.{local_name}
-use Rattle.tags.specs.Attributes.{tag_part_at, with_part, tag_within, tag_at}
+use Rattle.tags.specs.Attributes.{tag_part_at, Tag, with_part, tag_within, tag_at}
 use Rattle.tags.proofs.Searching.{stands-within, scan-within, scan-moves, found_from, found_inside}
 use Rattle.tags.proofs.Tagging.{part-inside, by_part, within-part, within_end, within-bad}
 use Rattle.tags.proofs.Ranges.{ending-past, ending-inside}
@@ -115,18 +115,18 @@ events-end doc spent k h = within-more doc spent _ k (length doc + 1) 0 (omega a
 
 -- ---- the same of a tag's parts
 
-tag-more : (j k : ℕ) (doc : List ℕ) (at place : ℕ) → length doc < at + j → length doc < at + k → 0 < j → 0 < k → tag_within j doc at place ≡ tag_within k doc at place
-tag-more zero k doc at place f g h l = absurd (omega arith)
-tag-more (suc j) zero doc at place f g h l = absurd (omega arith)
-tag-more (suc j) (suc k) doc at place f g h l =
+tag-more : (x y : Tag) (j k : ℕ) (doc : List ℕ) (at place : ℕ) → length doc < at + j → length doc < at + k → 0 < j → 0 < k → tag_within x j doc at place ≡ tag_within y k doc at place
+tag-more x y zero k doc at place f g h l = absurd (omega arith)
+tag-more x y (suc j) zero doc at place f g h l = absurd (omega arith)
+tag-more x y (suc j) (suc k) doc at place f g h l =
     by_part (tag_part_at doc at place)
     (λ name n value len next e.
     let i = rw e at (part-inside doc at place) in
-    within-part j doc at place e
-    ∙ ap (with_part doc name n value len) (tag-more j k doc next place (omega (arith, i)) (omega (arith, i)) (omega (arith, i)) (omega (arith, i)))
-    ∙ sym (within-part k doc at place e))
-    (λ ending e. within_end j doc at place e ∙ sym (within_end k doc at place e))
-    (λ refusal e. within-bad j doc at place e ∙ sym (within-bad k doc at place e))
+    within-part x j doc at place e
+    ∙ ap (with_part doc name n value len) (tag-more x y j k doc next place (omega (arith, i)) (omega (arith, i)) (omega (arith, i)) (omega (arith, i)))
+    ∙ sym (within-part y k doc at place e))
+    (λ ending e. within_end x j doc at place e ∙ sym (within_end y k doc at place e))
+    (λ refusal e. within-bad x j doc at place e ∙ sym (within-bad y k doc at place e))
 
 pub tags-end : TagsEnd
-tags-end doc at place k h = tag-more k (length doc + 1) doc at place (omega arith) (omega arith) (omega arith) (omega arith)
+tags-end doc at place spent k h = tag-more spent _ k (length doc + 1) doc at place (omega arith) (omega arith) (omega arith) (omega arith)

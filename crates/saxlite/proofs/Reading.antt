@@ -9,7 +9,8 @@ use lib.ListN.{length}
 use borrow.Author.Rules.{rules}
 use Rattle.refusals.specs.declared.Refusal.{Refusal}
 use Rattle.saxlite.specs.Passing.{is_silent, Passed, PassedAll}
-use Rattle.saxlite.specs.Reader.{bare, owing, to_come, Here, Asked, Yields}
+use Rattle.saxlite.specs.Reader.{to_come, Yields}
+use Rattle.saxlite.specs.Moving.{bare, owing, Here, Asked, Advances}
 use Rattle.saxlite.specs.Events.{events_from}
 use Rattle.saxlite.specs.declared.event.Event.TheVariants.{Close}
 use Rattle.saxlite.specs.declared.event.Owed.{Owed}
@@ -69,14 +70,19 @@ module _ (doc : List ℕ) (c : Cursor) where
 -- a reader, by what is read at its cursor
 module _ {r r' : Reader} {a : Result (Option Read) Refusal} (x : Asked r.doc.now r.cursor a) (d : r'.doc ≡ r.doc) where
   pub yields-bad : {q : Refusal} → a ≡ Err q → Yields r r' (Err q)
-  yields-bad e = record { doc = d; is = (rw e at x).is; moves = tt }
+  yields-bad e = record { doc = d; is = (rw e at x).is }
 
   pub yields-none : {o : Option Read} → a ≡ Ok o → o ≡ None → Yields r r' (Ok None)
-  yields-none e f = record { doc = d; is = (rw (e ∙ ap Ok f) at x).is; moves = tt }
+  yields-none e f = record { doc = d; is = (rw (e ∙ ap Ok f) at x).is }
 
   pub yields-told : {o : Option Read} → a ≡ Ok o → {k : Read} → o ≡ Some k → r'.cursor ≡ k.cursor → Yields r r' (Ok (Some k.told))
   yields-told e f c =
       let y = rw (e ∙ ap Ok f) at x in
-      record { doc = d; is = y.is ∙ rw c refl; moves = rw c y.moves }
+      record { doc = d; is = y.is ∙ rw c refl }
 
-pub ruleset reading = (asked-owed, asked-broken, passed-loud, asked-end, asked-bad, asked-read, yields-bad, yields-none, yields-told, rules)
+-- and that it has moved on
+module _ {doc : List ℕ} {c : Cursor} {a : Result (Option Read) Refusal} (x : Asked doc c a) where
+  pub advances-told : {o : Option Read} → a ≡ Ok o → {k : Read} → o ≡ Some k → {c' : Cursor} → c' ≡ k.cursor → Advances doc c c' (Ok (Some k.told))
+  advances-told e f g = let y = rw (e ∙ ap Ok f) at x in rw g y.moves
+
+pub ruleset reading = (asked-owed, asked-broken, passed-loud, asked-end, asked-bad, asked-read, yields-bad, yields-none, yields-told, advances-told, rules)

@@ -32,7 +32,8 @@ use Rattle.tags.proofs.Begun.{closing-within, closing-fits, closing-next-fits, c
 use Rattle.saxlite.specs.Event.{Events, opens, closes, next, attributes_in}
 use Rattle.saxlite.specs.Events.{text_at, close_at, open_by, open_at, events_at, events_from}
 use Rattle.saxlite.specs.Passing.{is_silent}
-use Rattle.saxlite.specs.Reader.{bare, behind, owed_before, owing, Here}
+use Rattle.saxlite.specs.Reader.{owed_before}
+use Rattle.saxlite.specs.Moving.{bare, behind, owing, Here}
 use Rattle.saxlite.specs.declared.event.Event.TheVariants.{Text, Open, Close}
 use Rattle.saxlite.specs.declared.event.Owed.{Owed}
 use Rattle.saxlite.specs.declared.event.Cursor.{Cursor}

@@ -61,7 +61,7 @@ events_at go doc at =
     (text_at go doc at)))))
 
 -- The events from a place on, of at most k pieces of text and markup. Each takes a byte, so that one more than the document's length is
--- never used up: what is `spent` then does not matter (Laws.antt).
+-- never used up: what is `spent` then does not matter (Fuel.antt).
 unfoldable pub events_within : Events → ℕ → List ℕ → ℕ → Events
 events_within spent zero doc at = spent
 events_within spent (suc k) doc at = pick (leb (length doc) at) done (events_at (events_within spent k doc) doc at)

@@ -1,6 +1,6 @@
 -- The definitions of reading count pieces and parts to be seen to end. None of them ever ends because that count is used up.
 use Rattle.std.specs.Prelude.{◌≡◌, List, ℕ, ◌<◌, length}
-use Rattle.tags.specs.Attributes.{tag_within, tag_at}
+use Rattle.tags.specs.Attributes.{Tag, tag_within, tag_at}
 use Rattle.saxlite.specs.Event.{Events}
 use Rattle.saxlite.specs.Events.{events_within, events}
 
@@ -10,4 +10,4 @@ EventsEnd = (doc : List ℕ) (spent : Events) (k : ℕ) → length doc < k → e
 
 -- and so is a tag
 abbrev pub TagsEnd : Type 0
-TagsEnd = (doc : List ℕ) (at place k : ℕ) → length doc < k → tag_within k doc at place ≡ tag_at doc at place
+TagsEnd = (doc : List ℕ) (at place : ℕ) (spent : Tag) (k : ℕ) → length doc < k → tag_within spent k doc at place ≡ tag_at doc at place

@@ -1,6 +1,8 @@
--- Reading markup: the events of a document. A customer reads Event, Events and Fuel; Reader and Passing are internal.
+-- Reading markup: the events of a document, and the reader that yields them. A customer reads Event, Events, Reader and Fuel; Moving and
+-- Passing are internal.
 pub mod Event
 pub mod Events
-pub mod Fuel
 pub mod Reader
+pub mod Fuel
+pub mod Moving
 pub mod Passing

@@ -2,7 +2,8 @@
 #![tactic(auto)]
 
 ghost use Rattle.std.specs.Prelude.{◌≡◌};
-ghost use Rattle.saxlite.specs.Reader.{cursor_at, bare};
+ghost use Rattle.saxlite.specs.Reader.{cursor_at};
+ghost use Rattle.saxlite.specs.Moving.{bare};
 
 use tags::tag::{Notes, nothing};
 
@@ -38,7 +39,7 @@ pub struct Told {
 
 /// The close that the self-closed tag at `place` owes.
 #[derive(Clone, Copy)]
-pub struct Owed {
+pub(crate) struct Owed {
     pub place: usize,
     pub name: usize,
     pub len: usize,
@@ -46,14 +47,14 @@ pub struct Owed {
 
 /// Where the reader stands, and the close that it yields before it goes on there.
 #[derive(Clone, Copy)]
-pub struct Cursor {
+pub(crate) struct Cursor {
     pub at: usize,
     pub owed: Option<Owed>,
 }
 
 /// An event, and where the reader goes on.
 #[derive(Clone, Copy)]
-pub struct Read {
+pub(crate) struct Read {
     pub told: Told,
     pub cursor: Cursor,
 }

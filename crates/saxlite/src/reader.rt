@@ -2,7 +2,8 @@
 #![tactic(auto, using(crate::proofs::Reading::reading))]
 
 ghost use Rattle.std.specs.Prelude.{◌≡◌, None};
-ghost use Rattle.saxlite.specs.Reader.{cursor_at, bare, Asked, Yields};
+ghost use Rattle.saxlite.specs.Reader.{cursor_at, Yields};
+ghost use Rattle.saxlite.specs.Moving.{bare, Asked, Advances};
 ghost use Rattle.saxlite.specs.declared.event.Event.TheVariants.{Close};
 
 use crate::event::{Cursor, Event, Owed, Read, Told};
@@ -69,7 +70,8 @@ impl<'a> Reader<'a> {
 
     /// The next event, the end of the document as `None`, or the refusal of what stands here. The reader has moved on behind an event.
     pub fn next(&mut self) -> Result<Option<Told>, Refusal>
-        ensures { Yields self.old self.new result }
+        ensures yields { Yields self.old self.new result }
+        ensures moves { Advances self.old.doc.now self.old.cursor self.new.cursor result }
     {
         match self.cursor.read(self.doc)? {
             Some(read) => {

@@ -12,7 +12,7 @@ use Rattle.refusals.specs.declared.Refusal.{Refusal}
 use Rattle.tags.specs.declared.tag.TagPart.{TagPart}
 use Rattle.tags.specs.declared.tag.TagPart.TheVariants.{Attribute as Part, TagEnd}
 use Rattle.tags.specs.Find.{stands}
-use Rattle.tags.specs.Attributes.{quoted_at, value_at, attribute_part_at, tag_part_at, Tag, with_part, tag_within}
+use Rattle.tags.specs.Attributes.{quoted_at, value_at, attribute_part_at, tag_part_at, Tag, with_part, no_tag, tag_within}
 use Rattle.tags.proofs.Tagging.{by_part, within-part, within_end, within-bad}
 
 -- the same part, or refusals both
@@ -60,17 +60,17 @@ unfolding with_part
 with-alike doc name n value len s t e = rw e
 
 -- the attributes of a tag, whatever the place
-pub attributes-alike : (k : ℕ) (doc : List ℕ) (p q at : ℕ) → (tag_within k doc at p).attributes ≡ (tag_within k doc at q).attributes
+pub attributes-alike : (k : ℕ) (doc : List ℕ) (p q at : ℕ) → (tag_within no_tag k doc at p).attributes ≡ (tag_within no_tag k doc at q).attributes
 unfolding tag_within
 attributes-alike zero doc p q at = refl
 attributes-alike (suc k) doc p q at =
     by_part (tag_part_at doc at p)
     (λ name n value len next e.
     let f : tag_part_at doc at q ≡ Ok (Part name n value len next) = rw e at (part-alike doc p q at) in
-    rw (within-part k doc at p e, within-part k doc at q f) (with-alike doc name n value len (tag_within k doc next p) (tag_within k doc next q) (attributes-alike k doc p q next)))
+    rw (within-part no_tag k doc at p e, within-part no_tag k doc at q f) (with-alike doc name n value len (tag_within no_tag k doc next p) (tag_within no_tag k doc next q) (attributes-alike k doc p q next)))
     (λ ending e.
     let f : tag_part_at doc at q ≡ Ok (TagEnd ending) = rw e at (part-alike doc p q at) in
-    rw (within_end k doc at p e, within_end k doc at q f))
+    rw (within_end no_tag k doc at p e, within_end no_tag k doc at q f))
     (λ refusal e.
     let f : IsBad (tag_part_at doc at q) = rw e at (part-alike doc p q at) in
-    rw (within-bad k doc at p e, within-bad k doc at q f.bad))
+    rw (within-bad no_tag k doc at p e, within-bad no_tag k doc at q f.bad))

@@ -15,7 +15,7 @@ use Rattle.texts.specs.Text.{piece, same}
 use Rattle.texts.proofs.Choosing.{by-test, pick_no, pick-by, and_left, and_right}
 use Rattle.texts.proofs.Comparing.{same-equal}
 use Rattle.tags.specs.Names.{is_xmlns}
-use Rattle.tags.specs.Attributes.{tag_part_at, Attribute, Tag, with_part, tag_within, tag_at, later, last_of, attribute_at, raw_length, raw_lengths}
+use Rattle.tags.specs.Attributes.{tag_part_at, Attribute, Tag, with_part, no_tag, tag_within, tag_at, later, last_of, attribute_at, raw_length, raw_lengths}
 use Rattle.tags.proofs.Looking.{later-absent}
 use Rattle.tags.proofs.Placing.{attributes-alike}
 use Rattle.tags.proofs.Tagging.{by_part, part-inside, within-part, within_end, within-bad}
@@ -47,24 +47,24 @@ with-ending : (doc : List ℕ) (name n value len : ℕ) (t : Tag) → (with_part
 unfolding with_part
 with-ending doc name n value len t = refl
 
-ended : (k : ℕ) (doc : List ℕ) (at place : ℕ) {ending : Ending} → (tag_within k doc at place).ending ≡ Ok ending → Ended doc at ending.next (tag_within k doc at place).attributes
+ended : (k : ℕ) (doc : List ℕ) (at place : ℕ) {ending : Ending} → (tag_within no_tag k doc at place).ending ≡ Ok ending → Ended doc at ending.next (tag_within no_tag k doc at place).attributes
 unfolding tag_within
 ended zero doc at place h = absurd (let z : ◌≡◌ {A = ℕ} 0 1 = cc in omega arith)
 ended (suc k) doc at place {ending} h =
     by_part (tag_part_at doc at place)
     (λ name n value len to e.
     let i = rw e at (part-inside doc at place) in
-    let g = within-part k doc at place e in
-    let r = ended k doc to place (sym (with-ending doc name n value len (tag_within k doc to place)) ∙ (rw g at h)) in
-    rw g (record { past = omega (arith, r.past); inside = r.inside; laid = laid-with doc at name n value len to ending.next (tag_within k doc to place) (omega arith) (omega arith) r.laid }))
+    let g = within-part no_tag k doc at place e in
+    let r = ended k doc to place (sym (with-ending doc name n value len (tag_within no_tag k doc to place)) ∙ (rw g at h)) in
+    rw g (record { past = omega (arith, r.past); inside = r.inside; laid = laid-with doc at name n value len to ending.next (tag_within no_tag k doc to place) (omega arith) (omega arith) r.laid }))
     (λ here e.
     let i = rw e at (part-inside doc at place) in
-    let g = within_end k doc at place e in
+    let g = within_end no_tag k doc at place e in
     let f : ◌≡◌ {A = Result Ending Refusal} (Ok here) (Ok ending) = rw g at h in
     let z : here ≡ ending = cc in
     rw (g, ← z) (record { past = i.0; inside = i.1; laid = omega arith }))
     (λ refusal e.
-    let f : ◌≡◌ {A = Result Ending Refusal} (Err refusal) (Ok ending) = rw (within-bad k doc at place e) at h in
+    let f : ◌≡◌ {A = Result Ending Refusal} (Err refusal) (Ok ending) = rw (within-bad no_tag k doc at place e) at h in
     absurd (let z : ◌≡◌ {A = ℕ} 0 1 = cc in omega arith))
 
 -- ---- what a look-up finds lies there

@@ -18,7 +18,7 @@ use Rattle.refusals.specs.declared.Refusal.{Refusal}
 use Rattle.tags.specs.declared.tag.TagPart.{TagPart}
 use Rattle.tags.specs.declared.tag.TagPart.TheVariants.{Attribute as Part, TagEnd}
 use Rattle.tags.specs.Find.{stands}
-use Rattle.tags.specs.Attributes.{quoted_at, value_at, attribute_part_at, tag_part_at, Tag, with_part, tag_within, tag_at}
+use Rattle.tags.specs.Attributes.{quoted_at, value_at, attribute_part_at, tag_part_at, Tag, no_tag, with_part, tag_within, tag_at}
 use Rattle.tags.proofs.Searching.{stands-within}
 
 -- ---- a part lies within the document, in its order
@@ -74,44 +74,44 @@ by_part (Ok (Part name n value len next)) f g h = f name n value len next refl
 by_part (Ok (TagEnd ending)) f g h = g ending refl
 by_part (Err refusal) f g h = h refusal refl
 
-module _ (k : ℕ) (doc : List ℕ) (at place : ℕ) where
-  pub within-part : {name n value len next : ℕ} → tag_part_at doc at place ≡ Ok (Part name n value len next) → tag_within (suc k) doc at place ≡ with_part doc name n value len (tag_within k doc next place)
+module _ (x : Tag) (k : ℕ) (doc : List ℕ) (at place : ℕ) where
+  pub within-part : {name n value len next : ℕ} → tag_part_at doc at place ≡ Ok (Part name n value len next) → tag_within x (suc k) doc at place ≡ with_part doc name n value len (tag_within x k doc next place)
   unfolding tag_within
   within-part e = rw (e, tag_within)
 
-  pub within_end : {ending : Ending} → tag_part_at doc at place ≡ Ok (TagEnd ending) → tag_within (suc k) doc at place ≡ record { attributes = []; ending = Ok ending }
+  pub within_end : {ending : Ending} → tag_part_at doc at place ≡ Ok (TagEnd ending) → tag_within x (suc k) doc at place ≡ record { attributes = []; ending = Ok ending }
   unfolding tag_within
   within_end e = rw (e, tag_within)
 
-  pub within-bad : {refusal : Refusal} → tag_part_at doc at place ≡ Err refusal → tag_within (suc k) doc at place ≡ record { attributes = []; ending = Err refusal }
+  pub within-bad : {refusal : Refusal} → tag_part_at doc at place ≡ Err refusal → tag_within x (suc k) doc at place ≡ record { attributes = []; ending = Err refusal }
   unfolding tag_within
   within-bad e = rw (e, tag_within)
 
 -- more fuel changes nothing
-enough : (k : ℕ) (doc : List ℕ) (at place : ℕ) → at ≤ length doc → length doc < at + k → tag_within (suc k) doc at place ≡ tag_within k doc at place
+enough : (k : ℕ) (doc : List ℕ) (at place : ℕ) → at ≤ length doc → length doc < at + k → tag_within no_tag (suc k) doc at place ≡ tag_within no_tag k doc at place
 enough zero doc at place h l = absurd (omega arith)
 enough (suc k) doc at place h l =
     by_part (tag_part_at doc at place)
     (λ name n value len next e.
     let i = rw e at (part-inside doc at place) in
-    within-part (suc k) doc at place e
+    within-part no_tag (suc k) doc at place e
     ∙ ap (with_part doc name n value len) (enough k doc next place i.3 (omega arith))
-    ∙ sym (within-part k doc at place e))
-    (λ ending e. within_end (suc k) doc at place e ∙ sym (within_end k doc at place e))
-    (λ refusal e. within-bad (suc k) doc at place e ∙ sym (within-bad k doc at place e))
+    ∙ sym (within-part no_tag k doc at place e))
+    (λ ending e. within_end no_tag (suc k) doc at place e ∙ sym (within_end no_tag k doc at place e))
+    (λ refusal e. within-bad no_tag (suc k) doc at place e ∙ sym (within-bad no_tag k doc at place e))
 
 module _ (doc : List ℕ) (at place : ℕ) where
   pub tag-part : {name n value len next : ℕ} → tag_part_at doc at place ≡ Ok (Part name n value len next) → tag_at doc at place ≡ with_part doc name n value len (tag_at doc next place)
   tag-part {name} {n} {value} {len} {next} e =
       let i = rw e at (part-inside doc at place) in
-      let m : tag_within (suc (length doc)) doc next place ≡ tag_within (length doc) doc next place = enough (length doc) doc next place i.3 (omega arith) in
-      rw (add-one, within-part (length doc) doc at place e, ← m)
+      let m : tag_within no_tag (suc (length doc)) doc next place ≡ tag_within no_tag (length doc) doc next place = enough (length doc) doc next place i.3 (omega arith) in
+      rw (add-one, within-part no_tag (length doc) doc at place e, ← m)
 
   pub tag-end : {ending : Ending} → tag_part_at doc at place ≡ Ok (TagEnd ending) → tag_at doc at place ≡ record { attributes = []; ending = Ok ending }
-  tag-end e = rw add-one (within_end (length doc) doc at place e)
+  tag-end e = rw add-one (within_end no_tag (length doc) doc at place e)
 
   pub tag-bad : {refusal : Refusal} → tag_part_at doc at place ≡ Err refusal → tag_at doc at place ≡ record { attributes = []; ending = Err refusal }
-  tag-bad e = rw add-one (within-bad (length doc) doc at place e)
+  tag-bad e = rw add-one (within-bad no_tag (length doc) doc at place e)
 
 -- ---- the loop that goes for a tag's end stands at i; p is the part there
 

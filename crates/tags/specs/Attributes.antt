@@ -69,18 +69,22 @@ with_part doc name n value len rest =
       ending = rest.ending;
     }
 
--- A tag of at most k parts. Each part takes a byte, so that one more than the document's length is never used up.
-unfoldable pub tag_within : ℕ → List ℕ → ℕ → ℕ → Tag
-tag_within zero doc at place = record { attributes = []; ending = Err (OpenTag at place) }
-tag_within (suc k) doc at place =
+-- A tag of at most k parts, and what is `spent` where these are used up. Each part takes a byte, so that one more than the document's
+-- length is never used up: what is spent then does not matter.
+unfoldable pub tag_within : Tag → ℕ → List ℕ → ℕ → ℕ → Tag
+tag_within spent zero doc at place = spent
+tag_within spent (suc k) doc at place =
     elim (tag_part_at doc at place) [
-      | Ok (Part name n value len next) ↦ with_part doc name n value len (tag_within k doc next place)
+      | Ok (Part name n value len next) ↦ with_part doc name n value len (tag_within spent k doc next place)
       | Ok (TagEnd ending) ↦ record { attributes = []; ending = Ok ending }
       | Err refusal ↦ record { attributes = []; ending = Err refusal }
     ]
 
+abbrev pub no_tag : Tag
+no_tag = record { attributes = []; ending = Err (OpenTag 0 0) }
+
 abbrev pub tag_at : List ℕ → ℕ → ℕ → Tag
-tag_at doc at place = tag_within (length doc + 1) doc at place
+tag_at doc at place = tag_within no_tag (length doc + 1) doc at place
 
 -- ---- the look-up: of equal attribute names the last counts
 

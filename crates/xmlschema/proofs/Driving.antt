@@ -10,7 +10,8 @@ use Rattle.refusals.specs.declared.Refusal.{Refusal}
 use Rattle.refusals.specs.declared.Refusal.TheVariants.{OpenElements}
 use Rattle.saxlite.specs.Event.{Event, Events, broken, done, next}
 use Rattle.saxlite.specs.Events.{events}
-use Rattle.saxlite.specs.Reader.{cursor_at, event_in, to_come, takes, Inside, NotedIn, left, Moves, Yields}
+use Rattle.saxlite.specs.Reader.{cursor_at, event_in, to_come, Yields}
+use Rattle.saxlite.specs.Moving.{takes, Inside, NotedIn, left, Moves, Advances}
 use Rattle.saxlite.specs.declared.event.Told.{Told}
 use Rattle.saxlite.specs.declared.reader.Reader.{Reader}
 use Rattle.model.specs.Store.{items_of, schema_of}
@@ -65,9 +66,9 @@ module _ {r : Reader} {w : Work} {s : State} (d : Driving r w s) {r' : Reader} {
     drive-done f h = rw (← none f, length-stack s.place.depth w.records.now w.doc.now, le-ltb 0 s.place.depth h) refl
 
     -- an event
-    module _ {t : Told} (f : o ≡ Some t) where
+    module _ (advances : Advances r.doc.now r.cursor r'.cursor y) {t : Told} (f : o ≡ Some t) where
       moves : Moves r.doc.now r.cursor t r'.cursor
-      moves = (rw (e ∙ ap Ok f) at yields).moves
+      moves = rw (e ∙ ap Ok f) at advances
 
       inside : r'.cursor.at ≤ length w.doc.now
       inside = let h : r.cursor.at ≤ length r.doc.now = rw d.doc d.within in rw d.doc at (moves.within h)

@@ -8,7 +8,8 @@ use Rattle.refusals.specs.declared.Refusal.{Refusal}
 use Rattle.tags.specs.declared.tag.Notes.{Notes}
 use Rattle.entities.specs.Entities.{decoded}
 use Rattle.saxlite.specs.Event.{attributes_in}
-use Rattle.saxlite.specs.Reader.{event_in, takes, Inside, NotedIn}
+use Rattle.saxlite.specs.Reader.{event_in}
+use Rattle.saxlite.specs.Moving.{takes, Inside, NotedIn}
 use Rattle.saxlite.specs.declared.event.Event.{Event}
 use Rattle.saxlite.specs.declared.event.Event.TheVariants.{Text, Open, Close}
 use Rattle.builder.specs.Builder.{Builder, on, opened, closed, collect}

@@ -2,7 +2,8 @@
 #![tactic(auto, using(crate::proofs::Laws::driving, crate::proofs::Laws::stepping, crate::proofs::Laws::answering))]
 
 ghost use Rattle.std.specs.Prelude.{◌≡◌, ◌≤◌, length};
-ghost use Rattle.saxlite.specs.Reader.{event_in, takes, Inside, NotedIn};
+ghost use Rattle.saxlite.specs.Reader.{event_in};
+ghost use Rattle.saxlite.specs.Moving.{takes, Inside, NotedIn};
 ghost use Rattle.builder.specs.Layout.{builder_in, Ready, After};
 ghost use Rattle.xmlschema.specs.Whole.{step as step_of, reading};
 ghost use Rattle.xmlschema.specs.Driving.{with_state};

@@ -5,5 +5,4 @@ ghost use Rattle.xmlschema.specs.Tracking.{ValuesFound};
 /// A validValue that closes while an enum is current finds a value of that enum.
 pub fn values_found()
     ensures { ValuesFound }
-{
-}
+{}

@@ -1,4 +1,4 @@
-use Rattle.saxlite.specs.Reader.{left}
+use Rattle.saxlite.specs.Moving.{left}
 use Rattle.builder.specs.Layout.{Same}
 use Rattle.xmlschema.specs.Driving.{Driving}
 use Rattle.xmlschema.proofs.build.read_tested.Given as goal
