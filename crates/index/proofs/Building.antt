@@ -1,4 +1,4 @@
--- Laws of building the index: each takes what the code knows there.
+-- Laws of building the index, each from the facts at hand where the code needs it.
 use mathlib.Core.Path.{◌≡◌, refl, sym, ap, ◌∙◌}
 use mathlib.Core.Bool.{Bool, true, false}
 use mathlib.Core.List.{List}
@@ -79,7 +79,7 @@ settling-start s ix c {n} e =
 pub settling-here : (s : Schema) (ix : List ℕ) {n : ℕ} → Settling s n n ix → 0 < n → Settling s (n - 1 + 1) (n - 1 + 1) ix
 settling-here s ix {n} l h = let e : n - 1 + 1 ≡ n = omega arith in rw e l
 
--- the type name of an item is told, or it is not
+-- `resolve_item` stored the type name of an item, or it did not
 pub settling-told : {s : Schema} {ix : List ℕ} {l r : ℕ} (q : ℕ) {t : Bool} → Settling s l (pick t r q) ix → t ≡ true → Settling s l r ix
 settling-told q c e = rw e at c
 
@@ -117,7 +117,7 @@ module _ (s : Schema) (i : ℕ) {kind : ℕ} (fk : kind ≡ (item_at s i).kind) 
       same : (j : ℕ) → (j ≡ 12 * owner + 2 + kind → ⊥) → (j ≡ 12 * i → ⊥) → get_or ix' j 0 ≡ get_or ix j 0
       same j a b = rw q (fronted-other ix (12 * owner + 2 + kind) (12 * i) i j a b)
 
--- an array that holds the names in order
+-- the array of the sorted names, and their numbers
 pub zeros-long : 1024 ≤ length {A = ℕ} (replicate 1024 0)
 zeros-long = let e = length-replicate {A = ℕ} 1024 0 in omega arith
 
@@ -156,11 +156,11 @@ module _ (s : Schema) (i : ℕ) {k : ℕ} (f : k ≡ (item_at s i).kind) (ix : L
       aside : declares (item_at s i).kind ≡ false
       aside = ap declares (sym f ∙ ek) ∙ field-aside
 
-  -- by a chain that is short
+  -- by a chain that is short enough
   pub resolve-short : k ≡ 9 → i < length s.items → {w : List ℕ} → w ≡ (item_at s i).second → {d : ℕ} → (d ≡ number_of (declaration_of s w)) × (d < 1026) → {ix' : List ℕ} → ix' ≡ set ix (12 * i + 1) d → Settling s (i + 1) i ix'
   resolve-short ek h ew t q = resolve-on ek h ew t.0 q
 
-  -- by the names in order
+  -- by the sorted names
   pub resolve-ordered : k ≡ 9 → i < length s.items → {w : List ℕ} → w ≡ (item_at s i).second → {d : ℕ} → (d ≡ numbered (last_named an_enum w s) (last_named a_composite w s) (last_named a_type w s)) × (d < 1026) → {ix' : List ℕ} → ix' ≡ set ix (12 * i + 1) d → Settling s (i + 1) i ix'
   unfolding declaration_of
   resolve-ordered ek h {w} ew t q = resolve-on ek h ew (t.0 ∙ numbered_is (last_named an_enum w s) (last_named a_composite w s) (last_named a_type w s)) q

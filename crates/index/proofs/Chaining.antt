@@ -1,4 +1,4 @@
--- The chains of the first items' names, and one more item behind them.
+-- The hash chains of the first items' names, and of one more.
 use mathlib.Core.Path.{◌≡◌, refl, sym, ap, ◌∙◌}
 use mathlib.Core.Bool.{Bool, true, false}
 use Rattle.std.specs.Prelude.{Option, Some, None}
@@ -23,7 +23,7 @@ use Rattle.index.proofs.Fronting.{fronted-head, fronted-at, fronted-other}
 
 -- ---- the last of the first n items that pass a test
 
--- p is a narrower test than q: the last that passes q tells where to look for the last that passes p
+-- where p implies q, the last that passes p is found from the last that passes q
 module _ (p q : Item → Bool) (s : Schema) (narrow : (it : Item) → p it ≡ true → q it ≡ true) where
   missed : (it : Item) → q it ≡ false → p it ≡ false
   missed it f = by-test (p it) (λ t. absurd (let e = sym (narrow it t) ∙ f in let z : ◌≡◌ {A = ℕ} 0 1 = cc in omega arith)) (λ g. g)
@@ -61,7 +61,7 @@ pub code-some : (o : Option ℕ) (p : ℕ) → 0 < p → p ≡ code o → o ≡ 
 code-some None p h e = absurd (omega arith)
 code-some (Some i) p h e = let z : i ≡ p - 1 = omega arith in rw z
 
--- None so far
+-- no item is in the chains yet
 pub chained-start : (s : Schema) (ix : List ℕ) → ((k : ℕ) → get_or ix k 0 ≡ 0) → Chained s 0 ix
 unfolding last_hashed positions_from last
 chained-start s ix z =
@@ -120,7 +120,7 @@ module _ (s : Schema) (ix : List ℕ) (n : ℕ) (c : Chained s n ix) (h : n < le
             (λ m. let e : j ≡ n = omega arith in let d = (hashed-as s (item_at s n) b (is_true (hashed s b (item_at s n)) (rw e at t))).0 in absurd (let z : ◌≡◌ {A = ℕ} 0 1 = cc in omega arith));
       }
 
--- the place of an item that declares nothing is no part of the chains
+-- the chain number of an item that declares nothing is free
 pub chained-aside : (s : Schema) (n : ℕ) (ix : List ℕ) (i d : ℕ) → i < length s.items → declares (item_at s i).kind ≡ false → Chained s n ix → Chained s n (set ix (12 * i + 1) d)
 chained-aside s n ix i d h f c =
     record {
@@ -130,6 +130,6 @@ chained-aside s n ix i d h f c =
           (λ e. get_or-set_other ix (12 * i + 1) (12 * j + 1) d 0 (λ q. e (omega arith)) ∙ c.chain j l b t);
     }
 
--- nor are the links
+-- the links are not part of the chains
 pub chained-frame : (s : Schema) (n : ℕ) (ix ix' : List ℕ) → ((b : ℕ) → get_or ix' (12 * length s.items + b) 0 ≡ get_or ix (12 * length s.items + b) 0) → ((j : ℕ) → get_or ix' (12 * j + 1) 0 ≡ get_or ix (12 * j + 1) 0) → Chained s n ix → Chained s n ix'
 chained-frame s n ix ix' f g c = record { head = λ b l. f b ∙ c.head b l; chain = λ j l b t. g j ∙ c.chain j l b t }

@@ -1,4 +1,4 @@
--- Laws of the searches by the index: each takes what the code knows there.
+-- Laws of searches by the index, each from the facts at hand where the code needs it.
 use mathlib.Core.Path.{◌≡◌, refl, sym, ◌∙◌}
 use mathlib.Core.Bool.{true, false}
 use Rattle.std.specs.Prelude.{Option, Some, None, is_some}

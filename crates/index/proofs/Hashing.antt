@@ -1,4 +1,4 @@
--- Laws of the hash: each takes what the code knows there.
+-- Laws of the hash, each from the facts at hand where the code needs it.
 use mathlib.Core.Path.{◌≡◌, refl, ap}
 use mathlib.Core.List.{List}
 use Prim.Native.Nat.{ℕ, zero, suc, ◌+◌, ◌-◌, ◌*◌, ◌/◌, ◌%◌, ◌≤◌, ◌<◌}
@@ -28,7 +28,7 @@ module _ (s : List ℕ) where
   unfolding short_word
   short-some h n ea eb ec = rw (lt-ltb (length s) 4 h, ne_eqb (length s) 0 n, ea, eb, ec)
 
--- ---- 8 and more: what is still to come is unchanged
+-- ---- 8 bytes and more: what remains to be mixed in stays as it is
 
 pub mix-is : (h w : ℕ) → bit_xor (h % 1152921504606846976 * 9) w ≡ mix h w
 unfolding mix
@@ -73,7 +73,7 @@ module _ (s : List ℕ) (a : 8 ≤ length s) where
       (λ l. hashing-end (hashing-on (hashing-start {s = s} a) l ew eh) b ev er)
       (λ l. absurd (n (omega arith)))
 
--- ---- both
+-- ---- the hash of any name
 
 pub narrowed-is : (w : ℕ) → ((w % 4294967296 * 1981491285 + w / 4294967296 * 1113222403) / 1073741824 % 1024 ≡ narrowed w) × ((w % 4294967296 * 1981491285 + w / 4294967296 * 1113222403) / 1073741824 % 1024 < 1024)
 unfolding narrowed

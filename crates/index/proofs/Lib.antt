@@ -1,3 +1,4 @@
+-- Laws of the index: its hash, chains, links and searches.
 pub mod Fronting
 pub mod Hashing
 pub mod Linking

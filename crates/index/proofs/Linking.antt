@@ -1,4 +1,4 @@
--- The links of the items from a place on, and one more item before them.
+-- The links of the items from a position on, and of one more before them.
 use mathlib.Core.Path.{◌≡◌, sym, ap, ◌∙◌}
 use Rattle.std.specs.Prelude.{Some, None}
 use mathlib.Core.List.{List}
@@ -17,7 +17,7 @@ use Rattle.ordered.proofs.Numbering.{by_equal}
 use Rattle.index.specs.Index.{code, fronted, Linked}
 use Rattle.index.proofs.Fronting.{fronted-head, fronted-at, fronted-other}
 
--- ---- one step of the model's search
+-- ---- one step of the model's search from an owner
 
 pub under-end : (s : Schema) (k o j : ℕ) → length s.items ≤ j → next_under k o j s ≡ None
 unfolding next_under positions_from first
@@ -37,7 +37,7 @@ module _ (s : Schema) (k o j : ℕ) (h : j < length s.items) where
 
 -- ---- the links
 
--- None so far
+-- no item is linked yet
 pub linked-start : (s : Schema) (ix : List ℕ) → ((k o : ℕ) → k < 10 → o < length s.items → get_or ix (12 * o + 2 + k) 0 ≡ 0) → (n : ℕ) → length s.items ≤ n → Linked s n ix
 linked-start s ix z n h =
     record {
@@ -46,7 +46,7 @@ linked-start s ix z n h =
     }
 
 module _ (s : Schema) (ix : List ℕ) (j : ℕ) (l : Linked s (j + 1) ix) (h : j < length s.items) where
-  -- an item that has a place among the heads
+  -- an item with a kind below 10 and an owner among the items
   module _ (big : 12 * length s.items ≤ length ix) (most : length s.items ≤ 1024) (hk : (item_at s j).kind < 10) (ho : (item_at s j).owner < length s.items) where
     linked-first : (k o : ℕ) → k < 10 → o < length s.items → get_or (fronted ix (12 * (item_at s j).owner + 2 + (item_at s j).kind) (12 * j) j) (12 * o + 2 + k) 0 ≡ code (next_under k o j s)
     linked-first k o bk bo =
@@ -82,7 +82,7 @@ module _ (s : Schema) (ix : List ℕ) (j : ℕ) (l : Linked s (j + 1) ix) (h : j
             (λ c. let e : i ≡ j = omega arith in absurd (n (rw e at bk) (rw e at bo)));
       }
 
--- the names are no part of the links
+-- the chains are not part of the links
 pub linked-frame : (s : Schema) (i : ℕ) (ix ix' : List ℕ) → ((k o : ℕ) → k < 10 → get_or ix' (12 * o + 2 + k) 0 ≡ get_or ix (12 * o + 2 + k) 0) → ((j : ℕ) → get_or ix' (12 * j) 0 ≡ get_or ix (12 * j) 0) → Linked s i ix → Linked s i ix'
 linked-frame s i ix ix' f g l =
     record {

@@ -1,4 +1,4 @@
--- Following a chain for what a name is declared as.
+-- Walking a hash chain for what a name is declared as.
 use mathlib.Core.Path.{◌≡◌, refl, sym, ap, ◌∙◌}
 use mathlib.Core.Bool.{Bool, true, false}
 use Rattle.std.specs.Prelude.{Option, Some, None}
@@ -29,7 +29,8 @@ type_number : Option ℕ → ℕ
 type_number None = 0
 type_number (Some i) = i + 2
 
--- the number, where `kept` is kept and e, c, t are the last enum, composite and type of the name that are still to come
+-- the number of a name, where the walk has `kept` so far, and e, c, t are the last enum, composite
+-- and type of the name among the items to come
 pub chosen : ℕ → Option ℕ → Option ℕ → Option ℕ → ℕ
 chosen kept (Some i) c t = 1
 chosen kept None (Some i) t = 1
@@ -82,7 +83,7 @@ module _ (kept j : ℕ) where
 
 -- ---- along the chain
 
--- what is named so is hashed so
+-- an item of this name is in its chain
 narrow : (s : Schema) (kind : ℕ) (name : List ℕ) → declares kind ≡ true → (it : Item) → named_so kind name it ≡ true → hashed s (place s name) it ≡ true
 unfolding hashed
 narrow s kind name d it t =
@@ -91,7 +92,7 @@ narrow s kind name d it t =
     let n : it.name ≡ name = same-equal it.name name e.1 in
     rw (k, n, d, eq-eqb (place s name) (place s name) refl)
 
--- p leads to the last of the first n items that may be named so, and `kept` is what those behind them say
+-- p leads to the last of the first n items in the name's chain, and the items after that say `kept`
 pub record Seeking (name : List ℕ) (s : Schema) (p kept : ℕ) : Type 0 where
   pub n : ℕ
   pub within : n ≤ length s.items

@@ -1,7 +1,9 @@
--- An index over a schema's items: for each owner and kind the first item, for each item the next of its kind and
--- owner, for each short hash of a name the declarations that have it, the last first, and for each field what its type
--- name is declared as. Internal: what is promised to the crates above is the model's own searches (`next_under`,
--- `last_named`).
+-- The index over a schema's items, as an array. Internal: the crates above are promised the model's
+-- own searches (`next_under`, `last_named`).
+--
+-- Twelve numbers for each item: the next item of its kind and owner; the item before it in its hash
+-- chain or, for a field, what its type name is declared as; and for each of ten kinds the first
+-- item under it. Then, for each chain, the last item in it.
 use Rattle.std.specs.Prelude.{Option, Some, None, ◌≡◌, Bool, true, false, List, ℕ, zero, suc, ◌+◌, ◌-◌, ◌*◌, ◌/◌, ◌%◌, ◌≤◌, ◌<◌, T, eqb, ltb, length, get_or, take, set}
 use Rattle.std.specs.Int.Bits.{bit_and, bit_xor}
 use Rattle.texts.specs.Choice.{pick, ◌and◌}
@@ -17,37 +19,41 @@ abbrev pub code : Option ℕ → ℕ
 code None = 0
 code (Some i) = i + 1
 
--- item i put in front of the list whose head stands at `head`; what came first so far stands at `at`
+-- item i pushed to the front of the list whose head is at `head`; its own link is at `at`
 abbrev pub fronted : List ℕ → ℕ → ℕ → ℕ → List ℕ
 fronted ix head at i = set (set ix at (get_or ix head 0)) head (i + 1)
 
--- ---- links: of the twelve numbers of each item the first is the next item, and the last ten are the first of 10 kinds under it
+-- ---- links: the first number of an item, and the last ten
 
+-- items from i on are linked: `first` from their owners, `next` from one to the next
 pub record Linked (s : Schema) (i : ℕ) (ix : List ℕ) : Type 0 where
   pub first : (k o : ℕ) → k < 10 → o < length s.items → get_or ix (12 * o + 2 + k) 0 ≡ code (next_under k o i s)
   pub next : (j : ℕ) → i ≤ j → j < length s.items → (item_at s j).kind < 10 → (item_at s j).owner < length s.items → get_or ix (12 * j) 0 ≡ code (next_under (item_at s j).kind (item_at s j).owner (j + 1) s)
 
--- ---- names: behind all items the heads, and of each item that declares the second number is the next
+-- ---- hash chains: the second number of an item that declares a name, and the heads at the end
 
 -- a text of less than 8 bytes as one number
 unfoldable pub short_word : List ℕ → ℕ
 short_word s = pick (ltb (length s) 4) (pick (eqb (length s) 0) 0 (get_or s 0 0 + get_or s (length s / 2) 0 * 256 + get_or s (length s - 1) 0 * 65536 + length s * 16777216)) (word_of (piece s 0 4) + word_of (piece s (length s - 4) 4) * 4294967296)
 
+-- a word mixed into a number
 unfoldable pub mix : ℕ → ℕ → ℕ
 mix h w = bit_xor (h % 1152921504606846976 * 9) w
 
--- the words of a longer one from i on, k at most, the last of them up to its end
+-- h with the words of s from i on mixed in, k at most; the last one ends with s
 unfoldable pub words_from : ℕ → ℕ → ℕ → List ℕ → ℕ
 words_from zero h i s = h
 words_from (suc k) h i s = elim (ltb (i + 8) (length s)) [ true ↦ words_from k (mix h (word_of (piece s i 8))) (i + 8) s | false ↦ mix h (word_of (piece s (length s - 8) 8)) ]
 
+-- a text of 8 bytes or more as one number
 abbrev pub long_word : List ℕ → ℕ
 long_word s = words_from (length s) (length s) 0 s
 
+-- ten bits of a number
 unfoldable pub narrowed : ℕ → ℕ
 narrowed w = (w % 4294967296 * 1981491285 + w / 4294967296 * 1113222403) / 1073741824 % 1024
 
--- a short hash of a text
+-- the hash of a text, below 1,024
 unfoldable pub hash : List ℕ → ℕ
 hash s = narrowed (pick (ltb (length s) 8) (short_word s) (long_word s))
 
@@ -56,6 +62,7 @@ pub record HashOf (name : List ℕ) (b : ℕ) : Type 0 where
   pub is : b ≡ hash name
   pub low : b < 1024
 
+-- the chain that a name is in, by its hash and the number of items
 unfoldable pub place : Schema → List ℕ → ℕ
 place s name = bit_and (hash name) (mask_of (length s.items))
 
@@ -64,29 +71,35 @@ pub record HeadOf (s : Schema) (name : List ℕ) (p : ℕ) : Type 0 where
   pub is : p ≡ 12 * length s.items + place s name
   pub low : place s name ≤ mask_of (length s.items)
 
+-- an item that declares a name in chain b
 unfoldable pub hashed : Schema → ℕ → Item → Bool
 hashed s b it = declares it.kind and eqb (place s it.name) b
 
--- the last of the first n items that declares a name with the hash b
+-- the last of the first n items that is in chain b
 unfoldable pub last_hashed : ℕ → ℕ → Schema → Option ℕ
 last_hashed b n s = last (positions_from 0 (hashed s b) (take n s.items))
 
+-- the first n items are in their chains: a head is the last item of its chain, and each leads to
+-- the one before it
 pub record Chained (s : Schema) (n : ℕ) (ix : List ℕ) : Type 0 where
   pub head : (b : ℕ) → b ≤ mask_of (length s.items) → get_or ix (12 * length s.items + b) 0 ≡ code (last_hashed b n s)
   pub chain : (j : ℕ) → j < n → (b : ℕ) → T (hashed s b (item_at s j)) → get_or ix (12 * j + 1) 0 ≡ code (last_hashed b j s)
 
--- what is kept of a chain at the item `it` in the place i, where `kept` was before it: an enum or composite of the
--- name, else the first type
+-- one step along a chain from its head: what the name is declared as by the item `it` at position i
+-- and those passed before, which say `kept`: 1 for an enum or composite, otherwise the first type
+-- met
 abbrev pub kept_by : Item → ℕ → List ℕ → ℕ → ℕ
 kept_by it i name kept = pick (eqb it.kind a_type) (pick (ltb 0 kept) kept (pick (same it.name name) (i + 2) 0)) (pick (same it.name name) 1 kept)
 
--- ---- type names: what the one of each field is declared as, where the next of an item that declares would stand
+-- ---- type names: the second number of a field
 
+-- the fields from n on hold what their type names are declared as
 pub record Resolved (s : Schema) (n : ℕ) (ix : List ℕ) : Type 0 where
   pub is : (j : ℕ) → n ≤ j → j < length s.items → (item_at s j).kind ≡ a_field → get_or ix (12 * j + 1) 0 ≡ number_of (declaration_of s (item_at s j).second)
 
--- ---- all, where there are as many items as a schema may have
+-- ---- the whole index, which holds nothing of a schema of more than 1,024 items
 
+-- the index is right for the schema
 pub record Indexed (s : Schema) (ix : List ℕ) : Type 0 where
   pub long : length s.items ≤ 1024 → 12 * length s.items ≤ length ix
   pub links : length s.items ≤ 1024 → Linked s 0 ix
@@ -94,13 +107,13 @@ pub record Indexed (s : Schema) (ix : List ℕ) : Type 0 where
 
 -- ---- while it is built
 
--- the first n items have their names in the chains, and there are no links yet
+-- the first n items are in their chains, and there are no links yet
 pub record Naming (s : Schema) (n : ℕ) (ix : List ℕ) : Type 0 where
   pub long : 12 * length s.items + mask_of (length s.items) < length ix
   pub zero : (k o : ℕ) → k < 10 → o < length s.items → get_or ix (12 * o + 2 + k) 0 ≡ 0
   pub chained : Chained s n ix
 
--- all names are in the chains, the items from l on are linked, and the type names of those from r on are resolved
+-- all items are in their chains, those from l on are linked, and the fields from r on resolved
 pub record Settling (s : Schema) (l r : ℕ) (ix : List ℕ) : Type 0 where
   pub long : 12 * length s.items + mask_of (length s.items) < length ix
   pub linked : Linked s l ix

@@ -1,4 +1,4 @@
--- What the index asks of its array, what a name is declared as, and what the index holds.
+-- The index over a schema's items, and what a name is declared as.
 pub mod Blank
 pub mod Declarations
 pub mod Index

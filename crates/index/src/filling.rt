@@ -1,4 +1,5 @@
-// Building the index of a schema that it holds.
+//! Fills the index of a schema that fits in it: the hash chains from the first item on, then links
+//! and type names from the last item back.
 ghost use Rattle.std.specs.Prelude.{◌≡◌, ◌+◌, ◌≤◌, ◌<◌, IfSome, length};
 ghost use Rattle.texts.specs.Choice.{pick};
 ghost use Rattle.ordered.specs.Numbered.{Added};
@@ -12,7 +13,7 @@ use model::view::View;
 use ordered::{Names, is_declaring};
 use std::marker::Model;
 
-// A schema of as many items as the index holds, at most.
+/// A schema of at most `MOST` items.
 #[derive(Drop)]
 pub(crate) struct Few<'a> {
     view: &'a View<'a>,
@@ -30,6 +31,7 @@ impl<'a> Model for Few<'a> {
 }
 
 impl<'a> Few<'a> {
+    /// Takes a schema that fits in the index.
     pub(crate) fn of(view: &'a View<'a>) -> Few<'a>
         requires { length view.now.items ≤ 1024 }
         ensures { result ≡ view.now }
@@ -37,6 +39,7 @@ impl<'a> Few<'a> {
         Few { view }
     }
 
+    /// Pushes item `i`, if it declares a name, to the front of the chain of its hash.
     fn name_item(&self, i: u32, ix: &mut [u16])
         requires { Naming self.now i ix.old × (i < length self.now.items) }
         ensures { Naming self.now (i + 1) ix.new }
@@ -48,6 +51,7 @@ impl<'a> Few<'a> {
         }
     }
 
+    /// Chains the names that all items declare.
     pub(crate) fn put_names(&self, ix: &mut [u16])
         requires { Blank self.now ix.old }
         ensures { Naming self.now (length self.now.items) ix.new }
@@ -57,6 +61,8 @@ impl<'a> Few<'a> {
         }
     }
 
+    /// Pushes item `i` to the front of its owner's list for its kind. There is none for a kind
+    /// above 9 or for an owner that is no item.
     fn link_item(&self, i: u32, ix: &mut [u16])
         requires { Settling self.now (i + 1) i ix.old × (i < length self.now.items) }
         ensures { Settling self.now i i ix.new }
@@ -74,7 +80,9 @@ impl<'a> Few<'a> {
         put_front(ix, head, at, i);
     }
 
-    // Along the chain of the name's hash, if it is short: an enum or composite ends it, the first type is kept.
+    /// What a name is declared as, as a number, by the chain of its hash; `None` where `STEPS`
+    /// items do not settle it. An enum or composite settles it, or the end of the chain; of types
+    /// the first met, which is the last declared, counts.
     fn resolved(&self, ix: &[u16], name: &[u8]) -> Option<u32>
         requires { Chained self.now (length self.now.items) ix.now }
         ensures { IfSome result (λ n. (n ≡ number_of (declaration_of self.now name.now)) × (n < 1026)) }
@@ -96,7 +104,8 @@ impl<'a> Few<'a> {
         if p == 0 { Some(kept) } else { None }
     }
 
-    // The type name of item `i`, if it is a field: whether it is told, which it is not where its chain is long.
+    /// Stores what the type name of item `i` is declared as, if it is a field. Returns false, and
+    /// stores nothing, where its chain is too long.
     fn resolve_item(&self, i: u32, ix: &mut [u16]) -> bool
         requires { Settling self.now (i + 1) (i + 1) ix.old × (i < length self.now.items) }
         ensures { Settling self.now (i + 1) (pick result i (i + 1)) ix.new }
@@ -111,7 +120,7 @@ impl<'a> Few<'a> {
         true
     }
 
-    // The same by the names in order.
+    /// The same from the sorted names, for a chain of any length.
     fn order_item(&self, names: &Names<'_>, i: u32, ix: &mut [u16])
         requires { Settling self.now (i + 1) (i + 1) ix.old × (names.now ≡ record { schema = self.now; added = length self.now.items }) × (i < length self.now.items) }
         ensures { Settling self.now (i + 1) i ix.new }
@@ -123,7 +132,8 @@ impl<'a> Few<'a> {
         }
     }
 
-    // The items before `from`, their type names by the names in order.
+    /// Links the items before `from`, and stores what their type names are declared as from the
+    /// sorted names.
     fn put_rest(&self, from: u32, ix: &mut [u16])
         requires { Settling self.now from from ix.old × (from ≤ length self.now.items) }
         ensures { Settling self.now 0 0 ix.new }
@@ -135,8 +145,8 @@ impl<'a> Few<'a> {
         }
     }
 
-    // Links and type names, from the last item down: the type names by the chains as far as these are short, and the rest
-    // by the names in order.
+    /// Links the items and stores what their type names are declared as, from the last item back:
+    /// by the chains, and once a chain is too long, by the sorted names.
     pub(crate) fn put_settled(&self, ix: &mut [u16])
         requires { Naming self.now (length self.now.items) ix.old }
         ensures { Settling self.now 0 0 ix.new }

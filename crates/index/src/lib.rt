@@ -1,11 +1,10 @@
-// An index over a schema, for its searches: children by links, declarations by chains of a short hash.
-//
-// `Index::of` fills a lent array from any schema in two passes; `child` then promises what the model's own `next_under`
-// promises, and `declared` what its `last_named` says of a field's type name, without walking all items. Where a chain
-// is long, as names that collide make it, the names in order (crate ordered) answer, so no name is compared with all.
-// Nothing is asked of the schema: where it has more than 1,024 items, which no document gives, the model's searches answer.
-//
-// kept: an item is its position, beside the view or the index that shows it, as in model.
+//! An index over a schema: children by links, declarations by hash chains.
+//!
+//! `Index::of` fills a lent array in two passes over the items of any schema. `child` then promises
+//! what the model's `next_under` does, and `declared` what its `last_named` does for a field's type
+//! name, without a walk over all items. A chain that eight items do not settle, as with names made
+//! to collide, is left to the sorted names of crate `ordered`. A schema of more than 1,024 items,
+//! which no document gives, is left to the model's own searches.
 #![tactic(auto)]
 
 mod filling;
@@ -22,38 +21,50 @@ use model::TYPE;
 use model::view::View;
 use words::{half_at, same_name, word_at};
 
-// The index holds twelve numbers for each item: the next item; the declaration before it with the same hash or, of a
-// field, what its type name is declared as; and from the third on the first item of each of 10 kinds under it. Behind
-// all items stands the last declaration of each hash.
+// The array has twelve numbers for each item, then the head of each hash chain. A position is
+// stored plus 1; 0 is none.
+
+/// Numbers of an item. The first links to the next item of the same kind and owner.
 const EACH: usize = 12;
 
+/// The second: the item before it in its chain, or, of a field, what its type name is declared as.
 const CHAIN: usize = 1;
 
+/// From the third on: for each of ten kinds, the first item under this one.
 const FIRST: usize = 2;
 
-// How many numbers that is for as many items as a schema may have, and for fewer: the array is cleared whole, which a
-// document notices that has few.
+// Lengths of the array for up to 1,024, 384, 128 and 16 items. It is zeroed whole for each schema,
+// and small documents would notice the largest one.
+
+/// The array's length for `MOST` items.
 pub const SIZE: usize = 13312;
 
+/// The most items of a schema of middle size.
 pub const SOME: u32 = 384;
 
+/// The array's length for `SOME` items.
 pub const SOME_SIZE: usize = 5632;
 
+/// The most items of a small schema, for which 128 chains do instead of 1,024.
 pub const FEW: u32 = 128;
 
+/// The array's length for `FEW` items.
 pub const FEW_SIZE: usize = 1664;
 
+/// The most items of a tiny schema.
 pub const LEAST: u32 = 16;
 
+/// The array's length for `LEAST` items.
 pub const LEAST_SIZE: usize = 320;
 
-// As many items as the index holds, and a schema may have.
+/// The most items that an index holds: as many as a document may give.
 pub const MOST: u32 = 1024;
 
-// How many items of a chain are looked at.
+/// How many items of a chain are looked at before the sorted names are used.
 const STEPS: u32 = 8;
 
-// A name of less than 8 bytes as one number.
+/// A name of less than 8 bytes as a number: its two overlapping halves, or, below 4 bytes, the
+/// first, middle and last byte and the length.
 #[tactic(auto, using(crate::proofs::Laws::hashing))]
 fn short_word(name: &[u8]) -> u64
     ensures { result ≡ short_word name.now }
@@ -71,6 +82,7 @@ fn short_word(name: &[u8]) -> u64
     first + middle * 256 + last * 65536 + (n as u64) * 16777216
 }
 
+/// Mixes the word `w` into `h`, whose top four bits are dropped so that the product fits.
 #[tactic(auto, using(crate::proofs::Laws::hashing))]
 fn mixed(h: u64, w: u64) -> u64
     ensures { result ≡ mix h w }
@@ -78,14 +90,14 @@ fn mixed(h: u64, w: u64) -> u64
     (h % 1152921504606846976 * 9) ^ w
 }
 
-// A name of 8 to 16 bytes: its words are one or two, the last of them up to its end.
+/// `long_word` of a name of 8 to 16 bytes, without a loop: its first and last eight bytes.
 #[tactic(auto, using(crate::proofs::Laws::hashing))]
 fn two_words(name: &[u8]) -> u64
     requires { (8 ≤ length name.now) × (length name.now ≤ 16) }
     ensures { result ≡ long_word name.now }
 {
     let n = name.len();
-    // The first word is used whole where it is the only one, or the compiler would read it byte by byte.
+    // Mixed before the test: after it, the compiler would load the word byte by byte.
     let h = mixed(n as u64, word_at(name, 0));
     if n == 8 {
         return h;
@@ -93,7 +105,8 @@ fn two_words(name: &[u8]) -> u64
     mixed(h, word_at(name, n - 8))
 }
 
-// A longer one.
+/// A name of 8 bytes or more as a number: all its words are mixed, the last one ending with the
+/// name.
 #[tactic(auto, using(crate::proofs::Laws::hashing))]
 fn long_word(name: &[u8]) -> u64
     requires { 8 ≤ length name.now }
@@ -107,7 +120,7 @@ fn long_word(name: &[u8]) -> u64
     mixed(h, word_at(name, n - 8))
 }
 
-// The middle of a sum of two products: each byte of the word reaches it.
+/// Folds a number to ten bits by multiply-shift of both halves: each byte reaches the result.
 #[tactic(auto, using(crate::proofs::Laws::hashing))]
 fn narrow(w: u64) -> usize
     ensures { (result ≡ narrowed w) × (result < 1024) }
@@ -115,6 +128,7 @@ fn narrow(w: u64) -> usize
     ((w % 4294967296 * 1981491285 + w / 4294967296 * 1113222403) / 1073741824 % 1024) as usize
 }
 
+/// The hash of a name, below 1,024.
 #[tactic(auto, using(crate::proofs::Laws::hashing))]
 #[inline(always)]
 fn hash_of(name: &[u8]) -> usize
@@ -129,7 +143,7 @@ fn hash_of(name: &[u8]) -> usize
     narrow(long_word(name))
 }
 
-// The hashes that are told apart are 1,024, and 128 where the items are few.
+/// The chain of a hash: one of 1,024, or of 128 where there are few items.
 fn masked(h: usize, n: u32) -> usize
     ensures { (result ≡ bit_and h (mask_of n)) × (result ≤ h) }
 {
@@ -139,7 +153,7 @@ fn masked(h: usize, n: u32) -> usize
     h & 127
 }
 
-// Where the last declaration with the hash of a name stands.
+/// Where the head of a name's chain stands in the index.
 #[tactic(auto, using(crate::proofs::Laws::hashing))]
 #[inline(always)]
 fn head_of(v: &View<'_>, name: &[u8]) -> usize
@@ -149,7 +163,7 @@ fn head_of(v: &View<'_>, name: &[u8]) -> usize
     EACH * (n as usize) + masked(hash_of(name), n)
 }
 
-// Item `i` in front of the list whose head stands at `head`.
+/// Pushes item `i` to the front of a list whose head stands at `head`; its own link goes to `at`.
 fn put_front(ix: &mut [u16], head: usize, at: usize, i: u32)
     requires { (head < length ix.old) × (at < length ix.old) × (i < 1024) }
     ensures { ix.new ≡ fronted ix.old head at i }
@@ -159,9 +173,7 @@ fn put_front(ix: &mut [u16], head: usize, at: usize, i: u32)
     ix[head] = n as u16;
 }
 
-// ---- the names of a chain
-
-// A number of the index, and 0 past its end.
+/// Number `k` of the index, or 0 past its end.
 #[tactic(auto, using(crate::proofs::Laws::hashing))]
 fn word(ix: &[u16], k: usize) -> u32
     ensures { result ≡ get_or ix.now k 0 }
@@ -169,7 +181,10 @@ fn word(ix: &[u16], k: usize) -> u32
     if k < ix.len() { ix[k] as u32 } else { 0 }
 }
 
-// What is kept of a chain, from its head to the item at `i`: 0 or a declaration's number.
+/// One step of a walk along a chain, which begins with its last item: what `name` is declared as by
+/// item `i` and those passed so far, which say `kept`. 0 is nothing yet, 1 an enum or composite,
+/// and `i + 2` a type. An enum or composite wins over types, and of types the first met, declared
+/// last.
 fn kept_at(v: &View<'_>, i: u32, name: &[u8], kept: u32) -> u32
     requires { (i < 1024) × (kept < 1026) }
     ensures { (result ≡ kept_by (item_at v.now i) i name.now kept) × (result < 1026) }
@@ -189,7 +204,7 @@ fn kept_at(v: &View<'_>, i: u32, name: &[u8], kept: u32) -> u32
     kept
 }
 
-// The index of a schema, into an array of zeros.
+/// Fills `ix`, all zeros, with the index; for a schema of more than `MOST` items it stays zeros.
 fn build(v: &View<'_>, ix: &mut [u16])
     requires { Blank v.now ix.old }
     ensures { Indexed v.now ix.new }

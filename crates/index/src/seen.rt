@@ -1,4 +1,4 @@
-// A schema with its index, and its searches.
+//! A schema with its index: the view's accessors, and searches that use the index.
 ghost use Rattle.std.specs.Prelude.{◌≡◌, ◌+◌, ◌≤◌, ◌<◌, ◌^◌, ℕ, Option, Some, None, IfSome, eqb, length};
 ghost use Rattle.std.specs.Iterator.{YieldsFirst, item_count};
 ghost use Rattle.texts.specs.Choice.{◌and◌, pick};
@@ -15,6 +15,7 @@ use model::view::View;
 use model::{COMPOSITE, ENUM, FIELD, TYPE};
 use std::marker::Model;
 
+/// A view and its index. Contracts see it as the schema.
 #[derive(Drop)]
 pub struct Index<'a> {
     view: View<'a>,
@@ -32,7 +33,7 @@ impl<'a> Model for Index<'a> {
     ghost invariant = { λ x. Indexed x.view x.links.now };
 }
 
-// A position as the index holds it.
+/// A position from the index, where it is stored plus 1; 0 is none.
 fn position(n: u32) -> Option<u32>
     ensures is { (o : Option ℕ) → n ≡ code o → result ≡ o }
     ensures within { IfSome result (λ i. i + 1 < 2 ^ 32) }
@@ -40,15 +41,16 @@ fn position(n: u32) -> Option<u32>
     if 0 < n { Some(n - 1) } else { None }
 }
 
-// What a name is declared as: an enum or composite, or the type at a position.
-// kept: no Option; a name that is declared nowhere is the `None` around it.
+/// What a name is declared as. For a name that is not declared it is the `None` around this.
 #[derive(Clone, Copy)]
 pub enum Declaration {
+    /// An enum or a composite.
     Named,
+    /// The type at this position.
     Typed(u32),
 }
 
-// A declaration as the index holds it.
+/// A declaration from the index: 0 is none, 1 an enum or composite, `i + 2` the type at `i`.
 fn numbered(n: u32) -> Option<Declaration>
     ensures { (d : Option Declaration) → n ≡ number_of d → result ≡ d }
 {
@@ -59,7 +61,7 @@ fn numbered(n: u32) -> Option<Declaration>
     }
 }
 
-// What a name is declared as, by the model's searches.
+/// What a name is declared as, by the model's searches alone.
 pub fn declaration_in(v: &View<'_>, name: &[u8]) -> Option<Declaration>
     ensures { result ≡ declaration_of v.now name.now }
 {
@@ -74,7 +76,7 @@ pub fn declaration_in(v: &View<'_>, name: &[u8]) -> Option<Declaration>
 }
 
 impl<'a> Index<'a> {
-    // The index of a schema, into an array of zeros.
+    /// Builds the index of `schema` in `links`, which has to be all zeros and long enough.
     pub fn of(schema: View<'a>, links: &'a mut [u16]) -> Index<'a>
         requires { Blank schema links.old }
         ensures { result ≡ schema.entry }
@@ -86,88 +88,100 @@ impl<'a> Index<'a> {
         }
     }
 
+    /// The view without its index.
     pub fn view(&self) -> &View<'a>
         ensures { result.now ≡ self.now }
     {
         &self.view
     }
 
-    // ---- what the schema says
+    // ---- the view's accessors
 
+    /// The package's name, empty if absent.
     pub fn package(&self) -> &'a [u8]
         ensures { result.now ≡ self.now.package_name }
     {
         self.view.package()
     }
 
+    /// The schema's id.
     pub fn id(&self) -> u32
         ensures { result ≡ self.now.id }
     {
         self.view.id()
     }
 
+    /// The schema's version.
     pub fn version(&self) -> u32
         ensures { result ≡ self.now.version }
     {
         self.view.version()
     }
 
+    /// How many items there are.
     pub fn count(&self) -> u32
         ensures { result ≡ length self.now.items }
     {
         self.view.count()
     }
 
+    /// The kind of item `i`, 0 past the last item.
     pub fn kind(&self, i: u32) -> u32
         ensures { result ≡ (item_at self.now i).kind }
     {
         self.view.kind(i)
     }
 
+    /// The position of the item that holds item `i`.
     pub fn owner(&self, i: u32) -> u32
         ensures { result ≡ (item_at self.now i).owner }
     {
         self.view.owner(i)
     }
 
+    /// The name of item `i`.
     pub fn name(&self, i: u32) -> &'a [u8]
         ensures { result.now ≡ (item_at self.now i).name }
     {
         self.view.name(i)
     }
 
+    /// The second text of item `i`, as in `View::second`.
     pub fn second(&self, i: u32) -> &'a [u8]
         ensures { result.now ≡ (item_at self.now i).second }
     {
         self.view.second(i)
     }
 
+    /// The characterEncoding of item `i`, empty if absent.
     pub fn encoding(&self, i: u32) -> &'a [u8]
         ensures { result.now ≡ (item_at self.now i).encoding }
     {
         self.view.encoding(i)
     }
 
+    /// The length or id of item `i`.
     pub fn number(&self, i: u32) -> u32
         ensures { result ≡ (item_at self.now i).number }
     {
         self.view.number(i)
     }
 
+    /// Whether the document gives the length of item `i`.
     pub fn given(&self, i: u32) -> bool
         ensures { result ≡ (item_at self.now i).given }
     {
         self.view.given(i)
     }
 
+    /// The length of item `i`, 0 if absent.
     pub fn size(&self, i: u32) -> u32
         ensures { result ≡ pick (item_at self.now i).given (item_at self.now i).number 0 }
     {
         self.view.size(i)
     }
 
-    // ---- how long its texts are at most
-
+    /// At least the length of the name of item `i`.
     #[inline(always)]
     pub fn name_most(&self, i: u32) -> u32
         ensures { length (item_at self.now i).name ≤ result }
@@ -175,6 +189,7 @@ impl<'a> Index<'a> {
         self.view.name_most(i)
     }
 
+    /// At least the length of the second text of item `i`.
     #[inline(always)]
     pub fn second_most(&self, i: u32) -> u32
         ensures { length (item_at self.now i).second ≤ result }
@@ -182,6 +197,7 @@ impl<'a> Index<'a> {
         self.view.second_most(i)
     }
 
+    /// At least the length of the encoding of item `i`.
     #[inline(always)]
     pub fn encoding_most(&self, i: u32) -> u32
         ensures { length (item_at self.now i).encoding ≤ result }
@@ -189,7 +205,7 @@ impl<'a> Index<'a> {
         self.view.encoding_most(i)
     }
 
-    // All items of a kind.
+    /// All items of a kind, in order.
     pub fn all_of(&'a self, kind: u32) -> Walk<'a, OfKind>
         ensures list { ahead (λ it. eqb it.kind result.by.kind) result.from result.view.now ≡ all_of kind self.now }
         ensures few { length self.now.items < 2 ^ 32 }
@@ -197,9 +213,10 @@ impl<'a> Index<'a> {
         self.view.all_of(kind)
     }
 
-    // ---- by the links
+    // ---- searches
 
-    // The item before `from`, if it is of this kind and owner, leads to the next one.
+    /// `child_number` for `from` above 0. As a rule item `from - 1` is of this kind and owner, and
+    /// its link is the answer; otherwise the model searches.
     fn next_child(&self, kind: u32, owner: u32, from: u32) -> u32
         requires { (length self.now.items ≤ 1024) × (kind < 10) × (owner < length self.now.items) × (0 < from) }
         ensures { result ≡ code (next_under kind owner from self.now) }
@@ -216,7 +233,7 @@ impl<'a> Index<'a> {
         self.searched(kind, owner, from)
     }
 
-    // By the model's own search: rare, and so kept out of the way of the links.
+    /// `child_number` by the model's search. Out of line: it is rare.
     #[cold]
     #[inline(never)]
     fn searched(&self, kind: u32, owner: u32, from: u32) -> u32
@@ -228,7 +245,7 @@ impl<'a> Index<'a> {
         }
     }
 
-    // The first item of a kind under an owner from a place on, as the index holds it: 0 for none.
+    /// The first item of a kind under an owner from `from` on, as position plus 1; 0 is none.
     #[inline(always)]
     fn child_number(&self, kind: u32, owner: u32, from: u32) -> u32
         ensures { result ≡ code (next_under kind owner from self.now) }
@@ -244,7 +261,7 @@ impl<'a> Index<'a> {
         self.next_child(kind, owner, from)
     }
 
-    // The same as a position.
+    /// The first item of a kind under an owner from `from` on.
     pub fn child(&self, kind: u32, owner: u32, from: u32) -> Option<u32>
         ensures is { result ≡ next_under kind owner from self.now }
         ensures within { IfSome result (λ i. i + 1 < 2 ^ 32) }
@@ -252,11 +269,12 @@ impl<'a> Index<'a> {
         position(self.child_number(kind, owner, from))
     }
 
-    // The items of a kind under an owner.
+    /// All items of a kind under an owner, in order.
     pub fn children(&'a self, kind: u32, owner: u32) -> Children<'a>
         ensures list { ahead (λ it. eqb it.kind result.kind and eqb it.owner result.owner) result.from result.index.now ≡ under kind owner self.now }
         ensures few { length self.now.items < 2 ^ 32 }
     {
+        // Proves `few`: the count is a `u32`.
         let _count = self.count();
         Children {
             index: self,
@@ -266,10 +284,9 @@ impl<'a> Index<'a> {
         }
     }
 
-    // ---- what a type name is declared as
-
-    // Of the field at `i`, as the number that the index holds.
-    // kept: this and the next ask for what the index holds; by `declared`, which asks nothing, a conversion takes 2 % more.
+    /// What the type name of the field at `i` is declared as: 0 is nothing, 1 an enum or composite,
+    /// `k + 2` the type at `k`. One load, so it requires a field of a schema that the index holds;
+    /// by `declared`, which requires nothing, a conversion takes 2 % longer.
     pub fn field_number(&self, i: u32) -> u32
         requires { (length self.now.items ≤ 1024) × ((item_at self.now i).kind ≡ a_field) }
         ensures { result ≡ number_of (declaration_of self.now (item_at self.now i).second) }
@@ -277,7 +294,7 @@ impl<'a> Index<'a> {
         self.links[EACH * (i as usize) + CHAIN] as u32
     }
 
-    // Of the field at `i`: the index holds it.
+    /// `field_number` as a `Declaration`.
     pub fn field_declared(&self, i: u32) -> Option<Declaration>
         requires { (length self.now.items ≤ 1024) × ((item_at self.now i).kind ≡ a_field) }
         ensures { result ≡ declaration_of self.now (item_at self.now i).second }
@@ -285,7 +302,8 @@ impl<'a> Index<'a> {
         numbered(self.field_number(i))
     }
 
-    // Of the item at `i`.
+    /// What the type name of any item is declared as: for a field from the index, otherwise by
+    /// searches.
     pub fn declared(&self, i: u32) -> Option<Declaration>
         ensures { result ≡ declaration_of self.now (item_at self.now i).second }
     {
@@ -298,7 +316,7 @@ impl<'a> Index<'a> {
     }
 }
 
-// The items of a kind under an owner from a place on, in order.
+/// Iterates over the items of a kind under an owner from `from` on, in order.
 #[derive(Drop)]
 pub struct Children<'a> {
     index: &'a Index<'a>,
@@ -316,7 +334,7 @@ impl<'a> Iterator for Children<'a> {
 
     #[inline(always)]
     fn next(&mut self) -> Option<u32> {
-        // kept: by the number, as an option made of it would be told again.
+        // By the number: an `Option` made of it would be tested a second time.
         let n = self.index.child_number(self.kind, self.owner, self.from);
         if n == 0 {
             return None;

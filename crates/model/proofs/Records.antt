@@ -14,13 +14,13 @@ use Rattle.model.specs.Schema.{no_item}
 use Rattle.model.specs.Store.{entry_at, words_of, item_of, items_of}
 use Rattle.model.specs.declared.Entry.{Entry}
 
--- go by an order
+-- case split: a < b, or not
 pub by_less {ℓ} : {X : Type ℓ} (a b : ℕ) → (a < b → X) → (b ≤ a → X) → X
 by_less a b f g = by-test (ltb a b) (λ t. f (ltb-true a b t)) (λ t. g (ltb-false a b t))
 
 -- ---- an entry
 
--- an entry is told by its ten words
+-- entries of equal words are equal
 entry-words : (rec rec' : List ℕ) (i j : ℕ) → ((k : ℕ) → k < 10 → get_or rec' (15 * i + k) 0 ≡ get_or rec (15 * j + k) 0) → entry_at rec' i ≡ entry_at rec j
 unfolding entry_at
 entry-words rec rec' i j w =
@@ -29,7 +29,7 @@ entry-words rec rec' i j w =
     let w0 : get_or rec' (15 * i) 0 ≡ get_or rec (15 * j) 0 = ap (λ n. get_or rec' n 0) (sym zi) ∙ w 0 (omega arith) ∙ ap (λ n. get_or rec n 0) zj in
     rw (w0, w 1 (omega arith), w 2 (omega arith), w 3 (omega arith), w 4 (omega arith), w 5 (omega arith), w 6 (omega arith), w 7 (omega arith), w 8 (omega arith), w 9 (omega arith))
 
--- the words from the third on are read two by two
+-- an entry that is read two words at a time from the third on
 module _ (rec : List ℕ) (i : ℕ) where
   second-of : (n m : ℕ) → n + 1 ≡ m → {v : ℕ} → v ≡ get_or rec (15 * i + n + 1) 0 → v ≡ get_or rec (15 * i + m) 0
   second-of n m q {v} e =
@@ -57,13 +57,13 @@ module _ (rec : List ℕ) (i : ℕ) (e : Entry) where
       entry-words rec (sets rec (15 * i) (words_of e)) j j
       (λ k b. by_less j i (λ l. get_or-sets-below (words_of e) rec (15 * i) (15 * j + k) (omega arith)) (λ l. get_or-sets-above (words_of e) rec (15 * i) (15 * j + k) (by_less i j (λ m. omega arith) (λ m. absurd (n (omega arith))))))
 
--- a store behind an entry leaves it
+-- a store after an entry leaves it as it is
 pub entry_set : (rec : List ℕ) (i v j : ℕ) → 15 * j + 15 ≤ i → entry_at (set rec i v) j ≡ entry_at rec j
 entry_set rec i v j h = entry-words rec (set rec i v) j j (λ k b. get_or-set_other rec i (15 * j + k) v 0 (λ e. omega arith))
 
 -- ---- all the items
 
--- items are as their entries are
+-- equal entries give equal items
 pub items-frame : (n : ℕ) (rec rec' t : List ℕ) → ((j : ℕ) → j < n → entry_at rec' j ≡ entry_at rec j) → items_of n rec' t ≡ items_of n rec t
 unfolding items_of
 items-frame zero rec rec' t f = refl
@@ -86,13 +86,13 @@ items_more : (n : ℕ) (rec t : List ℕ) → items_of (n + 1) rec t ≡ items_o
 unfolding items_of
 items_more n rec t = rw add-one
 
--- a new entry at the end
+-- an entry stored behind the last item
 pub items-put : (n : ℕ) (rec t : List ℕ) (e : Entry) → 15 * n + 10 ≤ length rec → items_of (n + 1) (sets rec (15 * n) (words_of e)) t ≡ items_of n rec t ++ (item_of t e ∷ [])
 items-put n rec t e h =
     items_more n (sets rec (15 * n) (words_of e)) t
     ∙ rw (items-frame n rec (sets rec (15 * n) (words_of e)) t (λ j l. entry_other rec n e j (λ q. omega arith)), entry-same rec n e h)
 
--- an entry anew
+-- an entry stored over item i
 pub items-set : (n : ℕ) (rec t : List ℕ) (i : ℕ) (e : Entry) → 15 * i + 10 ≤ length rec → i < n → items_of n (sets rec (15 * i) (words_of e)) t ≡ set (items_of n rec t) i (item_of t e)
 unfolding items_of
 items-set zero rec t i e h b = absurd (omega arith)

@@ -1,4 +1,4 @@
--- Laws of searches among the items, over the test p of an item: forwards for the first, backwards for the last.
+-- Laws of searches among the items for those that pass a test p: the first and the last.
 use mathlib.Core.Path.{◌≡◌, refl, sym, ap, ◌∙◌}
 use mathlib.Core.Bool.{Bool, true, false}
 use mathlib.Core.List.{List, [], ◌∷◌, ◌++◌}
@@ -36,7 +36,7 @@ pub first-no : (p : Item → Bool) (k : ℕ) (x : Item) (xs : List Item) → p x
 unfolding positions_from
 first-no p k x xs t = rw t
 
--- from a place on: nothing past the last item, and one item more or less
+-- past the last item nothing is ahead; before it, one step on
 module _ (p : Item → Bool) (s : Schema) (i : ℕ) where
   pub ahead-past : length s.items ≤ i → ahead p i s ≡ []
   unfolding ahead positions_from
@@ -50,7 +50,7 @@ module _ (p : Item → Bool) (s : Schema) (i : ℕ) where
   unfolding ahead
   ahead-no h t = rw (add-one, drop-cons s.items i no_item) (first-no p i (item_at s i) (drop (suc i) s.items) t ∙ rw add-one)
 
--- a loop that looks for the first from `from` on stands at i
+-- the loop of `next`, which searches from `from` on, is at i
 pub record Forward (p : Item → Bool) (s : Schema) (from i : ℕ) : Type 0 where
   pub rest : ahead p i s ≡ ahead p from s
 
@@ -89,7 +89,7 @@ ahead-none {l = []} e = refl
 ahead-none {l = m ∷ l} e = absurd (none-more m l e)
 
 module _ (p : Item → Bool) (s : Schema) where
-  -- k more items are looked at from i on
+  -- k more items from i on are searched
   heads : (k i : ℕ) → length s.items ≤ i + k → (j : ℕ) → first (ahead p i s) ≡ Some j → ahead p i s ≡ j ∷ ahead p (j + 1) s
   heads zero i h j e = absurd (none-some (rw (ahead-past p s i (omega arith)) at e))
   heads (suc k) i h j e =
@@ -149,7 +149,7 @@ module _ (p : Item → Bool) (s : Schema) (n : ℕ) (h : n < length s.items) whe
   pub last-no : p (item_at s n) ≡ false → last (positions_from 0 p (take (n + 1) s.items)) ≡ last (positions_from 0 p (take n s.items))
   last-no t = rw (front, positions-snoc p 0 (take n s.items) (item_at s n), t, append-none)
 
--- a loop that looks for the last has the first n items left
+-- the loop of `last` has the first n items left to search
 pub record Backward (p : Item → Bool) (s : Schema) (n : ℕ) : Type 0 where
   pub back : last (positions_from 0 p (take n s.items)) ≡ last (positions_from 0 p s.items)
   pub within : n ≤ length s.items
@@ -175,7 +175,7 @@ module _ {p : Item → Bool} {s : Schema} {n : ℕ} (inv : Backward p s n) where
     pub backward-on : b ≡ false → Backward p s (n - 1)
     backward-on t = let w = inv.within in record { back = sym (rw up at (last-no p s (n - 1) there (sym eb ∙ t))) ∙ inv.back; within = omega arith }
 
--- the last is one of them
+-- the last that passes is an item of the schema
 module _ (p : Item → Bool) (s : Schema) {i : ℕ} where
   low : (n : ℕ) → n ≤ length s.items → last (positions_from 0 p (take n s.items)) ≡ Some i → i < length s.items
   unfolding positions_from last

@@ -1,4 +1,4 @@
--- Laws of the accessors.
+-- Laws of the accessors of a view.
 use mathlib.Core.Path.{◌≡◌, sym, ap, ◌∙◌}
 use mathlib.Core.List.{List}
 use Prim.Native.Nat.{ℕ, ◌≤◌, ◌<◌}
@@ -14,7 +14,7 @@ use Rattle.model.specs.declared.Entry.{Entry}
 use Rattle.model.specs.declared.Model.{Model}
 use Rattle.model.proofs.Records.{length-items, get_or-items}
 
--- a piece is no longer than asked
+-- a piece is no longer than asked for
 piece-short : (s : List ℕ) (a n : ℕ) → length (piece s a n) ≤ n
 piece-short s a n = omega (arith, length-take n (drop a s))
 
@@ -33,7 +33,7 @@ module _ (m : Model) (rec : List ℕ) where
       let g : length (items_of m.count rec text) ≤ i = rw length-items h in
       sym (get_or-eq_default (items_of m.count rec text) no_item g)
 
--- what a view shows of its schema v, and of the item at i by its entry e
+-- what a view returns for its schema v, and for item i from its entry e
 module _ (m : Model) (rec text : List ℕ) (v : Schema) (q : schema_of m rec text ≡ v) where
   pub package-shown : {w : List ℕ} → w ≡ piece text m.head.name m.head.len → w ≡ v.package_name
   unfolding schema_of

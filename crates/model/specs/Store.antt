@@ -1,4 +1,5 @@
--- How a schema lies in the model, the records and the text. Internal: but for the builder, no crate above needs more than `schema_of` and `item_of`.
+-- How a schema lies in the model, the records and the text buffer. Internal: apart from the
+-- builder, no crate above needs more than `schema_of` and `item_of`.
 use Rattle.std.specs.Prelude.{List, [], ◌∷◌, ◌++◌, ℕ, zero, suc, ◌+◌, ◌*◌, eqb, get_or}
 use Rattle.texts.specs.Text.{piece}
 use Rattle.model.specs.Schema.{Item, Schema}
@@ -21,6 +22,7 @@ entry_at rec i =
       elen = get_or rec (15 * i + 9) 0;
     }
 
+-- the ten words that an entry is stored as
 abbrev pub words_of : Entry → List ℕ
 words_of e = e.kind ∷ e.owner ∷ e.name ∷ e.nlen ∷ e.second ∷ e.slen ∷ e.number ∷ e.given ∷ e.encoding ∷ e.elen ∷ []
 

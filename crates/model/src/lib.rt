@@ -1,12 +1,12 @@
-// The model of a schema: what it holds, how it lies in two lent buffers, and the view, through which
-// alone anyone sees a model.
-//
-// A clause sees a view as the schema that the model stands for (specs/Schema.antt, `schema_of` of
-// specs/Store.antt), whatever the buffers hold; each method promises an equation with it. `entry_at`
-// and `put_entry` read and write the records of an item, for whoever builds a model.
-//
-// kept: an item is its position in the model, as owners and links are, beside the view that shows it; and a search is told a kind and an
-// owner. Structs of these would be made at each step of a walk.
+//! The model of a schema: its items, how they lie in two lent buffers, and the view through which
+//! alone anyone reads them.
+//!
+//! Contracts see a `View` as the schema of specs/Schema.antt, whatever the buffers hold, and each
+//! of its methods is an equation on that schema. `entry_at` and `put_entry` read and write an
+//! item's record, for whoever builds a model.
+//!
+//! An item is passed as its position, beside the view: owners and links are positions too, and a
+//! struct of view and position would be built at every step of a walk.
 #![tactic(auto)]
 
 pub mod search;
@@ -16,44 +16,61 @@ ghost use Rattle.std.specs.Prelude.{◌≡◌, ◌+◌, ◌*◌, ◌≤◌, leng
 ghost use Rattle.std.proofs.lemmas.List.Edits.{sets};
 ghost use Rattle.model.specs.Store.{entry_at, words_of};
 
-// The kinds of items, as specs/Schema.antt numbers them.
-// kept: numbers; a record's kind is whatever word the lent buffer holds, and an enum would ask of callers that it is one
-// of the nine. Searches take the same number, so that they compare it with the record's word.
+// The kinds of items, numbered as in specs/Schema.antt. Numbers, not an enum: a record's kind is
+// whatever word the lent buffer holds, and searches compare with that word.
+
+/// A `type` outside any composite.
 pub const TYPE: u32 = 1;
 
+/// A `type` within a composite.
 pub const MEMBER: u32 = 2;
 
+/// A `ref` of a composite.
 pub const REF: u32 = 3;
 
+/// A composite.
 pub const COMPOSITE: u32 = 4;
 
+/// An enum.
 pub const ENUM: u32 = 5;
 
+/// A `validValue` of an enum.
 pub const VALUE: u32 = 6;
 
+/// A message.
 pub const MESSAGE: u32 = 7;
 
+/// A group of a message.
 pub const GROUP: u32 = 8;
 
+/// A field of a message or group.
 pub const FIELD: u32 = 9;
 
-// An item: numbers, and where its texts lie in the text buffer.
-// kept: `given` is a word, as the record buffer holds it.
+/// An item as the record buffer holds it. A text is given by its start and length in the text
+/// buffer.
 #[derive(Clone, Copy)]
 pub struct Entry {
+    /// One of the nine kinds.
     pub kind: u32,
+    /// The position of the item that holds it, 0 where the schema itself does.
     pub owner: u32,
+    /// Start and length of its name.
     pub name: u32,
     pub nlen: u32,
+    /// Start and length of its second text: a primitive, the name of a type or encoding, or a
+    /// value.
     pub second: u32,
     pub slen: u32,
+    /// The length of a type or member, or the id of a message, group or field.
     pub number: u32,
+    /// 1 if the document gives that length. A word, not a `bool`, as the buffer holds it.
     pub given: u32,
+    /// Start and length of its characterEncoding.
     pub encoding: u32,
     pub elen: u32,
 }
 
-// What messageSchema says: where the package's name lies in the text buffer, id and version.
+/// What messageSchema says: start and length of the package's name in the text buffer, id, version.
 #[derive(Clone, Copy)]
 pub struct Head {
     pub name: u32,
@@ -62,21 +79,21 @@ pub struct Head {
     pub version: u32,
 }
 
-// A schema that was read: its head, and how many items the record buffer holds.
+/// A schema that was read: its head, and how many items the record buffer holds.
 #[derive(Clone, Copy)]
 pub struct Model {
     pub head: Head,
     pub count: u32,
 }
 
-// Word `i` of the records, and 0 past their end.
+/// Word `i` of the records, or 0 past their end.
 pub fn word(rec: &[u32], i: usize) -> u32
     ensures { result ≡ get_or rec.now i 0 }
 {
     if i < rec.len() { rec[i] } else { 0 }
 }
 
-// The entry of item `i`.
+/// The entry of item `i`; words past the end of the records read as 0.
 pub fn entry_at(rec: &[u32], i: u32) -> Entry
     ensures { result ≡ entry_at rec.now i }
 {
@@ -95,13 +112,13 @@ pub fn entry_at(rec: &[u32], i: u32) -> Entry
     }
 }
 
-// Writes the entry of item `i`.
+/// Writes the entry of item `i`: ten words of its fifteen.
 pub fn put_entry(rec: &mut [u32], i: u32, e: Entry)
     requires { 15 * i + 10 ≤ length rec.old }
     ensures { rec.new ≡ sets rec.old (15 * i) (words_of e) }
 {
     let k = 15 * (i as usize);
-    // kept: ten stores; `copy_from_slice` costs a tenth of reading a document.
+    // Ten stores: with `copy_from_slice`, reading a document takes a tenth longer.
     rec[k] = e.kind;
     rec[k + 1] = e.owner;
     rec[k + 2] = e.name;

@@ -1,4 +1,4 @@
-// Searches among the items, and walks over those that pass a test.
+//! Searches among the items, and walks over those that pass a test.
 ghost use Rattle.std.specs.Prelude.{◌≡◌, Bool, ℕ, ◌+◌, ◌<◌, ◌^◌, OnSome, IfSome, eqb, length};
 ghost use Rattle.std.specs.Iterator.{YieldsFirst, item_count};
 ghost use Rattle.texts.specs.Choice.{◌and◌};
@@ -9,15 +9,16 @@ ghost use Rattle.model.specs.Search.{ahead, last_under};
 use crate::view::View;
 use texts::equal;
 
-// A test of an item.
+/// A test of an item.
 pub trait Test {
     ghost test: { Self → Item → Bool };
 
+    /// Whether item `i` passes.
     fn passes(&self, v: &View<'_>, i: u32) -> bool
         ensures { result ≡ test self.now (item_at v.now i) };
 }
 
-// Of a kind.
+/// Passes items of a kind.
 #[derive(Clone, Copy)]
 pub struct OfKind {
     pub kind: u32,
@@ -31,7 +32,7 @@ impl Test for OfKind {
     }
 }
 
-// Of a kind and under an owner.
+/// Passes items of a kind that an owner holds.
 #[derive(Clone, Copy)]
 pub struct Under {
     pub kind: u32,
@@ -46,7 +47,7 @@ impl Test for Under {
     }
 }
 
-// Of a kind and with a name.
+/// Passes items of a kind that have a name.
 #[derive(Clone, Copy)]
 pub struct Named<'a> {
     pub kind: u32,
@@ -61,7 +62,7 @@ impl<'a> Test for Named<'a> {
     }
 }
 
-// The first item from a place on that passes.
+/// The first item from `from` on that passes.
 pub fn next<T: Test>(v: &View<'_>, by: &T, from: u32) -> Option<u32>
     ensures is { result ≡ first (ahead (T.test by.now) from v.now) }
     ensures within { IfSome result (λ i. (i < length v.now.items) × (length v.now.items < 2 ^ 32)) }
@@ -74,7 +75,7 @@ pub fn next<T: Test>(v: &View<'_>, by: &T, from: u32) -> Option<u32>
     None
 }
 
-// The last item that passes.
+/// The last item that passes, searched from the end.
 pub fn last<T: Test>(v: &View<'_>, by: &T) -> Option<u32>
     ensures { result ≡ last (positions_from 0 (T.test by.now) v.now.items) }
 {
@@ -86,7 +87,7 @@ pub fn last<T: Test>(v: &View<'_>, by: &T) -> Option<u32>
     None
 }
 
-// The items from a place on that pass, in order.
+/// Iterates over the items from `from` on that pass, in order.
 #[derive(Drop)]
 pub struct Walk<'a, T> {
     view: &'a View<'a>,
@@ -110,14 +111,14 @@ impl<'a, T: Test + Drop> Iterator for Walk<'a, T> {
 }
 
 impl<'a> View<'a> {
-    // The first item of a kind from a place on.
+    /// The first item of a kind from `from` on.
     pub fn next_of(&self, kind: u32, from: u32) -> Option<u32>
         ensures { result ≡ next_of kind from self.now }
     {
         next(self, &OfKind { kind }, from)
     }
 
-    // The first item of a kind under an owner from a place on.
+    /// The first item of a kind under an owner from `from` on.
     pub fn next_under(&self, kind: u32, owner: u32, from: u32) -> Option<u32>
         ensures is { result ≡ next_under kind owner from self.now }
         ensures within { IfSome result (λ i. i + 1 < 2 ^ 32) }
@@ -125,25 +126,26 @@ impl<'a> View<'a> {
         next(self, &Under { kind, owner }, from)
     }
 
-    // The last item of a kind with a name.
+    /// The last item of a kind that has a name.
     pub fn last_named(&self, kind: u32, name: &[u8]) -> Option<u32>
         ensures { result ≡ last_named kind name.now self.now }
     {
         last(self, &Named { kind, name })
     }
 
-    // The last item of a kind under an owner.
+    /// The last item of a kind under an owner.
     pub fn last_under(&self, kind: u32, owner: u32) -> Option<u32>
         ensures { result ≡ last_under kind owner self.now.items }
     {
         last(self, &Under { kind, owner })
     }
 
-    // All items of a kind.
+    /// All items of a kind, in order.
     pub fn all_of(&'a self, kind: u32) -> Walk<'a, OfKind>
         ensures list { ahead (λ it. eqb it.kind result.by.kind) result.from result.view.now ≡ all_of kind self.now }
         ensures few { length self.now.items < 2 ^ 32 }
     {
+        // Proves `few`: the count is a `u32`.
         let _count = self.count();
         Walk {
             view: self,
@@ -152,7 +154,7 @@ impl<'a> View<'a> {
         }
     }
 
-    // Those of a kind under an owner.
+    /// All items of a kind under an owner, in order.
     pub fn under(&'a self, kind: u32, owner: u32) -> Walk<'a, Under>
         ensures { ahead (λ it. eqb it.kind result.by.kind and eqb it.owner result.by.owner) result.from result.view.now ≡ under kind owner self.now }
     {

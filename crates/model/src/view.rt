@@ -1,4 +1,7 @@
-// A model with its two buffers: the schema that it stands for.
+//! A model with its two buffers, read as the schema that they stand for.
+//!
+//! No access fails, whatever the buffers hold: records past their end read as 0, and a text is cut
+//! off at the end of the text buffer.
 ghost use Rattle.std.specs.Prelude.{◌≡◌, List, ℕ, ◌+◌, ◌<◌, ◌≤◌, ◌^◌, eqb, length, get_or};
 ghost use Rattle.texts.specs.Choice.{pick};
 ghost use Rattle.texts.specs.Text.{piece};
@@ -7,6 +10,7 @@ ghost use Rattle.model.specs.Store.{entry_at, item_of, schema_of};
 
 use crate::{Entry, Model, word};
 
+/// A model over its two buffers. Contracts see it as a schema.
 #[derive(Drop)]
 pub struct View<'a> {
     model: Model,
@@ -23,7 +27,7 @@ impl<'a> std::marker::Model for View<'a> {
     ghost view = { λ v. schema_of v.model v.records.now v.text.now };
 }
 
-// Words `i` and `i + 1`: one test for both.
+/// Words `i` and `i + 1` with one bounds check.
 #[inline(always)]
 fn pair(rec: &[u32], i: usize) -> (u32, u32)
     requires { i + 1 < 2 ^ 64 }
@@ -35,8 +39,10 @@ fn pair(rec: &[u32], i: usize) -> (u32, u32)
     (word(rec, i), word(rec, i + 1))
 }
 
-// The entry of item `i`, with where a text lies and how long it is by one test. Kind and owner are asked for one by one.
-// kept: beside the crate's own, which the builder has in its loop: there this is 2 % slower on small attributes.
+/// The entry of item `i`. Once inlined into an accessor, only the words that it needs are read.
+///
+/// The crate's own `entry_at` stays beside it for the builder's hot loop, where this one is 2 %
+/// slower on small attributes.
 #[inline(always)]
 fn entry_at(rec: &[u32], i: u32) -> Entry
     ensures { result ≡ entry_at rec.now i }
@@ -60,7 +66,7 @@ fn entry_at(rec: &[u32], i: u32) -> Entry
     }
 }
 
-// The entry at a position, whatever the text buffer holds; past the last item an empty one.
+/// The entry of item `i`, or an empty one past the last item.
 #[inline(always)]
 fn item(m: Model, rec: &[u32], i: u32) -> Entry
     ensures { (text : List ℕ) → item_of text result ≡ item_at (schema_of m rec.now text) i }
@@ -82,7 +88,7 @@ fn item(m: Model, rec: &[u32], i: u32) -> Entry
     }
 }
 
-// What there is of a text that does not lie in the buffer: never one that a document gave.
+/// What there is of `n` bytes from `a` on. Out of line: a document's texts all lie in the buffer.
 #[cold]
 #[inline(never)]
 fn cut(text: &[u8], a: usize, n: usize) -> &[u8]
@@ -91,7 +97,7 @@ fn cut(text: &[u8], a: usize, n: usize) -> &[u8]
     texts::part(text, a, n)
 }
 
-// `n` bytes of the text buffer from `a` on.
+/// `n` bytes of the text buffer from `a` on, or as many as there are.
 #[inline(always)]
 fn part(text: &[u8], a: usize, n: usize) -> &[u8]
     ensures { result.now ≡ piece text.now a n }
@@ -104,6 +110,7 @@ fn part(text: &[u8], a: usize, n: usize) -> &[u8]
 }
 
 impl<'a> View<'a> {
+    /// The view of a model over the two buffers.
     pub fn new(model: Model, records: &'a [u32], text: &'a [u8]) -> View<'a>
         ensures { result ≡ schema_of model records.now text.now }
     {
@@ -114,6 +121,7 @@ impl<'a> View<'a> {
         }
     }
 
+    /// The package's name, empty if absent.
     pub fn package(&self) -> &'a [u8]
         ensures { result.now ≡ self.now.package_name }
     {
@@ -121,40 +129,44 @@ impl<'a> View<'a> {
         part(self.text, head.name as usize, head.len as usize)
     }
 
+    /// The schema's id.
     pub fn id(&self) -> u32
         ensures { result ≡ self.now.id }
     {
         self.model.head.id
     }
 
+    /// The schema's version.
     pub fn version(&self) -> u32
         ensures { result ≡ self.now.version }
     {
         self.model.head.version
     }
 
-    // How many items there are.
+    /// How many items there are.
     pub fn count(&self) -> u32
         ensures { result ≡ length self.now.items }
     {
         self.model.count
     }
 
-    // ---- what the schema says of the item at a position; of one past the last, what an empty item says
+    // ---- the item at position `i`; past the last item, an empty one
 
+    /// Its kind, 0 past the last item.
     pub fn kind(&self, i: u32) -> u32
         ensures { result ≡ (item_at self.now i).kind }
     {
         item(self.model, self.records, i).kind
     }
 
+    /// The position of the item that holds it, 0 where the schema itself does.
     pub fn owner(&self, i: u32) -> u32
         ensures { result ≡ (item_at self.now i).owner }
     {
         item(self.model, self.records, i).owner
     }
 
-    // kept, here and in the next two: a method for each of the three texts; one for all would match on which is meant.
+    /// Its name.
     pub fn name(&self, i: u32) -> &'a [u8]
         ensures { result.now ≡ (item_at self.now i).name }
     {
@@ -162,6 +174,8 @@ impl<'a> View<'a> {
         part(self.text, e.name as usize, e.nlen as usize)
     }
 
+    /// Its second text: the primitive of a type or member, the type name of a ref or field, the
+    /// encoding type of an enum, or the text of a value.
     pub fn second(&self, i: u32) -> &'a [u8]
         ensures { result.now ≡ (item_at self.now i).second }
     {
@@ -169,6 +183,7 @@ impl<'a> View<'a> {
         part(self.text, e.second as usize, e.slen as usize)
     }
 
+    /// The characterEncoding of a type or member, empty if absent.
     pub fn encoding(&self, i: u32) -> &'a [u8]
         ensures { result.now ≡ (item_at self.now i).encoding }
     {
@@ -176,20 +191,21 @@ impl<'a> View<'a> {
         part(self.text, e.encoding as usize, e.elen as usize)
     }
 
+    /// The length of a type or member, or the id of a message, group or field.
     pub fn number(&self, i: u32) -> u32
         ensures { result ≡ (item_at self.now i).number }
     {
         item(self.model, self.records, i).number
     }
 
-    // Whether a length is given.
+    /// Whether the document gives its length.
     pub fn given(&self, i: u32) -> bool
         ensures { result ≡ (item_at self.now i).given }
     {
         item(self.model, self.records, i).given == 1
     }
 
-    // The length of a type or member, 0 where that is absent.
+    /// The length of a type or member, 0 if absent.
     pub fn size(&self, i: u32) -> u32
         ensures { result ≡ pick (item_at self.now i).given (item_at self.now i).number 0 }
     {
@@ -197,9 +213,11 @@ impl<'a> View<'a> {
         if e.given == 1 { e.number } else { 0 }
     }
 
-    // ---- how long its texts are at most: more than they are only where one ends beyond the buffer, which no document gives
-    // kept: no more is promised, as what is exact asks where each text ends, which is 1 % and more of a conversion.
+    // ---- upper bounds of its texts' lengths
+    // One load each. They exceed the length only where a text would run past the end of the buffer,
+    // which no document's does; the exact lengths would cost 1 % of a conversion or more.
 
+    /// At least the length of its name.
     #[inline(always)]
     pub fn name_most(&self, i: u32) -> u32
         ensures { length (item_at self.now i).name ≤ result }
@@ -207,6 +225,7 @@ impl<'a> View<'a> {
         item(self.model, self.records, i).nlen
     }
 
+    /// At least the length of its second text.
     #[inline(always)]
     pub fn second_most(&self, i: u32) -> u32
         ensures { length (item_at self.now i).second ≤ result }
@@ -214,6 +233,7 @@ impl<'a> View<'a> {
         item(self.model, self.records, i).slen
     }
 
+    /// At least the length of its encoding.
     #[inline(always)]
     pub fn encoding_most(&self, i: u32) -> u32
         ensures { length (item_at self.now i).encoding ≤ result }

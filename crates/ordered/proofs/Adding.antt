@@ -1,4 +1,4 @@
--- The names of the first items, in order, and one more item.
+-- The sorted names of the first items, and of one more.
 use mathlib.Core.Path.{◌≡◌, refl, sym, ap, ◌∙◌}
 use mathlib.Core.Bool.{Bool, true, false}
 use mathlib.Core.List.{List}
@@ -131,7 +131,7 @@ module _ (s : Schema) (i : ℕ) (names : List ℕ) (n : ℕ) (o : Ordered s i na
       high-name : (a : ℕ) → p ≤ a → a < n → name_at s new (a + 1) ≡ name_at s names a
       high-name a l k = ap (λ x. (item_at s x).name) (v.high a l k)
 
-      -- go by where a place of the new names comes from
+      -- case split: where a place of the new names comes from
       by-slot {ℓ} : {X : ℕ → Type ℓ} (a : ℕ) → a < n + 1 → ((b : ℕ) → b < p → X b) → X p → ((b : ℕ) → p ≤ b → b < n → X (b + 1)) → X a
       by-slot {X} a l f g k =
           by_less a p (f a)
@@ -173,7 +173,7 @@ module _ (s : Schema) (i : ℕ) (names : List ℕ) (n : ℕ) (o : Ordered s i na
                 ∙ o.none name (λ a l q. by_less a p (λ b. g a (omega arith) (low-name a b ∙ q)) (λ b. g (a + 1) (omega arith) (high-name a b l ∙ q)));
           }
 
--- ---- by what the code knows
+-- ---- from the facts at hand in the code
 
 module _ (s : Schema) (i : ℕ) {k : ℕ} (f : k ≡ (item_at s i).kind) (names : List ℕ) {n : ℕ} (o : Ordered s i names n) (h : i < length s.items) {b : Bool} (eb : b ≡ declares k) where
   told : declares (item_at s i).kind ≡ b

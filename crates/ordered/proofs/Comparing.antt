@@ -1,4 +1,4 @@
--- Which of two texts comes first: an order.
+-- The order of texts is a total order, and is std's.
 use mathlib.Core.Path.{◌≡◌, refl, sym, ◌∙◌}
 use mathlib.Core.List.{List, [], ◌∷◌}
 use Prim.Native.Nat.{ℕ, ◌<◌}
@@ -10,7 +10,7 @@ use Rattle.std.specs.Cmp.Lexicographic.{slice_cmp}
 use Rattle.std.specs.Ordering.{nat_cmp}
 use Rattle.ordered.specs.Ordered.{order}
 
--- ---- an order
+-- ---- laws of an order
 
 module _ (x y : ℕ) (xs ys : List ℕ) where
   order-on : x ≡ y → order (x ∷ xs) (y ∷ ys) ≡ order xs ys
@@ -25,11 +25,11 @@ module _ (x y : ℕ) (xs ys : List ℕ) where
   unfolding order
   order-greater l = rw (ne_eqb x y (λ e. omega arith), order, le-ltb x y (omega arith))
 
--- go by which of two numbers is less
+-- case split: which of two numbers is less
 by_order {ℓ} : {X : Type ℓ} (a b : ℕ) → (a < b → X) → (a ≡ b → X) → (b < a → X) → X
 by_order a b f g h = by_less a b f (λ l. by_less b a h (λ m. g (omega arith)))
 
--- by the first bytes of two texts of which the first is less
+-- case split: why a text is less than another, by their first bytes
 by_front {ℓ} : {X : Type ℓ} (x y : ℕ) (xs ys : List ℕ) → order (x ∷ xs) (y ∷ ys) ≡ Less → (x < y → X) → (x ≡ y → order xs ys ≡ Less → X) → X
 by_front x y xs ys p f g =
     by_order x y f

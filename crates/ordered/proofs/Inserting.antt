@@ -1,4 +1,4 @@
--- An item put before another: those from there on move up, the last first.
+-- Insertion: the items from there on move up, the last one first.
 use mathlib.Core.Path.{◌≡◌, refl, ◌∙◌}
 use mathlib.Core.List.{List}
 use Prim.Native.Nat.{ℕ, ◌+◌, ◌-◌, ◌≤◌, ◌<◌}

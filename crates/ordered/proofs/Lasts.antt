@@ -1,4 +1,4 @@
--- The last of the first n items that pass a test, and one more item behind them.
+-- The last of the first n items that pass a test, and of the first n + 1.
 use mathlib.Core.Path.{◌≡◌}
 use mathlib.Core.Bool.{Bool, true, false}
 use Rattle.std.specs.Prelude.{Some}

@@ -1,3 +1,4 @@
+-- Laws of sorted names.
 pub mod Comparing
 pub mod Lasts
 pub mod Numbering

@@ -19,11 +19,11 @@ use Rattle.ordered.specs.Numbered.{declares, numbered}
 use Rattle.ordered.specs.Ordered.{last_by, number_in, worth}
 use Rattle.ordered.proofs.Lasts.{last_step}
 
--- go by whether two numbers are equal
+-- case split: two numbers are equal, or not
 pub by_equal {ℓ} : {X : Type ℓ} (a b : ℕ) → (a ≡ b → X) → ((a ≡ b → ⊥) → X) → X
 by_equal a b f g = by-test (eqb a b) (λ t. f (eqb-true a b t)) (λ t. g (eqb-false a b t))
 
--- go by the kind of what declares
+-- case split: the kind of an item that declares a name
 pub by_kind {ℓ} : {X : Type ℓ} (k : ℕ) → declares k ≡ true → (k ≡ a_type → X) → (k ≡ a_composite → X) → (k ≡ an_enum → X) → X
 unfolding declares
 by_kind k d f g h =
@@ -45,7 +45,7 @@ module _ (kind : ℕ) where
   unfolding declares
   declares-enum a b = rw (ne_eqb kind 1 a, ne_eqb kind 4 b)
 
--- ---- by a last enum, composite and type
+-- ---- by the last enum, composite and type
 
 numbered-type : (j : ℕ) (e c t : Option ℕ) → (numbered e c t ≡ 1 → ⊥) → numbered e c (Some j) ≡ j + 2
 numbered-type j (Some i) c t n = absurd (n refl)
@@ -62,7 +62,7 @@ numbered-composite : (j : ℕ) (e t : Option ℕ) → numbered e (Some j) t ≡ 
 numbered-composite j (Some i) t = refl
 numbered-composite j None t = refl
 
--- ---- among the first items
+-- ---- among the first n items, and among n + 1
 
 pub number-none : (s : Schema) (name : List ℕ) → number_in s 0 name ≡ 0
 unfolding number_in positions_from last
@@ -92,7 +92,7 @@ module _ (s : Schema) (k : ℕ) (h : k < length s.items) (name : List ℕ) where
       number-off (λ kind d. by-test (eqb (item_at s k).kind kind) (λ t. rw (t, f)) (λ g. rw g))
 
   module _ (d : declares (item_at s k).kind ≡ true) (e : (item_at s k).name ≡ name) where
-    -- it decides, but where an enum or composite did
+    -- it decides, unless an enum or composite did
     pub number-fresh : (number_in s k name ≡ 1 → ⊥) → number_in s (k + 1) name ≡ worth s k
     unfolding number_in
     number-fresh n =

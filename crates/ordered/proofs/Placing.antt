@@ -1,4 +1,4 @@
--- A search by halves among names in order.
+-- Bisection of sorted names.
 use mathlib.Core.Path.{◌≡◌, sym, ap, ◌∙◌}
 use mathlib.Core.List.{List}
 use Prim.Native.Nat.{ℕ, ◌+◌, ◌≤◌, ◌<◌}

@@ -1,3 +1,3 @@
--- What a name is declared as, and what names in order are.
+-- What a name is declared as, and names in sorted order.
 pub mod Numbered
 pub mod Ordered

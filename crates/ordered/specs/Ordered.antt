@@ -1,4 +1,4 @@
--- The names that a schema declares, in order, while they are put there. Internal.
+-- The names that a schema declares, sorted, while items are added one by one. Internal.
 use Rattle.std.specs.Prelude.{Option, Result, Ok, Err, ◌≡◌, Bool, true, false, List, [], ◌∷◌, ℕ, ◌+◌, ◌≤◌, ◌<◌, eqb, ltb, length, get_or, take}
 use Rattle.texts.specs.Choice.{pick, ◌and◌}
 use Rattle.texts.specs.Text.{same}
@@ -9,7 +9,7 @@ use Rattle.std.specs.declared.cmp.Ordering.TheVariants.{Less, Equal, Greater}
 
 -- ---- two names
 
--- which of two texts comes first
+-- the lexicographic order of two texts
 unfoldable pub order : List ℕ → List ℕ → Ordering
 order [] [] = Equal
 order [] (y ∷ ys) = Less
@@ -26,32 +26,35 @@ last_by p n s = last (positions_from 0 p (take n s.items))
 unfoldable pub number_in : Schema → ℕ → List ℕ → ℕ
 number_in s k name = numbered (last_by (λ it. eqb it.kind an_enum and same it.name name) k s) (last_by (λ it. eqb it.kind a_composite and same it.name name) k s) (last_by (λ it. eqb it.kind a_type and same it.name name) k s)
 
--- what the item at i, if it declares, declares its name as
+-- what the item at i declares its name as, if it declares one
 abbrev pub worth : Schema → ℕ → ℕ
 worth s i = pick (eqb (item_at s i).kind a_type) (i + 2) 1
 
--- ---- names in order: positions of items, n of them
+-- ---- sorted names: an array of positions of items, of which the first n are in use
 
+-- the name of the item whose position stands at a
 abbrev pub name_at : Schema → List ℕ → ℕ → List ℕ
 name_at s names a = (item_at s (get_or names a 0)).name
 
+-- the names rise strictly
 pub record Rising (s : Schema) (names : List ℕ) (n : ℕ) : Type 0 where
   pub long : n ≤ length names
   pub up : (a b : ℕ) → a < b → b < n → order (name_at s names a) (name_at s names b) ≡ Less
 
--- where a name is, or before which it would stand
+-- what a search answers: Ok p where the name stands, or Err p where it would be inserted
 pub record Placed (s : Schema) (names : List ℕ) (n : ℕ) (name : List ℕ) (r : Result ℕ ℕ) : Type 0 where
   pub at : (p : ℕ) → r ≡ Ok p → (p < n) × (name_at s names p ≡ name)
   pub before : (p : ℕ) → r ≡ Err p → (p ≤ n) × ((a : ℕ) → a < p → order (name_at s names a) name ≡ Less) × ((a : ℕ) → p ≤ a → a < n → order (name_at s names a) name ≡ Greater)
 
--- i stands at p, and what stood from p on, one further
+-- i stands at p, and what stood from p on has moved up by one
 pub record Inserted (old : List ℕ) (n p i : ℕ) (new : List ℕ) : Type 0 where
   pub long : length new ≡ length old
   pub low : (a : ℕ) → a < p → get_or new a 0 ≡ get_or old a 0
   pub here : get_or new p 0 ≡ i
   pub high : (a : ℕ) → p ≤ a → a < n → get_or new (a + 1) 0 ≡ get_or old a 0
 
--- the names that the first k items declare, each once, by the item that decides what it is declared as
+-- the names that the first k items declare, each once, as the item that decides what it is declared
+-- as
 pub record Ordered (s : Schema) (k : ℕ) (names : List ℕ) (n : ℕ) : Type 0 where
   pub room : 1024 ≤ length names
   pub few : n ≤ k
@@ -60,7 +63,7 @@ pub record Ordered (s : Schema) (k : ℕ) (names : List ℕ) (n : ℕ) : Type 0 
   pub is : (a : ℕ) → a < n → worth s (get_or names a 0) ≡ number_in s k (name_at s names a)
   pub none : (name : List ℕ) → ((a : ℕ) → a < n → name_at s names a ≡ name → ⊥) → number_in s k name ≡ 0
 
--- the item at i declares the name that stands at p
+-- the item at i declares the name that stands at p already
 pub record Meeting (s : Schema) (i : ℕ) (names : List ℕ) (n p : ℕ) : Type 0 where
   pub ordered : Ordered s i names n
   pub inside : i < length s.items

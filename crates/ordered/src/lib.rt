@@ -1,8 +1,8 @@
-// The names that a model declares, in order, so that what a name is declared as is found by halves.
-//
-// `Names::of` takes them from any schema of at most 1,024 items, and `number_of` promises of a name what
-// the model's `last_named` says of enums, composites and types. A search compares ten names at most, whatever the names
-// are. Beside these stands what they share with the searches by a hash: which kinds declare.
+//! The type names that a schema declares, sorted, so that a lookup bisects.
+//!
+//! `Names::of` sorts those of any schema of at most 1,024 items. `number_of` then answers as the
+//! model's `last_named` does for enums, composites and types, with at most eleven comparisons
+//! whatever the names are. `is_declaring` is shared with the hash chains of crate `index`.
 #![tactic(auto)]
 
 ghost use Rattle.std.specs.Prelude.{◌≡◌, ◌+◌, ◌<◌, ◌≤◌, length, set};
@@ -15,12 +15,10 @@ use model::{COMPOSITE, ENUM, TYPE};
 use std::cmp::Ordering;
 use std::marker::Model;
 
-// How many names there may be.
+/// How many names there may be.
 pub const SIZE: usize = 1024;
 
-// ---- names in order
-
-// The kinds that a type name is looked up among.
+/// Whether items of this kind declare a type name: types, composites and enums do.
 #[tactic(auto, unfolding(crate::specs::Numbered::declares))]
 pub fn is_declaring(kind: u32) -> bool
     ensures { result ≡ declares kind }
@@ -28,7 +26,7 @@ pub fn is_declaring(kind: u32) -> bool
     kind == TYPE || kind == COMPOSITE || kind == ENUM
 }
 
-// Positions of items in the order of their names: the first `count` of an array.
+/// Positions of items, sorted by name: the first `count` of the array.
 #[derive(Drop)]
 struct Places {
     names: [u16; SIZE],
@@ -36,12 +34,12 @@ struct Places {
 }
 
 impl Places {
-    // Where a name is, or before which one it would stand.
+    /// Bisects: `Ok` with where the name stands, or `Err` with where it would be inserted.
     fn place_of(&self, v: &View<'_>, name: &[u8]) -> Result<usize, usize>
         requires { Rising v.now self.now.names self.now.count }
         ensures { Placed v.now self.now.names self.now.count name.now result }
     {
-        // kept: the invariant is over two ends, and `Err` says what stands on both sides of the place.
+        // `while`, not `for`: `low..high` shrinks from either end.
         let mut low = 0;
         let mut high = self.count;
         while low < high {
@@ -55,7 +53,7 @@ impl Places {
         Err(low)
     }
 
-    // Item `i` before the one at `p`; those from there on move up.
+    /// Inserts item `i` at place `p`; those from there on move up by one.
     fn insert(&mut self, p: usize, i: u32)
         requires { (p ≤ self.old.count) × (self.old.count < 1024) × (i < 1024) }
         ensures { Inserted self.old.names self.old.count p i self.new.names × (self.new.count ≡ self.old.count + 1) }
@@ -67,7 +65,7 @@ impl Places {
         self.count += 1;
     }
 
-    // Item `i`, which has the name of the one at `p`: a later type wins, and an enum or composite over any type.
+    /// Item `i` declares the name at `p` again: it replaces a type, but no enum or composite.
     fn meet(&mut self, v: &View<'_>, p: usize, i: u32)
         requires { Meeting v.now i self.old.names self.old.count p }
         ensures { Ordered v.now (i + 1) self.new.names self.new.count }
@@ -78,7 +76,7 @@ impl Places {
         }
     }
 
-    // The names of the first `i` items are in order; now those of one more.
+    /// Adds the name of item `i`, if it declares one, to those of the items before it.
     fn add(&mut self, v: &View<'_>, i: u32)
         requires { Ordered v.now i self.old.names self.old.count × (i < length v.now.items) × (length v.now.items ≤ 1024) }
         ensures { Ordered v.now (i + 1) self.new.names self.new.count }
@@ -92,7 +90,7 @@ impl Places {
     }
 }
 
-// The names that the first items of a schema declare, in order: where each is declared, and how many there are.
+/// The names that the first `added` items of a schema declare, sorted.
 #[derive(Drop)]
 pub struct Names<'a> {
     view: &'a View<'a>,
@@ -113,7 +111,7 @@ impl<'a> Model for Names<'a> {
 }
 
 impl<'a> Names<'a> {
-    // The names of one item more.
+    /// Adds the name of the next item, if it declares one.
     fn add(&mut self)
         requires { self.old.added < length self.old.schema.items }
         ensures { self.new ≡ record { schema = self.old.schema; added = self.old.added + 1 } }
@@ -122,7 +120,7 @@ impl<'a> Names<'a> {
         self.added += 1;
     }
 
-    // All names that are declared.
+    /// Sorts all names that the schema declares.
     pub fn of(view: &'a View<'a>) -> Names<'a>
         requires { length view.now.items ≤ 1024 }
         ensures { result ≡ record { schema = view.now; added = length view.now.items } }
@@ -142,7 +140,8 @@ impl<'a> Names<'a> {
         names
     }
 
-    // What a name is declared as: 0 for nothing, 1 for an enum or composite, and 2 more than the position of a type.
+    /// What a name is declared as: 0 for nothing, 1 for an enum or composite, `i + 2` for the type
+    /// at position `i`. All items have to be added before.
     pub fn number_of(&self, name: &[u8]) -> u32
         requires { self.now.added ≡ length self.now.schema.items }
         ensures { (result ≡ numbered (last_named an_enum name.now self.now.schema) (last_named a_composite name.now self.now.schema) (last_named a_type name.now self.now.schema)) × (result < 1026) }

@@ -1,4 +1,4 @@
--- A text is known from its quoted form. Pairs of bytes below 128 are told apart by computing; any other byte stands for itself.
+-- A text is determined by its quoted form: pairs of bytes below 128 are compared by computation.
 use mathlib.Core.Path.{◌≡◌, refl, subst}
 use mathlib.Core.Bool.{Bool, true, false}
 use mathlib.Core.List.{List, [], ◌∷◌}
@@ -25,7 +25,7 @@ below_at p (suc n) h c l =
     (λ t. below_at p n (and_right (p n) (below p n) h) c (ltb-true c n t))
     (λ t. let g = ltb-false c n t in let q : n ≡ c = omega arith in rw q at (and_left (p n) (below p n) h))
 
--- two bytes are one, or their texts differ
+-- two bytes are equal, or their escapes differ
 pair : ℕ → ℕ → Bool
 pair a b = eqb a b or differs (escaped a) (escaped b)
 

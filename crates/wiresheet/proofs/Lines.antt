@@ -1,5 +1,5 @@
--- A line tells its kind, name and number. A kind is seen as the word that is printed, the mark in brackets and the encoding in the
--- note; these three are known from the line, and the kind from them.
+-- A line determines its kind, name and number: it determines the proto type, the option in brackets
+-- and the encoding in the comment, and these determine the kind.
 use mathlib.Core.Path.{◌≡◌, refl, ap, sym, ◌∙◌, subst}
 use mathlib.Core.Bool.{not}
 use mathlib.Core.List.{List, [], ◌∷◌, ◌++◌, append_assoc}
@@ -96,7 +96,7 @@ OkMark bare = Unit {0}
 OkMark (encoded p) = Free 34 p
 OkMark (sized n) = Unit {0}
 
--- words that begin what is no line
+-- words that begin a comment, an option or a message, but no line
 abbrev pub openers : List (List ℕ)
 openers = ascii "//" ∷ ascii "option" ∷ ascii "message" ∷ []
 
@@ -227,11 +227,11 @@ unfolding line
 line-is indent k x n =
     rw (as-viewed k) (simp append_assoc (above-is indent (view_of k).encoding (indent ▹ rest (view_of k).word (view_of k).mark x n)))
 
--- a word that begins what is no line is not the line's
+-- the word of a line is none of those that begin no line
 opener : (v : View) → OkView v → (w : List ℕ) → T (among w openers) → v.word ≡ w → ⊥
 opener v h w t e = T_not (among v.word openers) h.fresh (rw e t)
 
--- a line of a plain kind tells kind, name and number
+-- a line of a plain kind determines kind, name and number
 pub record Same (k k' : Kind) (x x' : List ℕ) (n n' : ℕ) : Type 0 where
   pub kind : k ≡ k'
   pub name : x ≡ x'

@@ -1,4 +1,4 @@
--- A number is known from its decimal.
+-- A number is determined by its decimal digits.
 use mathlib.Core.Path.{◌≡◌, refl, ap, sym, ◌∙◌}
 use mathlib.Core.Bool.{Bool, true, false}
 use mathlib.Core.List.{List, [], ◌∷◌, ◌++◌}

@@ -1,4 +1,4 @@
--- A sheet whose names and kinds are those of a plain schema is known from its rendering.
+-- A sheet with the names and kinds of a plain schema is determined by its rendering.
 use mathlib.Core.Path.{◌≡◌, refl, ap}
 use mathlib.Core.List.{List, [], ◌∷◌, ◌++◌, append_assoc, head-eq_of_cons-eq}
 use Prim.Native.Nat.{ℕ}

@@ -1,4 +1,4 @@
--- Laws of the sheet's lines.
+-- Laws of the sheet as lines: what is written is what the definition shows.
 use mathlib.Core.Path.{◌≡◌, refl, sym, ap, subst, ◌∙◌}
 use mathlib.Core.Bool.{Bool, true, false}
 use mathlib.Core.List.{List, [], ◌∷◌, ◌++◌, map, append_assoc}

@@ -20,7 +20,7 @@ pub record Splits (u v : List ℕ) (G : Type 0) : Type 0 where
 pub done : {G : Type 0} (w : List ℕ) → G → Splits w w G
 done w g = record { split = λ x y e. (g, append_cancel_left w x y e) }
 
--- what tells E, and then
+-- what determines E, and then
 pub seq : {s t u v : List ℕ} {E G : Type 0} → Splits s t E → (E → Splits u v G) → Splits (s ++ u) (t ++ v) G
 seq {s} {t} {u} {v} p k =
     record {
@@ -37,7 +37,7 @@ gives p f = record { split = λ x y e. let r = p.split x y e in (f r.0, r.1) }
 pub flip : {u v : List ℕ} {G : Type 0} → Splits u v G → Splits v u G
 flip p = record { split = λ x y e. let r = p.split y x (sym e) in (r.0, sym r.1) }
 
--- two texts that are never one stay so with more behind them
+-- two texts that always differ still do with more after one of them
 pub clash : {s u : List ℕ} {G : Type 0} (w : List ℕ) → Splits s u ⊥ → Splits (s ++ w) u G
 clash {s} w p = record { split = λ x y e. absurd (p.split (w ++ x) y (sym (append_assoc s w x) ∙ e)).0 }
 
@@ -56,7 +56,7 @@ differ (a ∷ u) (b ∷ v) x y d e = go (λ h. differ u v x y h (tail-eq_of_cons
     go r true q h = r h
     go r false q h = rw q at (subst (λ n. T (eqb a n)) (head-eq_of_cons-eq e) (eqb_refl a))
 
--- so they are no two readings of one text
+-- such texts are never readings of one text
 pub apart : {u v : List ℕ} {G : Type 0} → T (differs u v) → Splits u v G
 apart {u} {v} d = record { split = λ x y e. absurd (differ u v x y d e) }
 

@@ -1,8 +1,8 @@
--- Two plain, accepted, printed schemas have the same source, byte for byte, exactly when their
--- wire sheets are equal.
+-- Rules: Plain schemas and the wire sheet. Two plain, accepted, printed schemas have the same
+-- source, byte for byte, exactly when their wire sheets are equal.
 --
--- This is said of two calls of the converter, whatever the buffers held before, and of the bytes
--- that the calls left in the two outputs.
+-- It is said of two calls of the converter, whatever the buffers held before, and of the bytes that
+-- the calls left in the two outputs.
 use Rattle.std.specs.Prelude.{◌≡◌, ◌↔◌, List, ℕ, length, take, Ok, Err}
 use Rattle.refusals.specs.Figures.{Answer}
 use Rattle.model.specs.Schema.{Schema}
@@ -13,7 +13,7 @@ use Rattle.wiresheet.specs.declared.Lent.{Lent}
 use Rattle.wiresheet.specs.Plain.{Plain}
 use Rattle.wiresheet.specs.Sheet.{sheet}
 
--- the converter was called with what is lent: its answer, and its output before and after
+-- a call of the converter with what is lent: its answer, and its output before and after
 abbrev pub Called : Lent → List ℕ → List ℕ → Answer → Type 0
 Called a = Converts a.document.now (length a.records.now) (length a.text.now)
 
@@ -21,24 +21,25 @@ Called a = Converts a.document.now (length a.records.now) (length a.text.now)
 abbrev pub read_as : Lent → Whole
 read_as a = answer_of a.document.now (length a.records.now) (length a.text.now)
 
--- the first n bytes of one output and the first m of the other: as many, and the same
+-- the first n bytes of one output and the first m of the other are as many, and the same
 abbrev pub SameBytes : ℕ → List ℕ → ℕ → List ℕ → Type 0
 SameBytes n out m out' = (n ≡ m) × (take n out ≡ take m out')
 
--- both calls printed a source, and left the same bytes; never where either refused
+-- both calls printed a source, and the same one; never where either refused
 abbrev pub SameSource : Answer → List ℕ → Answer → List ℕ → Type 0
 SameSource (Ok n) out (Ok m) out' = SameBytes n out m out'
 SameSource (Ok n) out (Err r) out' = ⊥
 SameSource (Err r) out b out' = ⊥
 
--- the document was read as the schema s, which is plain, and the call printed n bytes of source
+-- the document was read as the plain schema s, and the call printed n bytes of source
 pub record PrintedPlain (read : Whole) (answer : Answer) (s : Schema) (n : ℕ) : Type 0 where
   pub is : read ≡ accepted s
   pub plain : Plain s
   pub printed : answer ≡ Ok n
 
--- `a` and `b` are what the two documents are read as, `x` and `y` what the calls answered, and
--- the outputs are as the calls left them: of plain schemas the sheets decide
+-- two documents were read as `a` and `b`, the calls answered `x` and `y` and left the two outputs:
+-- where both schemas are plain and printed, the sources are the same exactly when the sheets are
+-- equal
 abbrev pub Decides : Whole → Answer → List ℕ → Whole → Answer → List ℕ → Type 0
 Decides a x out b y out' =
     (s t : Schema) (n m : ℕ) → PrintedPlain a x s n → PrintedPlain b y t m

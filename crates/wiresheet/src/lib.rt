@@ -1,11 +1,9 @@
-// The wire sheet of a schema, and when two schemas have the same source.
-//
-// `sheet::write_sheet` prints the lines of the wire sheet (specs/Sheet.antt) from the model.
-// `same_source` converts two documents and compares what the two calls left. Its contract
-// (specs/SameSource.antt) says that two plain (specs/Plain.antt), accepted, printed schemas have the
-// same source, byte for byte, exactly when their wire sheets are equal.
-//
-// kept: an output, a view and an item's position are parameters, as in xmltoproto.
+//! The wire sheet of a schema, and whether two documents have the same source.
+//!
+//! `sheet::write_sheet` prints the lines of the sheet (specs/Sheet.antt). `same_source` converts
+//! two documents and compares the outputs; its contract (specs/SameSource.antt) says that two plain
+//! schemas (specs/Plain.antt) that are accepted and printed have the same source, byte for byte,
+//! exactly when their wire sheets are equal.
 #![tactic(auto)]
 
 pub mod sheet;
@@ -17,7 +15,7 @@ use refusals::Refusal;
 use texts::{equal, part};
 use xmltoproto::xml_to_proto;
 
-// A document, and the two work buffers that are lent for it.
+/// A document, and the two work buffers to read it with.
 #[derive(Drop)]
 pub struct Lent<'a> {
     pub document: &'a [u8],
@@ -25,14 +23,15 @@ pub struct Lent<'a> {
     pub text: &'a mut [u8],
 }
 
-// What two calls of the converter answered, and whether they left the same source.
+/// What the converter answered for two documents, and whether it printed the same source for both.
 pub struct Compared {
     pub first: Result<usize, Refusal>,
     pub second: Result<usize, Refusal>,
     pub same: bool,
 }
 
-// Converts two documents, with any buffers, and compares the sources that the two calls left.
+/// Converts two documents and compares their sources, which are not the same where either is
+/// refused. The buffers may hold anything.
 pub fn same_source(
     a: &mut Lent<'_>,
     output_a: &mut [u8],

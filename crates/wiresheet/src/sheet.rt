@@ -1,4 +1,4 @@
-// The wire sheet of a schema, printed as lines from the model (specs/Sheet.antt).
+//! Prints the wire sheet of a schema as lines (specs/Sheet.antt), from the model.
 #![tactic(auto, using(printing::proofs::Writing::writing))]
 
 ghost use Rattle.std.specs.Prelude.{List, [], ℕ};
@@ -24,7 +24,7 @@ use xmltoproto::types::{Sense, chars_in, is_raw, sense_of};
 
 // ---- kinds
 
-// The kind of a form.
+/// Writes the kind of a primitive with a length, 0 if absent, and an encoding.
 fn write_kind(out: &mut Output<'_>, primitive: &[u8], size: u32, encoding: &[u8])
     ensures { Wrote out.old out.new (kind_shown (kind_of (form primitive.now size encoding.now))) }
 {
@@ -44,6 +44,7 @@ fn write_kind(out: &mut Output<'_>, primitive: &[u8], size: u32, encoding: &[u8]
     out.text(primitive);
 }
 
+/// Writes the kind of an enum or composite, or of a name that stands for nothing.
 fn write_named(out: &mut Output<'_>, name: &[u8])
     ensures { Wrote out.old out.new (kind_shown (named name.now)) }
 {
@@ -51,7 +52,7 @@ fn write_named(out: &mut Output<'_>, name: &[u8])
     out.text(name);
 }
 
-// The kind of the type or member at `i`.
+/// Writes the kind of the type or member at `i`.
 fn write_kind_at(out: &mut Output<'_>, v: &View<'_>, i: u32)
     ensures { Wrote out.old out.new (kind_shown (kind_of (form_of (item_at v.now i)))) }
 {
@@ -60,7 +61,7 @@ fn write_kind_at(out: &mut Output<'_>, v: &View<'_>, i: u32)
     write_kind(out, primitive, v.size(i), encoding);
 }
 
-// What a type name stands for.
+/// Writes the kind that a type name stands for.
 fn write_kind_of(out: &mut Output<'_>, v: &View<'_>, name: &[u8])
     ensures { Wrote out.old out.new (kind_shown (kind_by name.now (meaning v.now name.now))) }
 {
@@ -72,18 +73,19 @@ fn write_kind_of(out: &mut Output<'_>, v: &View<'_>, name: &[u8])
     }
 }
 
-// ---- the lines of items
+// ---- items
 
-// What is written of an item, by the schema that it is in.
-// kept: `walk` of xmltoproto goes by an index, which a sheet has none of, so this one goes by the view.
+/// What the sheet shows of an item. Beside `ItemText` of xmltoproto, which needs an index: a sheet
+/// is made from the view alone.
 trait Lines {
     ghost text: { Schema → ℕ → List ℕ };
 
+    /// Writes the lines of item `i`.
     fn write(&self, out: &mut Output<'_>, v: &View<'_>, i: u32)
         ensures { Wrote out.old out.new (text v.now i) };
 }
 
-// Of each item of a kind under an owner.
+/// Writes the lines of each item of a kind under an owner.
 fn write_under<T: Lines>(out: &mut Output<'_>, v: &View<'_>, kind: u32, owner: u32, by: &T)
     ensures { Wrote out.old out.new (each (T.text v.now) (under kind owner v.now)) }
 {
@@ -92,7 +94,7 @@ fn write_under<T: Lines>(out: &mut Output<'_>, v: &View<'_>, kind: u32, owner: u
     }
 }
 
-// Of each item of a kind.
+/// Writes the lines of each item of a kind.
 fn write_all<T: Lines>(out: &mut Output<'_>, v: &View<'_>, kind: u32, by: &T)
     ensures { Wrote out.old out.new (each (T.text v.now) (all_of kind v.now)) }
 {
@@ -103,6 +105,7 @@ fn write_all<T: Lines>(out: &mut Output<'_>, v: &View<'_>, kind: u32, by: &T)
 
 // ---- enums
 
+/// The line of an enum's value.
 struct ValueLine;
 
 impl Lines for ValueLine {
@@ -117,6 +120,7 @@ impl Lines for ValueLine {
     }
 }
 
+/// An enum: its line, and those of its values.
 struct EnumLines;
 
 impl Lines for EnumLines {
@@ -132,6 +136,7 @@ impl Lines for EnumLines {
 
 // ---- composites
 
+/// The line of a member.
 struct MemberLine;
 
 impl Lines for MemberLine {
@@ -146,6 +151,7 @@ impl Lines for MemberLine {
     }
 }
 
+/// The line of a ref.
 struct RefLine;
 
 impl Lines for RefLine {
@@ -160,6 +166,7 @@ impl Lines for RefLine {
     }
 }
 
+/// Writes the line of a composite, and those of its members and refs.
 fn write_composite(out: &mut Output<'_>, v: &View<'_>, i: u32)
     ensures { Wrote out.old out.new (composite_shown (composite_of v.now i)) }
 {
@@ -170,7 +177,7 @@ fn write_composite(out: &mut Output<'_>, v: &View<'_>, i: u32)
     write_under(out, v, REF, i, &RefLine);
 }
 
-// Of a composite that is printed.
+/// The lines of a composite, none if it is not printed.
 struct CompositeLines;
 
 impl Lines for CompositeLines {
@@ -185,6 +192,7 @@ impl Lines for CompositeLines {
 
 // ---- messages
 
+/// The line of a field.
 struct FieldLine;
 
 impl Lines for FieldLine {
@@ -202,6 +210,7 @@ impl Lines for FieldLine {
     }
 }
 
+/// Writes the line of a group, without its fields.
 fn write_group_line(out: &mut Output<'_>, v: &View<'_>, i: u32)
     ensures { Wrote out.old out.new (group_line v.now i) }
 {
@@ -215,6 +224,7 @@ fn write_group_line(out: &mut Output<'_>, v: &View<'_>, i: u32)
     out.text(b"\n");
 }
 
+/// A group: its line, its fields, and `end`.
 struct GroupLines;
 
 impl Lines for GroupLines {
@@ -227,6 +237,7 @@ impl Lines for GroupLines {
     }
 }
 
+/// A message: its line, its fields, and its groups.
 struct MessageLines;
 
 impl Lines for MessageLines {
@@ -243,8 +254,9 @@ impl Lines for MessageLines {
     }
 }
 
-// ---- the whole
+// ---- the whole sheet
 
+/// Writes the line of package, id and version.
 fn write_schema_line(out: &mut Output<'_>, v: &View<'_>)
     ensures { Wrote out.old out.new (schema_line v.now) }
 {
@@ -257,7 +269,7 @@ fn write_schema_line(out: &mut Output<'_>, v: &View<'_>)
     out.text(b"\n");
 }
 
-// kept: alike `write_source` in form alone; what it writes is of its own trait.
+/// Writes the wire sheet of a schema.
 pub fn write_sheet(out: &mut Output<'_>, v: &View<'_>)
     ensures { Wrote out.old out.new (sheet_lines (sheet v.now)) }
 {

@@ -47,7 +47,7 @@ lacking-on {s} {k} inv e f =
           (λ n. let d : i ≡ k → ⊥ = eqb-false i k n in inv.none i (omega arith));
     }
 
--- past the last item there is nothing
+-- at the end of the loop
 pub lacking-all : {s : Schema} {k n : ℕ} → Lacking s k → n ≡ length s.items → n ≤ k → Arrayless s
 unfolding form_of is_array
 lacking-all {s} {k} inv e h =
@@ -56,7 +56,7 @@ lacking-all {s} {k} inv e h =
           by_less i k (λ l. inv.none i l) (λ l. let o : length s.items ≤ i = omega arith in rw (get_or-eq_default s.items no_item o));
     }
 
--- an answer that promises nothing
+-- `true` promises nothing
 pub lacking-not : {s : Schema} → true ≡ false → Arrayless s
 lacking-not e = absurd (let z : ◌≡◌ {A = ℕ} 0 1 = cc in omega arith)
 

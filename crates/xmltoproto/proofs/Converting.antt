@@ -14,7 +14,7 @@ use Rattle.xmltoproto.specs.Convert.{converted, Converts}
 -- d is what reading answered, w what the definition says
 
 module _ (doc rec₀ text₀ out rec text : List ℕ) where
-  -- what a `?` hands on
+  -- what a `?` passes on
   pub convert-refused : {q : Refusal} → ReadInto doc rec₀ text₀ (Err q) rec text → {r : Answer} → IsErrAnd r (λ e. e ≡ q) → Converts doc (length rec₀) (length text₀) out out r
   unfolding output_after
   convert-refused {q} e {r} h =

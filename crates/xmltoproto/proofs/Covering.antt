@@ -1,4 +1,4 @@
--- Laws of what the code counts.
+-- What the code counts covers what each item adds to the source.
 use mathlib.Core.Path.{◌≡◌, refl, sym, ap, ◌∙◌}
 use mathlib.Core.List.{List}
 use Prim.Native.Nat.{ℕ, zero, suc, ◌+◌, ◌*◌, ◌≤◌, ◌<◌, ◌^◌}
@@ -38,15 +38,15 @@ note-more zero b h = omega arith
 note-more (suc a) zero h = absurd (omega arith)
 note-more (suc a) (suc b) h = omega arith
 
--- the line of the item t, by lengths p and e that its texts have at most, and digits d that its size has at most
+-- the line of item t: p and e bound the lengths of its texts, d the digits of its size
 pub typed-covered : (t : Item) (n k : ℕ) {p d e q w : ℕ} → length t.second ≤ p → length t.encoding ≤ e → length (decimal (pick t.given t.number 0)) ≤ d → q ≡ named_most n k p → w ≡ note_most e
     → q + 28 + d + w < 2 ^ 40 → Covers (q + 28 + d + w) (typed_most n k (form_of t))
 unfolding form_of
 typed-covered t n k {e = e} lp le ld eq ew small = record { least = rw ew (omega (arith, lp, ld, note-more (length t.encoding) e le)); small = small }
 
--- ---- by kind
+-- ---- a line by its kind
 
--- a field by what its type name is declared as; its name has n bytes at most, and its number d digits
+-- a field, by what its type name is declared as: n bounds its name's length, d its number's digits
 module _ (s : Schema) (it : Item) {n d : ℕ} (ln : length it.name ≤ n) (ld : length (decimal it.number) ≤ d) {o : Option Declaration} (eo : o ≡ declaration_of s it.second) where
   by-declaration : {r : ℕ} → field_by s it o ≤ r → r < 2 ^ 40 → Covers r (field_most s it)
   unfolding field_most

@@ -1,4 +1,4 @@
--- Laws of the generator's answer: d is what was said of the arrays.
+-- Laws of the generator's answer; d is the answer about arrays.
 use mathlib.Core.Path.{◌≡◌, refl, sym, ap, ◌∙◌}
 use mathlib.Core.Bool.{Bool, true, false}
 use Rattle.std.specs.Prelude.{Option, None, Some}
@@ -34,7 +34,7 @@ none-fine None e = refl
 none-fine (Some r) e = absurd (let z : ◌≡◌ {A = ℕ} 0 1 = cc in omega arith)
 
 module _ (s : Schema) (out : List ℕ) where
-  -- what a `?` hands on
+  -- what a `?` passes on
   pub generated-refused : {q : Refusal} → Err q ≡ refusing (array_refusal s) → {r : Answer} → IsErrAnd r (λ e. e ≡ q) → Generated s out out r
   unfolding generated output_after
   generated-refused {q} e {r} h =

@@ -65,7 +65,7 @@ unfolding note_line note_on note_most compatible cleaned trimmed trimmed_front t
 note-size ind [] h f = absurd (let z : ◌≡◌ {A = ℕ} 0 1 = cc in omega arith)
 note-size ind (x ∷ e) h f = simp length-append (omega (arith, quoted-most (x ∷ e)))
 
--- an absent length is shown as 1, which has a digit as 0 has
+-- an absent length prints as 1, which has one digit, as 0 has
 chars-digits : (t : Form) → length (decimal (chars t)) ≡ length (decimal t.size)
 unfolding chars decimal digits
 chars-digits t =

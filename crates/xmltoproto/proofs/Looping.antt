@@ -1,4 +1,4 @@
--- What the loops over items keep: a text of each, a text of each with its number, a count, a test of some, the first that passes.
+-- Invariants of loops over items: texts, numbered texts, a count, a test, the first that passes.
 use mathlib.Core.Path.{◌≡◌, refl, sym, ap, ◌∙◌}
 use mathlib.Core.Bool.{Bool, true, false}
 use mathlib.Core.List.{List, [], ◌∷◌}
@@ -42,7 +42,7 @@ module _ {f : ℕ → List ℕ} {l left : List ℕ} {o o' : Output} (inv : Walki
 
 pub ruleset walking = (walking_on, walking-end)
 
--- ---- f of each position of l with its number, from k₀ + 1 on; k are printed, and n bounds the numbers
+-- ---- f of each position of l with its number, from k₀ + 1 on: k are printed, n bounds the numbers
 
 pub record Numbering (f : ℕ → ℕ → List ℕ) (k₀ : ℕ) (l left : List ℕ) (n k : ℕ) (o o' : Output) : Type 0 where
   pub rest : written o' (numbered f (k + 1) left) ≡ written o (numbered f (k₀ + 1) l)

@@ -1,4 +1,4 @@
--- Laws of outputs: what was written, as it was printed over the lent slice, and back.
+-- Laws of outputs: a text written to an output is one printed into its slice, and back.
 use mathlib.Core.Path.{◌≡◌, refl, sym, ap, ◌∙◌}
 use mathlib.Core.List.{List, []}
 use Prim.Native.Nat.{ℕ, ◌≤◌, ◌<◌, ◌^◌}

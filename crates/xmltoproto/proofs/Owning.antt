@@ -1,4 +1,4 @@
--- Sums over the items, and over those that an owner holds: no item is counted twice, since it has one owner.
+-- Sums over the items by owner: no item is counted twice, since it has one owner.
 use mathlib.Core.Path.{◌≡◌, refl, sym}
 use mathlib.Core.Bool.{Bool, true, false}
 use mathlib.Core.List.{List, [], ◌∷◌}

@@ -28,12 +28,12 @@ unfolding form_of
 array_told it {u} {n} eu en eb =
     eb ∙ ap (λ (x : List ℕ). is_array (form x n [])) eu ∙ ap (λ (x : ℕ). is_array (form it.second x [])) en ∙ array-form it.second (form_of it).size it.encoding
 
--- a length of 1 at most is no array's
+-- a length of at most 1 is no array
 pub array-small : (it : Item) {n : ℕ} → n ≡ (form_of it).size → n ≤ 1 → false ≡ is_array (form_of it)
 unfolding is_array
 array-small it {n} e h = rw (← e, le-ltb 1 n h)
 
--- where no length is given there is none
+-- nor is an item without a length
 pub array-absent : (it : Item) {g : Bool} → g ≡ it.given → g ≡ false → false ≡ is_array (form_of it)
 unfolding form_of is_array
 array-absent it e f = rw (← e, f)

@@ -1,4 +1,4 @@
--- Laws of the parts of the source: w, u, .. are what the calls return.
+-- Laws of the parts of the source; w, u, .. are the results of calls.
 use mathlib.Core.Path.{◌≡◌, refl, sym, ap, subst, ◌∙◌}
 use mathlib.Core.Bool.{Bool, true, false, not}
 use mathlib.Core.List.{List, [], ◌∷◌, ◌++◌, append_assoc}

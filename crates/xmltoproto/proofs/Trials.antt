@@ -1,4 +1,4 @@
--- Examples: arrays, the source of a small schema, the empty document's length, and a line of each kind.
+-- Examples: arrays, a small schema's source, the empty document's length, a line of each kind.
 use mathlib.Core.Path.{◌≡◌, refl}
 use mathlib.Core.Bool.{true, false}
 use mathlib.Core.List.{List, [], ◌∷◌}
@@ -66,7 +66,7 @@ hit =
       items = item a_message 0 (ascii "Hit") [] 3 ∷ item a_group 0 (ascii "legs") [] 5 ∷ field 1 (ascii "legId") (ascii "uint16") 6 ∷ [];
     }
 
--- ---- a schema with an enum, a type that hides a built-in, a composite that isn't printed, and a member of each kind
+-- ---- an enum, a type that shadows a built-in, an unprinted composite, a member of each kind
 
 abbrev pub full : Schema
 full =

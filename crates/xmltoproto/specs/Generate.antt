@@ -1,4 +1,5 @@
--- What the generator answers for a schema: 40, 41, then 3, in this order; and what its output holds afterwards.
+-- Rules: Limits and refusals. What the generator answers for a schema (40, 41, then 3), and what
+-- its output holds afterwards.
 use Rattle.std.specs.Prelude.{◌≡◌, List, ℕ, length, Option, None, Some, Err}
 use Rattle.refusals.specs.Figures.{Answer}
 use Rattle.refusals.specs.declared.Refusal.{Refusal}
@@ -12,6 +13,7 @@ abbrev pub answer_after : Option Refusal → List ℕ → ℕ → Answer
 answer_after (Some r) text room = Err r
 answer_after None text room = finished text room
 
+-- the answer for a schema, with an output of `room` bytes
 unfoldable pub generated : Schema → ℕ → Answer
 generated s room = answer_after (array_refusal s) (source s) room
 

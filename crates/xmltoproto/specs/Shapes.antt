@@ -9,11 +9,13 @@ use Rattle.xmltoproto.specs.declared.types.Shape.TheVariants as shape
 use Rattle.xmltoproto.specs.declared.types.Sense.{Sense}
 use Rattle.xmltoproto.specs.declared.types.Sense.TheVariants as sense
 
+-- a form by its three parts
 abbrev pub form : List ℕ → ℕ → List ℕ → Form
 form primitive size encoding = record { primitive = primitive; size = size; encoding = encoding }
 
--- ---- of a primitive p in the encoding e: the proto type, the option and the note
+-- ---- a shape over a primitive p and an encoding e
 
+-- its proto type
 abbrev pub word_in : Shape → List ℕ → List ℕ
 word_in (shape.Text n) p = ascii "string"
 word_in (shape.Foreign n) p = ascii "bytes"
@@ -22,6 +24,7 @@ word_in shape.Signed p = ascii "int32"
 word_in shape.Unsigned p = ascii "uint32"
 word_in shape.Plain p = p
 
+-- its option, without brackets
 abbrev pub option_in : Shape → List ℕ → List ℕ
 option_in (shape.Text n) p = ascii "(sbe.length) = " ++ decimal n
 option_in (shape.Foreign n) p = ascii "(sbe.length) = " ++ decimal n
@@ -30,6 +33,7 @@ option_in shape.Signed p = ascii "(sbe.encoding) = \"" ++ p ++ ascii "\""
 option_in shape.Unsigned p = ascii "(sbe.encoding) = \"" ++ p ++ ascii "\""
 option_in shape.Plain p = []
 
+-- its comment
 abbrev pub note_in : Shape → List ℕ → List ℕ
 note_in (shape.Text n) e = []
 note_in (shape.Foreign n) e = note_on e
@@ -38,21 +42,25 @@ note_in shape.Signed e = []
 note_in shape.Unsigned e = []
 note_in shape.Plain e = []
 
+-- all three
 abbrev pub proto_in : Shape → List ℕ → List ℕ → Proto
 proto_in s p e = record { word = word_in s p; option = option_in s p; note = note_in s e }
 
--- ---- of a type name
+-- ---- a type name
 
+-- what a sense says of a type name
 abbrev pub meaning_in : Schema → List ℕ → Sense → Meaning
 meaning_in s name sense.Declared = declared
 meaning_in s name (sense.Typed i) = typed (form_of (item_at s i))
 meaning_in s name sense.BuiltIn = typed (built_in name)
 meaning_in s name sense.Unknown = unknown
 
--- ---- an option in its brackets
+-- ---- an option with a space before it, in its brackets
 
+-- that gives a length
 unfoldable pub length_option : ℕ → List ℕ
 length_option n = ascii " [(sbe.length) = " ++ decimal n ++ ascii "]"
 
+-- that names a primitive
 unfoldable pub encoding_option : List ℕ → List ℕ
 encoding_option p = ascii " [(sbe.encoding) = \"" ++ p ++ ascii "\"]"

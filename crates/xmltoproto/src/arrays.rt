@@ -1,4 +1,4 @@
-// Refusals 40 and 41: arrays that no proto field represents, found before anything is written.
+//! Refusals 40 and 41: arrays that no proto field represents, found before anything is written.
 ghost use Rattle.std.specs.Prelude.{◌≡◌, Bool, false, ℕ};
 ghost use Rattle.texts.specs.Lists.{any};
 ghost use Rattle.model.specs.Schema.{Schema, item_at, under, all_of};
@@ -12,15 +12,16 @@ use index::seen::Index;
 use model::{COMPOSITE, FIELD, GROUP, MEMBER, MESSAGE};
 use refusals::Refusal;
 
-// A test of an item, by the schema that it is in.
+/// A test of an item, which may look at the whole schema.
 trait ArrayTest {
     ghost test: { Schema → ℕ → Bool };
 
+    /// Whether item `i` passes.
     fn passes(&self, s: &Index<'_>, i: u32) -> bool
         ensures { result ≡ test s.now i };
 }
 
-// Whether some item of a kind under an owner passes.
+/// Whether some item of a kind under an owner passes.
 fn any_child<T: ArrayTest>(s: &Index<'_>, kind: u32, owner: u32, by: &T) -> bool
     ensures { result ≡ any (T.test s.now) (under kind owner s.now) }
 {
@@ -32,7 +33,7 @@ fn any_child<T: ArrayTest>(s: &Index<'_>, kind: u32, owner: u32, by: &T) -> bool
     false
 }
 
-// The place, among all items of a kind, of the first that passes.
+/// The first item of a kind that passes, as its place among the items of that kind, from 0.
 fn first_place<T: ArrayTest>(s: &Index<'_>, kind: u32, by: &T) -> Option<u32>
     ensures { result ≡ first_from 0 (T.test s.now) (all_of kind s.now) }
 {
@@ -46,8 +47,8 @@ fn first_place<T: ArrayTest>(s: &Index<'_>, kind: u32, by: &T) -> Option<u32>
     None
 }
 
-// ---- composites
-
+/// Whether the type or member at `i` is such an array. Only where it has a length above 1 its
+/// primitive is looked at.
 fn is_member_array(s: &Index<'_>, i: u32) -> bool
     ensures { result ≡ is_array (form_of (item_at s.now i)) }
 {
@@ -58,7 +59,7 @@ fn is_member_array(s: &Index<'_>, i: u32) -> bool
     false
 }
 
-// A type or member that is such an array.
+/// Passes a member that is such an array.
 struct ArrayMember;
 
 impl ArrayTest for ArrayMember {
@@ -69,7 +70,7 @@ impl ArrayTest for ArrayMember {
     }
 }
 
-// A printed composite that holds such a member.
+/// Passes a printed composite that holds such a member.
 struct RefusedComposite;
 
 impl ArrayTest for RefusedComposite {
@@ -83,9 +84,7 @@ impl ArrayTest for RefusedComposite {
     }
 }
 
-// ---- messages
-
-// A field of such a type.
+/// Passes a field whose type is such an array.
 struct ArrayField;
 
 impl ArrayTest for ArrayField {
@@ -101,7 +100,7 @@ impl ArrayTest for ArrayField {
     }
 }
 
-// A message or group that has such a field.
+/// Passes a message or group that holds such a field.
 struct ArrayHolder;
 
 impl ArrayTest for ArrayHolder {
@@ -112,7 +111,7 @@ impl ArrayTest for ArrayHolder {
     }
 }
 
-// A message that has such a field, or a group that has.
+/// Passes a message that holds such a field, itself or in one of its groups.
 struct RefusedMessage;
 
 impl ArrayTest for RefusedMessage {
@@ -126,10 +125,8 @@ impl ArrayTest for RefusedMessage {
     }
 }
 
-// ---- both
-
-// Whether any item has the form of such an array. Few schemas have one, and without one nothing is refused. Few items
-// have a length at all, and the others are told by one word.
+/// Whether any item has the form of such an array. Without one, as in most schemas, nothing is
+/// refused, and most items give no length, so this is one load an item.
 fn has_arrays(s: &Index<'_>) -> bool
     ensures { result ≡ false → Arrayless s.now }
 {
@@ -143,7 +140,7 @@ fn has_arrays(s: &Index<'_>) -> bool
     false
 }
 
-// 40 by composite, then 41 by message.
+/// Refuses by 40 for the first such composite, or else by 41 for the first such message.
 fn first_refusal(s: &Index<'_>) -> Result<(), Refusal>
     ensures { result ≡ refusing (array_refusal s.now) }
 {
@@ -156,7 +153,7 @@ fn first_refusal(s: &Index<'_>) -> Result<(), Refusal>
     }
 }
 
-// The same, where there is anything to look for.
+/// Refuses a schema with an array that would have to be printed.
 pub fn array_refusal(s: &Index<'_>) -> Result<(), Refusal>
     ensures { result ≡ refusing (array_refusal s.now) }
 {

@@ -1,7 +1,8 @@
-// A bound of the source's length from what the texts have at most: one pass over the items, and no text is walked.
-//
-// Each item is counted at its longest, printed or not, by the kinds of specs/Bound.antt. That the sum is a bound
-// rests on each item having one owner (proofs/Owning.antt).
+//! An upper bound of the source's length, in one pass over the items that looks at no text.
+//!
+//! Each item counts with the most that it may print, printed or not (specs/Bound.antt); the
+//! constants are the lengths of the fixed text around names and numbers. The sum is a bound since
+//! each item has one owner (proofs/Owning.antt).
 ghost use Rattle.std.specs.Prelude.{◌≡◌, ◌≤◌, ◌<◌, ◌^◌, length};
 ghost use Rattle.printing.specs.Decimal.{decimal};
 ghost use Rattle.model.specs.Schema.{item_at, a_field};
@@ -12,28 +13,31 @@ ghost use Rattle.xmltoproto.specs.Bound.{named_most, note_most, typed_most, valu
 use index::seen::{Declaration, Index};
 use model::{COMPOSITE, ENUM, FIELD, GROUP, MEMBER, MESSAGE, REF, VALUE};
 
-// A number has at most ten digits.
+/// At least the number of digits of `n`: ten, as for every `u32`.
 fn digits_most(n: u32) -> u32
     ensures { (length (decimal n) ≤ result) × (result ≤ 10) }
 {
     10
 }
 
-// A line under a name of `n` bytes and a number of `digits`, whose type is named by `word` bytes.
+/// The most bytes of a line with a name of `n` bytes, a number of `digits` and a type name of
+/// `word` bytes. 10 is the indent, the space, ` = ` and the end; snake case at most doubles a name.
 fn named_most(n: u32, digits: u32, word: u32) -> usize
     ensures { result ≡ named_most n digits word }
 {
     10 + 2 * (n as usize) + digits as usize + word as usize
 }
 
-// The note on an encoding of `e` bytes, where one is given.
+/// The most bytes of the comment on an encoding of `e` bytes, each of them six at most when quoted;
+/// no comment where it is absent.
 fn note_most(e: u32) -> usize
     ensures { (result ≡ note_most e) × (result < 2 ^ 36) }
 {
     if e == 0 { 0 } else { 81 + 6 * (e as usize) }
 }
 
-// The line of the type or member at `t` under a name of `n` bytes and a number of `digits`.
+/// The most bytes of the line of the type or member at `t`, under a name of `n` bytes and a number
+/// of `digits`, with its option and its comment.
 fn typed_most(s: &Index<'_>, n: u32, digits: u32, t: u32) -> usize
     ensures { Covers result (typed_most n digits (form_of (item_at s.now t))) }
 {
@@ -42,8 +46,8 @@ fn typed_most(s: &Index<'_>, n: u32, digits: u32, t: u32) -> usize
     line + 28 + size as usize + note_most(s.encoding_most(t))
 }
 
-// kept: what `field_declared` asks is asked here and of the two below; by `declared` a conversion takes 2 % more.
-// The field at `i`, whose type name may be a built-in's where it is not declared.
+/// The most bytes of the line of the field at `i`. It requires what `Index::field_declared`
+/// requires: by `declared`, which requires nothing, a conversion takes 2 % longer.
 fn field_most(s: &Index<'_>, i: u32) -> usize
     requires { (length s.now.items ≤ 1024) × ((item_at s.now i).kind ≡ a_field) }
     ensures { Covers result (field_most s.now (item_at s.now i)) }
@@ -53,11 +57,12 @@ fn field_most(s: &Index<'_>, i: u32) -> usize
     match s.field_declared(i) {
         Some(Declaration::Named) => named_most(n, digits, s.second_most(i)),
         Some(Declaration::Typed(t)) => typed_most(s, n, digits, t),
+        // A built-in may need an option.
         None => named_most(n, digits, s.second_most(i)) + 29,
     }
 }
 
-// The value at `i`, with its enum's prefix.
+/// The most bytes of the line of the value at `i`, whose name begins with that of its enum.
 fn value_most(s: &Index<'_>, i: u32) -> usize
     ensures { Covers result (value_most (item_at s.now (item_at s.now i).owner) (item_at s.now i)) }
 {
@@ -66,8 +71,7 @@ fn value_most(s: &Index<'_>, i: u32) -> usize
     8 + 2 * (prefix as usize) + 2 * (n as usize) + s.second_most(i) as usize
 }
 
-// What the item at `i` adds.
-// kept: the kind is a word (model), so that whatever picks the bound is this `match`, of a formula an arm.
+/// The most bytes that the item at `i` adds, without the items that it holds.
 fn item_most(s: &Index<'_>, i: u32) -> usize
     requires { length s.now.items ≤ 1024 }
     ensures { Covers result (share s.now i) }
@@ -86,7 +90,7 @@ fn item_most(s: &Index<'_>, i: u32) -> usize
     }
 }
 
-// At least the length of the source.
+/// At least the length of the source. At most 1,024 items, so that the sum fits.
 pub fn source_most(s: &Index<'_>) -> usize
     requires { length s.now.items ≤ 1024 }
     ensures { length (source s.now) ≤ result }

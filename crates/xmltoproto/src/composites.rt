@@ -1,4 +1,4 @@
-// Composites, printed: members, then refs, numbered from 1.
+//! Prints composites: members, then refs, numbered from 1.
 #![tactic(auto, using(printing::proofs::Writing::writing))]
 
 ghost use Rattle.std.specs.Prelude.{◌≡◌, [], ◌+◌};
@@ -20,12 +20,14 @@ use model::{MEMBER, REF};
 use printing::Output;
 use texts::equal;
 
+/// Writes the line of the member at `i`.
 fn write_member(out: &mut Output<'_>, s: &Index<'_>, i: u32, number: u32)
     ensures { Wrote out.old out.new (member_text number (item_at s.now i)) }
 {
     write_typed(out, s, false, i, s.name(i), number);
 }
 
+/// Writes the line of the ref at `i`.
 fn write_ref(out: &mut Output<'_>, s: &Index<'_>, i: u32, number: u32)
     ensures { Wrote out.old out.new (ref_text number (item_at s.now i)) }
 {
@@ -34,7 +36,7 @@ fn write_ref(out: &mut Output<'_>, s: &Index<'_>, i: u32, number: u32)
     write_line(out, false, Shape::Plain, type_name, b"", name, number);
 }
 
-// The members, and how many there are.
+/// Writes the lines of the members, and returns how many there are.
 fn write_members(out: &mut Output<'_>, s: &Index<'_>, c: u32) -> u32
     ensures text { Wrote out.old out.new (numbered (λ n i. member_text n (item_at s.now i)) 1 (under a_member c s.now)) }
     ensures count { Members s.now c result }
@@ -47,7 +49,7 @@ fn write_members(out: &mut Output<'_>, s: &Index<'_>, c: u32) -> u32
     k
 }
 
-// The refs, numbered on from the composite's `members`.
+/// Writes the lines of the refs, whose numbers follow those of the composite's `members`.
 fn write_refs(out: &mut Output<'_>, s: &Index<'_>, c: u32, members: u32)
     requires { Members s.now c members }
     ensures { Wrote out.old out.new (numbered (λ n i. ref_text n (item_at s.now i)) (members + 1) (under a_ref c s.now)) }
@@ -59,6 +61,7 @@ fn write_refs(out: &mut Output<'_>, s: &Index<'_>, c: u32, members: u32)
     }
 }
 
+/// Writes the lines of members and refs.
 fn write_parts(out: &mut Output<'_>, s: &Index<'_>, c: u32)
     ensures { Wrote out.old out.new (part_texts s.now c) }
 {
@@ -66,6 +69,7 @@ fn write_parts(out: &mut Output<'_>, s: &Index<'_>, c: u32)
     write_refs(out, s, c, members);
 }
 
+/// Writes the composite at `c`.
 #[tactic(auto, unfolding(crate::specs::Source::composite_text), using(printing::proofs::Writing::writing))]
 fn write_composite(out: &mut Output<'_>, s: &Index<'_>, c: u32)
     ensures { Wrote out.old out.new (composite_text s.now c) }
@@ -77,7 +81,7 @@ fn write_composite(out: &mut Output<'_>, s: &Index<'_>, c: u32)
     out.text(b"}\n\n");
 }
 
-// All composites are printed but messageHeader and groupSizeEncoding.
+/// Whether the composite at `c` is printed: all are but messageHeader and groupSizeEncoding.
 pub fn is_printed(v: &View<'_>, c: u32) -> bool
     ensures { result ≡ is_printed (item_at v.now c) }
 {
@@ -88,7 +92,7 @@ pub fn is_printed(v: &View<'_>, c: u32) -> bool
     !equal(name, b"groupSizeEncoding")
 }
 
-// A composite that is printed.
+/// The text of a composite; none if it is not printed.
 pub struct CompositeText;
 
 impl ItemText for CompositeText {

@@ -1,4 +1,8 @@
-// Enums, printed.
+//! Prints enums.
+//!
+//! The name of each value begins with its enum's name in screaming snake case. This prefix is
+//! converted once to measure it and once for the first value; the other values copy it from the
+//! output.
 #![tactic(auto, using(printing::proofs::Writing::writing))]
 
 ghost use Rattle.std.specs.Prelude.{◌≡◌};
@@ -16,6 +20,7 @@ use index::seen::Index;
 use model::VALUE;
 use printing::Output;
 
+/// Writes the prefix of an enum's values: its name in screaming snake case, and `_`.
 #[tactic(auto, unfolding(conversions::specs::Conversions::prefix_of), using(printing::proofs::Writing::writing))]
 fn write_prefix(out: &mut Output<'_>, name: &[u8])
     ensures { Wrote out.old out.new (prefix_of name.now) }
@@ -24,7 +29,7 @@ fn write_prefix(out: &mut Output<'_>, name: &[u8])
     out.byte(b'_');
 }
 
-// The length of the prefix, measured.
+/// The length of the prefix, measured by printing it into an empty slice.
 #[tactic(auto, unfolding(printing::specs::Written::written))]
 fn prefix_width(name: &[u8]) -> usize
     ensures { result ≡ past 0 (prefix_of name.now) }
@@ -35,8 +40,9 @@ fn prefix_width(name: &[u8]) -> usize
     o.at
 }
 
-// The prefix again, of which the length is known, and where it stands: the name is walked only where neither helps,
-// for the first value and at the end of the output.
+/// Writes a prefix of `width` bytes that stands in the output at `stood` already, or nowhere if
+/// that is past the output's end. It is copied, or skipped where the output is full; the name is
+/// converted again only for the first value and where the copy would not fit.
 fn write_known_prefix(out: &mut Output<'_>, name: &[u8], width: usize, stood: usize)
     requires { (width ≡ past 0 (prefix_of name.now)) × Standing (prefix_of name.now) out.old.bytes.now stood out.old.at }
     ensures { Wrote out.old out.new (prefix_of name.now) }
@@ -50,7 +56,7 @@ fn write_known_prefix(out: &mut Output<'_>, name: &[u8], width: usize, stood: us
     write_prefix(out, name);
 }
 
-// A value of the enum `name`, whose prefix has the length `width` and stands at `stood`.
+/// Writes the line of the value at `i` of the enum `name`; `width` and `stood` are as above.
 #[tactic(auto, unfolding(crate::specs::Source::value_text), using(printing::proofs::Writing::writing))]
 fn write_value(out: &mut Output<'_>, s: &Index<'_>, name: &[u8], width: usize, stood: usize, i: u32)
     requires { (width ≡ past 0 (prefix_of name.now)) × Standing (prefix_of name.now) out.old.bytes.now stood out.old.at }
@@ -64,18 +70,22 @@ fn write_value(out: &mut Output<'_>, s: &Index<'_>, name: &[u8], width: usize, s
     out.text(b";\n");
 }
 
+/// Writes the lines of the values of the enum at `e`, which has this name.
 fn write_values(out: &mut Output<'_>, s: &Index<'_>, name: &[u8], e: u32)
     ensures { Wrote out.old out.new (each (λ v. value_text name.now (item_at s.now v)) (under a_value e s.now)) }
 {
     let width = prefix_width(name);
+    // No prefix is printed yet.
     let mut stood = out.bytes.len();
     for i in s.children(VALUE, e) {
+        // Where this value's prefix will stand, after the indent.
         let stands = out.after(2);
         write_value(out, s, name, width, stood, i);
         stood = stands;
     }
 }
 
+/// The text of an enum.
 pub struct EnumText;
 
 impl ItemText for EnumText {

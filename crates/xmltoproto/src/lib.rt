@@ -1,13 +1,14 @@
-// From the model of a schema to annotated proto3 source.
-//
-// `xml_to_proto` is the entry: it reads the document into the model, and `generate` finds the array
-// refusals 40 and 41, then refuses by 3 or writes the source. Its contract, on all
-// inputs: the answer is the one of specs/Generate.antt, and the output is the source of
-// specs/Source.antt and then what stood there, or, after a refusal, what it held. The model is seen
-// through its accessors alone.
-//
-// kept: an output, an index and an item's position are parameters of what prints an item, and what stands in a line (whether it is deep, its
-// shape, primitive, encoding, name and number) are those of what prints lines. A struct of them would be filled by each caller and read once.
+//! From the XML of an SBE schema to annotated proto3 source.
+//!
+//! `xml_to_proto` is the entry: it reads the document into a model and hands it to `generate`,
+//! which refuses arrays (40 and 41) and a source that does not fit (3), or writes the source. The
+//! contracts hold on all inputs: the answer is that of specs/Convert.antt and Generate.antt, and
+//! the output is the source of specs/Source.antt and then what stood there, or, after a refusal,
+//! what it held.
+//!
+//! What prints an item takes the output, the index and the item's position; what prints a line
+//! takes the line's parts. These are parameters, as a struct of them would be filled at each call
+//! and read once.
 #![tactic(auto)]
 
 pub mod arrays;
@@ -38,7 +39,7 @@ use printing::Output;
 use refusals::Refusal;
 use xmlschema::build::read_schema;
 
-// Prints the source from the first byte of `out` on, and gives the next position.
+/// Writes the source into `out` and returns its length. What does not fit is counted, not written.
 #[tactic(auto, unfolding(printing::specs::Written::written))]
 fn print_source(s: &Index<'_>, out: &mut [u8]) -> usize
     ensures { Printed out.old 0 out.new result (source s.now) }
@@ -48,7 +49,8 @@ fn print_source(s: &Index<'_>, out: &mut [u8]) -> usize
     o.at
 }
 
-// Whether the source fits into `room` bytes: by its bound where that is enough, else it is measured.
+/// Whether the source fits in `room` bytes: by its bound where that is small enough, otherwise by
+/// printing it into an empty slice.
 fn has_room(s: &Index<'_>, room: usize) -> bool
     ensures { result ≡ leb (past 0 (source s.now)) room }
 {
@@ -61,7 +63,7 @@ fn has_room(s: &Index<'_>, room: usize) -> bool
     print_source(s, &mut none) <= room
 }
 
-// The array refusals, then the source, where it fits.
+/// Refuses an array, then a source that does not fit, or writes the source.
 fn generate_in(s: &Index<'_>, out: &mut [u8]) -> Result<usize, Refusal>
     ensures { Generated s.now out.old out.new result }
 {
@@ -72,7 +74,7 @@ fn generate_in(s: &Index<'_>, out: &mut [u8]) -> Result<usize, Refusal>
     Err(Refusal::NoRoom)
 }
 
-// The same with an index of `N` numbers.
+/// `generate` with an index of `N` numbers.
 fn generate_with<const N: usize>(schema: View<'_>, out: &mut [u8]) -> Result<usize, Refusal>
     requires { Blank schema (replicate N 0) × (N ≤ 13312) }
     ensures { Generated schema.entry out.old out.new result }
@@ -82,9 +84,12 @@ fn generate_with<const N: usize>(schema: View<'_>, out: &mut [u8]) -> Result<usi
     generate_in(&s, out)
 }
 
+/// Writes the source of a schema and returns its length, or refuses by 40, 41 or 3 and leaves `out`
+/// as it was.
 pub fn generate(schema: View<'_>, out: &mut [u8]) -> Result<usize, Refusal>
     ensures { Generated schema.entry out.old out.new result }
 {
+    // The index's array is zeroed whole, so a small schema gets a small one.
     let n = schema.count();
     if n <= LEAST {
         return generate_with::<LEAST_SIZE>(schema, out);
@@ -98,8 +103,9 @@ pub fn generate(schema: View<'_>, out: &mut [u8]) -> Result<usize, Refusal>
     generate_with::<SIZE>(schema, out)
 }
 
-// The converter: a document, two work buffers and an output are lent. Nothing is asked of the
-// caller, and nothing depends on what the buffers held.
+/// Converts a document and returns the length of its source in `output`, or a refusal that leaves
+/// `output` as it was. `records` needs 16,384 numbers and `text` 65,536 bytes (refusal 2); the
+/// answer does not depend on what they hold, and what they hold afterwards is left open.
 pub fn xml_to_proto(
     document: &[u8],
     records: &mut [u32],

@@ -1,4 +1,4 @@
-// One line of a message: its note, type, name, number and option.
+//! Prints one line of a message: its comment, type, name, number and option.
 #![tactic(auto, using(printing::proofs::Writing::writing))]
 
 ghost use Rattle.std.specs.Prelude.{◌++◌, ◌<◌};
@@ -17,7 +17,7 @@ use conversions::convert::write_snake;
 use escaping::write_quoted;
 use printing::Output;
 
-// The indent of a message's line, or of a group's.
+/// Writes the indent of a line: in a group if `deep`, otherwise in a message.
 fn write_indent(out: &mut Output<'_>, deep: bool)
     ensures { Wrote out.old out.new (indent_of deep) }
 {
@@ -28,7 +28,7 @@ fn write_indent(out: &mut Output<'_>, deep: bool)
     }
 }
 
-// A number below a hundred.
+/// Writes a number below 100.
 fn write_tens(out: &mut Output<'_>, n: u32)
     requires { n < 100 }
     ensures { Wrote out.old out.new (decimal n) }
@@ -41,7 +41,7 @@ fn write_tens(out: &mut Output<'_>, n: u32)
     }
 }
 
-// A number, most often of few digits, for which there is no recursion.
+/// Writes a number: below 1,000, as most are, without the recursion of `Output::decimal`.
 #[inline(always)]
 fn write_number(out: &mut Output<'_>, n: u32)
     ensures { Wrote out.old out.new (decimal n) }
@@ -56,7 +56,7 @@ fn write_number(out: &mut Output<'_>, n: u32)
     }
 }
 
-// The comment that names an encoding: few lines have one, so its texts are kept out of the way of the others.
+/// Writes the comment that names an encoding. Out of line: few lines have one.
 #[cold]
 #[inline(never)]
 fn write_foreign(out: &mut Output<'_>, deep: bool, encoding: &[u8])
@@ -68,6 +68,7 @@ fn write_foreign(out: &mut Output<'_>, deep: bool, encoding: &[u8])
     out.text(b" is not UTF-8 compatible, so this field is bytes.\n");
 }
 
+/// Writes the comment line of a shape, if it has one.
 #[tactic(auto, unfolding(crate::specs::Source::note_line), using(printing::proofs::Writing::writing))]
 fn write_note(out: &mut Output<'_>, deep: bool, shape: Shape, encoding: &[u8])
     ensures { Wrote out.old out.new (note_line (indent_of deep) (note_in shape encoding.now)) }
@@ -82,7 +83,7 @@ fn write_note(out: &mut Output<'_>, deep: bool, shape: Shape, encoding: &[u8])
     }
 }
 
-// One of two texts.
+/// Writes one of two texts.
 fn write_either(out: &mut Output<'_>, first: bool, a: &[u8], b: &[u8])
     ensures { Wrote out.old out.new (pick first a.now b.now) }
 {
@@ -93,7 +94,8 @@ fn write_either(out: &mut Output<'_>, first: bool, a: &[u8], b: &[u8])
     }
 }
 
-// The indent, the proto type and a space: one text where the type is known, for which there is one test for room.
+/// Writes the indent, the proto type and a space: as one text where the type is known, so that room
+/// is tested once.
 fn write_front(out: &mut Output<'_>, deep: bool, shape: Shape, primitive: &[u8])
     ensures { Wrote out.old out.new (indent_of deep ++ word_in shape primitive.now ++ ascii " ") }
 {
@@ -110,7 +112,7 @@ fn write_front(out: &mut Output<'_>, deep: bool, shape: Shape, primitive: &[u8])
     }
 }
 
-// The number of a line, behind its name.
+/// Writes the number of a line, after its name.
 fn write_numbered(out: &mut Output<'_>, n: u32)
     ensures { Wrote out.old out.new (ascii " = " ++ decimal n) }
 {
@@ -122,8 +124,7 @@ fn write_numbered(out: &mut Output<'_>, n: u32)
     }
 }
 
-// ---- the end of a line: its option, if any
-
+/// Writes the option that gives a length, and ends the line.
 fn write_length(out: &mut Output<'_>, n: u32)
     ensures { Wrote out.old out.new (length_option n ++ ascii ";\n") }
 {
@@ -132,6 +133,7 @@ fn write_length(out: &mut Output<'_>, n: u32)
     out.text(b"];\n");
 }
 
+/// Writes the option that names the primitive, and ends the line.
 fn write_encoding(out: &mut Output<'_>, primitive: &[u8])
     ensures { Wrote out.old out.new (encoding_option primitive.now ++ ascii ";\n") }
 {
@@ -140,6 +142,7 @@ fn write_encoding(out: &mut Output<'_>, primitive: &[u8])
     out.text(b"\"];\n");
 }
 
+/// Writes the option of a shape, if it has one, and ends the line.
 #[tactic(auto, unfolding(crate::specs::Source::bracketed, crate::specs::Shapes::length_option, crate::specs::Shapes::encoding_option), using(printing::proofs::Writing::writing))]
 fn write_end(out: &mut Output<'_>, shape: Shape, primitive: &[u8])
     ensures { Wrote out.old out.new (bracketed (option_in shape primitive.now) ++ ascii ";\n") }
@@ -154,8 +157,8 @@ fn write_end(out: &mut Output<'_>, shape: Shape, primitive: &[u8])
     }
 }
 
-// A line between its note and its end; the name is converted to snake case. It is written through an output of its own
-// over the same loan, whose position stays in a register.
+/// Writes a line from its indent to its number, with the name in snake case. A local `Output` over
+/// the same loan keeps the position in a register.
 #[tactic(auto, unfolding(printing::specs::Written::written), using(printing::proofs::Writing::writing))]
 fn write_middle(
     out: &mut Output<'_>,
@@ -177,7 +180,7 @@ fn write_middle(
     out.at = o.at;
 }
 
-// The line of a shape over a primitive and an encoding.
+/// Writes the whole line of a shape over a primitive and an encoding.
 pub fn write_line(
     out: &mut Output<'_>,
     deep: bool,

@@ -1,4 +1,4 @@
-// Messages, printed: fields, then groups.
+//! Prints messages: fields, then groups.
 #![tactic(auto, using(printing::proofs::Writing::writing))]
 
 ghost use Rattle.texts.specs.Choice.{pick};
@@ -20,8 +20,9 @@ use index::seen::{Declaration, Index};
 use model::{FIELD, GROUP};
 use printing::Output;
 
-// A field whose type name is declared nowhere: a built-in, or a name that is printed as it stands. Which of the two is
-// not asked: the shape of a name that is no built-in is the name as it stands.
+/// Writes the line of a field whose type name is declared nowhere: a built-in, or a name that is
+/// printed as it stands. `shape_of` covers both, since it leaves a name that is no built-in as it
+/// stands.
 fn write_undeclared(out: &mut Output<'_>, deep: bool, type_name: &[u8], name: &[u8], number: u32)
     ensures { Wrote out.old out.new (line (indent_of deep) (pick (among type_name.now built_ins) (proto_of (built_in type_name.now)) (as_named type_name.now)) (camel_to_snake name.now) number) }
 {
@@ -29,7 +30,8 @@ fn write_undeclared(out: &mut Output<'_>, deep: bool, type_name: &[u8], name: &[
     write_line(out, deep, shape, type_name, b"", name, number);
 }
 
-// Of a schema with more items than the index holds, or of an item that is no field: by the model's own searches.
+/// Writes the line of the item at `i` by `Index::declared`. Out of line: this is only for an item
+/// that is no field, or a schema that the index does not hold.
 #[cold]
 #[inline(never)]
 fn write_unsettled(out: &mut Output<'_>, s: &Index<'_>, deep: bool, i: u32)
@@ -47,8 +49,7 @@ fn write_unsettled(out: &mut Output<'_>, s: &Index<'_>, deep: bool, i: u32)
     }
 }
 
-// By the number that the index holds for the type name, 0 for one declared nowhere, 1 for an enum or composite and above
-// it the types: an enum made of it is written and read again, which is waited for.
+/// Writes the line of the field at `i`.
 fn write_field(out: &mut Output<'_>, s: &Index<'_>, deep: bool, i: u32)
     ensures { Wrote out.old out.new (field_text s.now (indent_of deep) (item_at s.now i)) }
 {
@@ -56,6 +57,8 @@ fn write_field(out: &mut Output<'_>, s: &Index<'_>, deep: bool, i: u32)
     let number = s.number(i);
     if s.kind(i) == FIELD {
         if s.count() <= MOST {
+            // By the number: a `Declaration` would be stored and loaded again, and the branch would
+            // wait for that (store forwarding).
             let known = s.field_number(i);
             if 1 < known {
                 let k = known - 2;
@@ -71,7 +74,7 @@ fn write_field(out: &mut Output<'_>, s: &Index<'_>, deep: bool, i: u32)
     write_unsettled(out, s, deep, i);
 }
 
-// A field's line, in a message or in a group.
+/// The line of a field: in a group if `deep`, otherwise in a message.
 struct FieldLine {
     deep: bool,
 }
@@ -84,6 +87,7 @@ impl ItemText for FieldLine {
     }
 }
 
+/// Writes a group's message as far as its last field.
 #[tactic(auto, unfolding(crate::specs::Parts::group_head), using(printing::proofs::Writing::writing))]
 fn write_group_head(out: &mut Output<'_>, s: &Index<'_>, g: u32)
     ensures { Wrote out.old out.new (group_head s.now g) }
@@ -94,6 +98,7 @@ fn write_group_head(out: &mut Output<'_>, s: &Index<'_>, g: u32)
     write_under(out, s, FIELD, g, &FieldLine { deep: true });
 }
 
+/// The text of a group: its message, and the repeated field.
 struct GroupText;
 
 impl ItemText for GroupText {
@@ -113,6 +118,7 @@ impl ItemText for GroupText {
     }
 }
 
+/// The text of a message.
 pub struct MessageText;
 
 impl ItemText for MessageText {

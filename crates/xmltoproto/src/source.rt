@@ -1,7 +1,5 @@
-// The printed source: header, enums, composites, messages.
-//
-// Each function writes to an output (crate `printing`) and promises the text that
-// specs/Source.antt gives, or writes the texts of items by `walk`.
+//! Prints the whole source: header, enums, composites, messages. Each function promises the text of
+//! specs/Source.antt.
 #![tactic(auto, using(printing::proofs::Writing::writing))]
 
 ghost use Rattle.printing.specs.Written.{Wrote};
@@ -15,6 +13,7 @@ use index::seen::Index;
 use model::{COMPOSITE, ENUM, MESSAGE};
 use printing::Output;
 
+/// Writes the package line, none for an empty name.
 fn write_package(out: &mut Output<'_>, name: &[u8])
     ensures { Wrote out.old out.new (package_line name.now) }
 {
@@ -26,6 +25,7 @@ fn write_package(out: &mut Output<'_>, name: &[u8])
     out.text(b";\n\n");
 }
 
+/// Writes the header.
 fn write_header(out: &mut Output<'_>, s: &Index<'_>)
     ensures { Wrote out.old out.new (header s.now) }
 {
@@ -38,6 +38,7 @@ fn write_header(out: &mut Output<'_>, s: &Index<'_>)
     out.text(b";\n\n");
 }
 
+/// Writes the source of a schema.
 pub fn write_source(out: &mut Output<'_>, s: &Index<'_>)
     ensures { Wrote out.old out.new (source s.now) }
 {

@@ -1,4 +1,4 @@
-// The line of a type or member.
+//! Prints the line of a type or member.
 #![tactic(auto, using(printing::proofs::Writing::writing))]
 
 ghost use Rattle.printing.specs.Written.{Wrote};
@@ -13,7 +13,7 @@ use crate::types::shape_of;
 use index::seen::Index;
 use printing::Output;
 
-// The line of the type or member at `i`, under a name and a number.
+/// Writes the line of the type or member at `i`, under the given name and number.
 #[inline(always)]
 pub fn write_typed(
     out: &mut Output<'_>,

@@ -1,4 +1,4 @@
-// How a type prints, and what a field's type name stands for.
+//! How a type prints, and what a field's type name stands for.
 #![tactic(auto, using(crate::proofs::Laws::types))]
 
 ghost use Rattle.std.specs.Prelude.{◌≡◌, List, [], ℕ, map};
@@ -12,38 +12,46 @@ use charsets::is_compatible;
 use index::seen::Declaration;
 use words::same_name;
 
-// How a type prints: as text or as bytes of a length, as a wider integer under an option, or as its
-// primitive stands.
+/// How a type prints. A number is the length in its option.
 #[derive(Clone, Copy)]
 pub enum Shape {
+    /// `string`.
     Text(u32),
-    // In an encoding that is not UTF-8 compatible.
+    /// `bytes`, for text in an encoding that is not UTF-8 compatible.
     Foreign(u32),
+    /// `bytes`, for uint8 or int8 of a length above 1.
     Raw(u32),
+    /// `int32`, with the narrower primitive in its option.
     Signed,
+    /// `uint32`, with the narrower primitive in its option.
     Unsigned,
+    /// The primitive or name as it stands.
     Plain,
 }
 
-// The length of a char, absent or 0 being 1.
+/// The length of a char: absent or 0 is 1.
 pub fn chars_in(size: u32) -> u32
     ensures { result ≡ chars (form [] size []) }
 {
     if 0 < size { size } else { 1 }
 }
 
+/// The primitives that print as bytes where they have a length above 1.
 const BYTES: [&[u8]; 2] = [b"uint8", b"int8"];
 
+/// The primitives that print as `int32`.
 const NARROW_SIGNED: [&[u8]; 2] = [b"int8", b"int16"];
 
+/// The primitives that print as `uint32`.
 const NARROW_UNSIGNED: [&[u8]; 2] = [b"uint8", b"uint16"];
 
+/// The type names that need no declaration.
 const BUILT_INS: [&[u8]; 11] = [
     b"int8", b"int16", b"int32", b"int64", b"uint8", b"uint16", b"uint32", b"uint64", b"float",
     b"double", b"char",
 ];
 
-// Whether a text is one of these. Inlined, it compares with each by a word or two.
+/// Whether `s` is one of `texts`. Inlined, it compares with each literal by a word or two.
 #[inline(always)]
 fn is_among(s: &[u8], texts: &[&[u8]]) -> bool
     ensures { result ≡ among s.now (map (λ t. t.now) texts.now) }
@@ -56,13 +64,14 @@ fn is_among(s: &[u8], texts: &[&[u8]]) -> bool
     false
 }
 
+/// Whether the primitive is uint8 or int8.
 fn is_byte(primitive: &[u8]) -> bool
     ensures { result ≡ is_byte (form primitive.now 0 []) }
 {
     is_among(primitive, &BYTES)
 }
 
-// A length above 1 of uint8 or int8.
+/// Whether this is uint8 or int8 of a length above 1.
 pub fn is_raw(primitive: &[u8], size: u32) -> bool
     ensures { result ≡ is_raw (form primitive.now size []) }
 {
@@ -72,7 +81,8 @@ pub fn is_raw(primitive: &[u8], size: u32) -> bool
     false
 }
 
-// An array that no proto field represents.
+/// Whether this is an array that no proto field represents: a length above 1 of any other primitive
+/// but char.
 pub fn is_array(primitive: &[u8], size: u32) -> bool
     ensures { result ≡ is_array (form primitive.now size []) }
 {
@@ -85,6 +95,7 @@ pub fn is_array(primitive: &[u8], size: u32) -> bool
     false
 }
 
+/// The shape of a single primitive but char.
 fn primitive_shape(p: &[u8]) -> Shape
     ensures { (e : List ℕ) → proto_in result p.now e ≡ as_primitive p.now }
 {
@@ -97,6 +108,7 @@ fn primitive_shape(p: &[u8]) -> Shape
     Shape::Plain
 }
 
+/// The shape of a primitive with a length, 0 if absent, and an encoding.
 #[inline(always)]
 pub fn shape_of(primitive: &[u8], size: u32, encoding: &[u8]) -> Shape
     ensures { proto_in result primitive.now encoding.now ≡ proto_of (form primitive.now size encoding.now) }
@@ -114,24 +126,28 @@ pub fn shape_of(primitive: &[u8], size: u32, encoding: &[u8]) -> Shape
     primitive_shape(primitive)
 }
 
-// ---- what a field's type name stands for
-
-// An enum or composite, the type at a position, a built-in, or nothing.
+/// What a field's type name stands for.
 #[derive(Clone, Copy)]
 pub enum Sense {
+    /// An enum or a composite.
     Declared,
+    /// The type at this position.
     Typed(u32),
+    /// A built-in that no type declares anew.
     BuiltIn,
+    /// Nothing: the name is printed as it stands.
     Unknown,
 }
 
+/// Whether the name is one of the built-ins.
 pub fn is_built_in(name: &[u8]) -> bool
     ensures { result ≡ among name.now built_ins }
 {
     is_among(name, &BUILT_INS)
 }
 
-// First an enum or composite of the name, then its last type, then a built-in.
+/// What a type name stands for, by what it is declared as; a built-in only where it is not
+/// declared.
 pub fn sense_of(declared: Option<Declaration>, name: &[u8]) -> Sense
     ensures { (s : Schema) → declared ≡ declaration_of s name.now → meaning_in s name.now result ≡ meaning s name.now }
 {

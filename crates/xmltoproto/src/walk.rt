@@ -1,4 +1,4 @@
-// The texts of items, one after another.
+//! Prints the texts of items, one after another.
 #![tactic(auto, using(printing::proofs::Writing::writing))]
 
 ghost use Rattle.std.specs.Prelude.{List, ℕ};
@@ -9,17 +9,19 @@ ghost use Rattle.model.specs.Schema.{Schema, under, all_of};
 use index::seen::Index;
 use printing::Output;
 
-// What is written of an item, by the schema that it is in.
-// kept: the output and the index are passed one by one; a struct that lends the output would have to
-// say after each call what the lent bytes hold, as `Wrote` does of the output itself.
+/// What is printed of an item.
+///
+/// Output and index are two parameters: a struct that lends the output would have to say after each
+/// call what the lent bytes hold, as `Wrote` says of the output itself.
 pub trait ItemText {
     ghost text: { Self → Schema → ℕ → List ℕ };
 
+    /// Writes the text of item `i`.
     fn write(&self, out: &mut Output<'_>, s: &Index<'_>, i: u32)
         ensures { Wrote out.old out.new (text self.now s.now i) };
 }
 
-// Of each item of a kind under an owner.
+/// Writes the text of each item of a kind under an owner.
 #[tactic(auto, using(crate::proofs::Looping::walking))]
 pub fn write_under<T: ItemText>(out: &mut Output<'_>, s: &Index<'_>, kind: u32, owner: u32, by: &T)
     ensures { Wrote out.old out.new (each (T.text by.now s.now) (under kind owner s.now)) }
@@ -29,7 +31,7 @@ pub fn write_under<T: ItemText>(out: &mut Output<'_>, s: &Index<'_>, kind: u32, 
     }
 }
 
-// Of each item of a kind.
+/// Writes the text of each item of a kind.
 #[tactic(auto, using(crate::proofs::Looping::walking))]
 pub fn write_all<T: ItemText>(out: &mut Output<'_>, s: &Index<'_>, kind: u32, by: &T)
     ensures { Wrote out.old out.new (each (T.text by.now s.now) (all_of kind s.now)) }

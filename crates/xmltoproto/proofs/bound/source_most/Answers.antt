@@ -1,4 +1,4 @@
--- kept: `search` finds these with the set named here, and not by an attribute with it.
+-- `search` closes these goals with the set named here, but not through a `tactic` attribute.
 use Prim.Native.Nat.{◌<◌, ◌^◌}
 use lib.ListN.{length}
 use native.Mathlib.Omega.{arith}

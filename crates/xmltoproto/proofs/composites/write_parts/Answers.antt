@@ -1,4 +1,4 @@
--- kept: `search` finds these with the set named here, and not by an attribute with it.
+-- `search` closes these goals with the set named here, but not through a `tactic` attribute.
 use Rattle.xmltoproto.proofs.Laws.{lines as laws}
 use Rattle.xmltoproto.proofs.composites.write_parts.Goals as goal
 

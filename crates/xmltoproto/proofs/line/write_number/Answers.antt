@@ -1,4 +1,4 @@
--- kept: `search` finds these with the set named here, and not by an attribute with it.
+-- `search` closes these goals with the set named here, but not through a `tactic` attribute.
 use Rattle.xmltoproto.proofs.Digits.{digits}
 use Rattle.xmltoproto.proofs.line.write_number.Goals as goal
 
