@@ -1,4 +1,4 @@
--- Reading markup: the events of a document. A customer reads Event, Events and Fuel; Reader and Passing are internal.
+-- The events of a document. A customer reads Event, Events, Fuel; Reader, Passing are internal.
 pub mod Event
 pub mod Events
 pub mod Fuel
