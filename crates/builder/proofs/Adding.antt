@@ -30,7 +30,7 @@ same_self = record { limits = refl; doc = refl; records = refl; text = refl }
 pub same-trans : {u v w : Work} → Same u v → Same v w → Same u w
 same-trans p q = record { limits = q.limits ∙ p.limits; doc = q.doc ∙ p.doc; records = q.records ∙ p.records; text = q.text ∙ p.text }
 
--- ---- what a step says
+-- ---- the outcome of a step
 
 if-ok : {P Q : State → Type 0} (r : Result State Refusal) → ((s : State) → P s → Q s) → IfOk r P → IfOk r Q
 if-ok (Ok s) f p = f s p
@@ -53,7 +53,7 @@ after-as s {r = r} e u h a =
       same = a.same;
     }
 
--- where what was lent had been written to before
+-- where the buffers had been written to before
 pub after-then : {o : Outcome} {u w : Work} {s : State} {n : ℕ} {w' : Work} {r : Result State Refusal} → Same u w → After o w s n w' r → After o u s n w' r
 after-then p a = record { is = a.is; kept = a.kept; used = a.used; same = same-trans p a.same }
 

@@ -1,4 +1,4 @@
--- Laws of texts that are alike as far as they are used: what is kept, and the builder, do not change.
+-- Laws of texts that agree where they are in use: the builder, and what is kept, do not change.
 use mathlib.Core.Path.{◌≡◌, refl, sym, ap, ◌∙◌}
 use mathlib.Core.List.{List, [], ◌∷◌}
 use Prim.Native.Nat.{ℕ, ◌+◌, ◌-◌, ◌≤◌}
@@ -33,7 +33,7 @@ alike-lower text t a low high h k =
 pub alike-trans : {low high : ℕ} {a b c : List ℕ} → Alike low high a b → Alike low high b c → Alike low high a c
 alike-trans p q = record { below = q.below ∙ p.below; above = q.above ∙ p.above }
 
--- what is lent, with a text that is alike
+-- the same buffers with a text that is alike
 module _ (w : Work) (s : State) (t : List ℕ) (k : Kept w s) (a : Alike s.place.low s.place.high w.text.now t) where
   pub builder-alike : builder_in (texted w t) s ≡ builder_in w s
   builder-alike =

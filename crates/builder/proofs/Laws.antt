@@ -1,4 +1,4 @@
--- The laws that the proofs of functions cite, in one set for each part.
+-- The rule sets that functions name in `using(..)`, one for each part.
 use Rattle.builder.proofs.Takes.{value-least, value_room, taken-absent, taken-value, number-absent, number-value, number-told, digit-told, number_fits, number_at, given-not, given_yes, made-draft}
 use Rattle.builder.proofs.Stacking.{top-none, top-some, top-here, top-same, parent-same}
 use Rattle.builder.proofs.Adding.{after-refused, after_same, first_kept, number-some, number-none, put-full, put-fine, made-low, made-high, made-kept, made-steady, made-added, owner-shown, owner-none}

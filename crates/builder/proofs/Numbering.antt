@@ -45,7 +45,7 @@ numbered-none place None e = (refl, err-inj e)
     err-inj e = cc
 numbered-none place (Some m) e = absurd (let z : ◌≡◌ {A = ℕ} 0 1 = cc in omega arith)
 
--- what a number's text says in a tag
+-- the first value that was noted of a tag, as a number
 module _ {k : Keys} {w : Work} {s : State} {tag : Tag} (o : Opens k w s tag) {f : Noted} (ef : Finds tag f) {n : ℕ} {w₁ : Work} {x : Result ℕ Refusal} (m : Numbered tag.place n f.first w s w₁ x) where
   pub is_number : {v : ℕ} → x ≡ Ok v → number_of (value_in w.doc.now (attribute_at w.doc.now tag.attributes k.first)) ≡ Some v
   is_number e = ap (λ (y : Option Range). number_of (value_in w.doc.now y)) (sym (first_said o ef)) ∙ numbered-some tag.place _ (sym e ∙ m.is)

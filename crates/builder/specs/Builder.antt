@@ -1,4 +1,4 @@
--- The builder: what one event makes of its state.
+-- Rules: The builder. What one event makes of the builder's state.
 use Rattle.std.specs.Prelude.{Bool, true, false, List, [], ◌∷◌, ◌++◌, ℕ, eqb, leb, length, set, Option, Some, None}
 use Prim.Native.String.{String}
 use Rattle.texts.specs.Choice.{pick}
@@ -14,14 +14,15 @@ use Rattle.elements.specs.declared.Element.{Element}
 use Rattle.elements.specs.declared.Element.TheVariants as element
 use Rattle.builder.specs.declared.state.Limits.{Limits}
 
--- the current composite, enum, message and group, by position among the items; each may be none
+-- the current composite, enum, message and group, as positions among the items; each may be none
 pub record Currents : Type 0 where
   pub composite : Option ℕ
   pub enum : Option ℕ
   pub message : Option ℕ
   pub group : Option ℕ
 
--- the builder's state; the innermost open name stands first
+-- the scope's state of the builder: the open names, innermost first; the collected text, and
+-- whether text is collected; what is current; the model so far
 pub record Builder : Type 0 where
   pub stack : List (List ℕ)
   pub collected : List ℕ
@@ -29,14 +30,17 @@ pub record Builder : Type 0 where
   pub current : Currents
   pub schema : Schema
 
+-- what an event gives: a builder that goes on, or a refusal
 pub data Outcome : Type 0 where
   on : Builder → Outcome
   refused : Refusal → Outcome
 
+-- a text, empty where it is absent
 abbrev pub or_empty : Option (List ℕ) → List ℕ
 or_empty None = []
 or_empty (Some s) = s
 
+-- whether it is there
 abbrev pub is_given : Option (List ℕ) → Bool
 is_given None = false
 is_given (Some s) = true
@@ -45,14 +49,16 @@ is_given (Some s) = true
 abbrev pub text_in : Attributes → String → List ℕ
 text_in a key = or_empty (a (ascii key))
 
+-- the number in an attribute (Rules: Numbers), none where it is invalid
 abbrev pub number_in : Attributes → String → Option ℕ
 number_in a key = number_of (a (ascii key))
 
--- ---- one part of the state anew
+-- ---- a builder, or a schema, with one part changed
 
 abbrev pub with_stack : List (List ℕ) → Builder → Builder
 with_stack x b = record { stack = x; collected = b.collected; collecting = b.collecting; current = b.current; schema = b.schema }
 
+-- text is collected or not, and the collected text
 abbrev pub with_text : Bool → List ℕ → Builder → Builder
 with_text f x b = record { stack = b.stack; collected = x; collecting = f; current = b.current; schema = b.schema }
 
@@ -79,27 +85,27 @@ with_items x s = record { package_name = s.package_name; id = s.id; version = s.
 
 -- ---- items
 
--- where the next item will stand
+-- the position of the next item
 abbrev pub next_position : Builder → ℕ
 next_position b = length b.schema.items
 
--- an item added: 35 where there are as many as there may be
+-- an item (the scope's "item") added at the end; 35 at the limit
 unfoldable pub added : Limits → ℕ → Item → Builder → Outcome
 added l place it b =
     pick (leb l.items (next_position b)) (refused (TooManyItems place))
     (on (with_schema (with_items (b.schema.items ++ (it ∷ [])) b.schema) b))
 
--- and then
+-- f applied to the builder, unless there is a refusal
 abbrev pub and_then : (Builder → Builder) → Outcome → Outcome
 and_then f (on b) = on (f b)
 and_then f (refused r) = refused r
 
--- a number read, or 32
+-- k applied to the number; 32 if it is invalid
 abbrev pub with_number : ℕ → Option ℕ → (ℕ → Outcome) → Outcome
 with_number place None k = refused (BadNumber place)
 with_number place (Some n) k = k n
 
--- a type or a member of a composite
+-- a type, or a member of a composite
 abbrev pub type_item : ℕ → ℕ → Attributes → ℕ → Item
 type_item kind owner a n =
     record {
@@ -112,78 +118,91 @@ type_item kind owner a n =
       encoding = text_in a "characterEncoding";
     }
 
+-- any other item
 abbrev pub plain_item : ℕ → ℕ → List ℕ → List ℕ → ℕ → Item
 plain_item kind owner name second n =
     record { kind = kind; owner = owner; name = name; second = second; number = n; given = false; encoding = [] }
 
--- ---- open
+-- ---- open: what each element does; its name is pushed already
 
+-- messageSchema: package, id and version are set, over what they were
 unfoldable pub open_schema : ℕ → Attributes → Builder → Outcome
 open_schema place a b =
     with_number place (number_in a "id") (λ id. with_number place (number_in a "version") (λ version.
     on (with_schema (record { package_name = text_in a "package"; id = id; version = version; items = b.schema.items }) b)))
 
--- to the current composite, or dropped if none
+-- a member of the current composite, dropped if none is current
 abbrev pub member_to : Limits → ℕ → Attributes → ℕ → Option ℕ → Builder → Outcome
 member_to l place a n None b = on b
 member_to l place a n (Some c) b = added l place (type_item a_member c a n) b
 
--- inside: the parent's name is composite
+-- type: a member if it is `inside` an element called composite, else a type of the schema
 unfoldable pub open_type : Limits → ℕ → Bool → Attributes → Builder → Outcome
 open_type l place inside a b =
     with_number place (number_in a "length") (λ n.
     pick inside (member_to l place a n b.current.composite b) (added l place (type_item a_type 0 a n) b))
 
+-- a ref of the current composite, dropped if none is current
 abbrev pub ref_to : Limits → ℕ → Attributes → Option ℕ → Builder → Outcome
 ref_to l place a None b = on b
 ref_to l place a (Some c) b = added l place (plain_item a_ref c (text_in a "name") (text_in a "type") 0) b
 
+-- ref: by the current composite
 unfoldable pub open_ref : Limits → ℕ → Attributes → Builder → Outcome
 open_ref l place a b = ref_to l place a b.current.composite b
 
+-- composite: added, and current from now on
 unfoldable pub open_composite : Limits → ℕ → Attributes → Builder → Outcome
 open_composite l place a b = and_then (now_composite (Some (next_position b))) (added l place (plain_item a_composite 0 (text_in a "name") [] 0) b)
 
+-- enum: added, and current from now on
 unfoldable pub open_enum : Limits → ℕ → Attributes → Builder → Outcome
 open_enum l place a b = and_then (now_enum (Some (next_position b))) (added l place (plain_item an_enum 0 (text_in a "name") (text_in a "encodingType") 0) b)
 
--- text emptied; with a current enum, added with empty value and the flag set
+-- the collected text is emptied; in a current enum a value is added, empty for now, and text is
+-- collected from here on
 abbrev pub value_to : Limits → ℕ → Attributes → Option ℕ → Builder → Outcome
 value_to l place a None b = on (with_text b.collecting [] b)
 value_to l place a (Some e) b = and_then (with_text true []) (added l place (plain_item a_value e (text_in a "name") [] 0) b)
 
+-- validValue: by the current enum
 unfoldable pub open_value : Limits → ℕ → Attributes → Builder → Outcome
 open_value l place a b = value_to l place a b.current.enum b
 
+-- message: added, and current from now on
 unfoldable pub open_message : Limits → ℕ → Attributes → Builder → Outcome
 open_message l place a b =
     with_number place (number_in a "id") (λ id.
     and_then (now_message (Some (next_position b))) (added l place (plain_item a_message 0 (text_in a "name") [] id) b))
 
--- added to the current message and made current; without a message only its id is read
+-- a group of the current message, and current from now on; dropped without a message
 abbrev pub group_to : Limits → ℕ → Attributes → ℕ → Option ℕ → Builder → Outcome
 group_to l place a id None b = on b
 group_to l place a id (Some m) b = and_then (now_group (Some (next_position b))) (added l place (plain_item a_group m (text_in a "name") [] id) b)
 
+-- group: by the current message; its id is read in any case
 unfoldable pub open_group : Limits → ℕ → Attributes → Builder → Outcome
 open_group l place a b = with_number place (number_in a "id") (λ id. group_to l place a id b.current.message b)
 
+-- a field of an owner
 abbrev pub field_under : Limits → ℕ → Attributes → ℕ → ℕ → Builder → Outcome
 field_under l place a id owner b = added l place (plain_item a_field owner (text_in a "name") (text_in a "type") id) b
 
--- to the current group, which 33 asks to have been opened under the current message, else to the message
+-- a field of the current group, which was opened under m (else 33), or of m if none is current
 abbrev pub field_in : Limits → ℕ → Attributes → ℕ → ℕ → Option ℕ → Builder → Outcome
 field_in l place a id m None b = field_under l place a id m b
 field_in l place a id m (Some g) b = pick (eqb (item_at b.schema g).owner m) (field_under l place a id g b) (refused (MisplacedField place))
 
--- dropped where no message is current
+-- dropped if no message is current
 abbrev pub field_to : Limits → ℕ → Attributes → ℕ → Option ℕ → Builder → Outcome
 field_to l place a id None b = on b
 field_to l place a id (Some m) b = field_in l place a id m b.current.group b
 
+-- field: by the current message; its id is read in any case
 unfoldable pub open_field : Limits → ℕ → Attributes → Builder → Outcome
 open_field l place a b = with_number place (number_in a "id") (λ id. field_to l place a id b.current.message b)
 
+-- by element
 abbrev pub open_by : Element → Limits → ℕ → Bool → Attributes → Builder → Outcome
 open_by element.MessageSchema l place inside a b = open_schema place a b
 open_by element.Type l place inside a b = open_type l place inside a b
@@ -196,16 +215,17 @@ open_by element.Group l place inside a b = open_group l place a b
 open_by element.Field l place inside a b = open_field l place a b
 open_by element.Other l place inside a b = on b
 
--- an empty stack gives the empty name
+-- the innermost open name, the empty one if nothing is open
 abbrev pub top : List (List ℕ) → List ℕ
 top [] = []
 top (n ∷ ns) = n
 
+-- the names below it
 abbrev pub rest : List (List ℕ) → List (List ℕ)
 rest [] = []
 rest (n ∷ ns) = ns
 
--- open pushes the name, then goes by it: 34 where as many elements are open as may be
+-- an open tag pushes its name, then does what its element does; 34 at the depth limit
 unfoldable pub opened : Limits → ℕ → List ℕ → Attributes → Builder → Outcome
 opened l place name a b =
     pick (leb l.depth (length b.stack)) (refused (TooDeep place))
@@ -213,22 +233,25 @@ opened l place name a b =
 
 -- ---- close
 
+-- an item with another second text
 abbrev pub with_second : List ℕ → Item → Item
 with_second v it = record { kind = it.kind; owner = it.owner; name = it.name; second = v; number = it.number; given = it.given; encoding = it.encoding }
 
--- a value given to the item at a position, if there is one
+-- the value v given to the item at a position, if there is one
 abbrev pub given_to : Option ℕ → List ℕ → Schema → Schema
 given_to None v s = s
 given_to (Some i) v s = with_items (set s.items i (with_second v (item_at s i))) s
 
--- the collected text, trimmed, is the value of the last value of the current enum
+-- the collected text, trimmed, given to the last value of the current enum, if there is one
 abbrev pub value_of_enum : Option ℕ → Builder → Builder
 value_of_enum None b = b
 value_of_enum (Some e) b = with_schema (given_to (last (under a_value e b.schema)) (trimmed b.collected) b.schema) b
 
+-- validValue: that, then the collected text is emptied, and text is no longer collected
 unfoldable pub close_value : Builder → Builder
 close_value b = with_text false [] (value_of_enum b.current.enum b)
 
+-- by element: composite, enum, message and group make the current one of their kind none
 abbrev pub close_by : Element → Builder → Builder
 close_by element.MessageSchema b = b
 close_by element.Type b = b
@@ -241,7 +264,7 @@ close_by element.Group b = now_group None b
 close_by element.Field b = b
 close_by element.Other b = b
 
--- close pops and compares: 30 where the names differ
+-- a close tag pops a name; 30 if that is not the tag's own
 unfoldable pub closed : ℕ → List ℕ → Builder → Outcome
 closed place name b =
     pick (same name (top b.stack)) (on (close_by (element_of name) (with_stack (rest b.stack) b))) (refused (WrongClose place))

@@ -1,5 +1,4 @@
--- The builder: what one event makes of its state. A customer reads Builder; the others say how its state lies in the
--- buffers.
+-- What one event makes of the builder. A customer reads Builder; Layout and Taking are internal.
 pub mod Builder
 pub mod Layout
 pub mod Taking

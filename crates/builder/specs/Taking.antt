@@ -1,4 +1,4 @@
--- What taking texts into the text buffer promises. Internal.
+-- Taking texts into the text buffer, and reading numbers. Internal.
 use Rattle.std.specs.Prelude.{◌≡◌, List, ℕ, ◌+◌, ◌≤◌, length, Option, Some, None, Result, Ok, Err}
 use Rattle.texts.specs.Text.{piece}
 use Rattle.texts.specs.declared.Range.{Range}
@@ -22,7 +22,7 @@ use Rattle.builder.specs.declared.state.State.{State}
 use Rattle.builder.specs.declared.work.Tag.{Tag}
 use Rattle.builder.specs.declared.work.Work.{Work}
 
--- the value that was found lies from r on, below high, and takes its raw length
+-- the value that was found is decoded at r.from, which is its raw length below high
 pub record TakenAt (found : Option Range) (doc text : List ℕ) (high : ℕ) (r : Taken) (text' : List ℕ) : Type 0 where
   pub start : r.from + raw_length found ≡ high
   pub is : piece text' r.from r.len ≡ or_empty (value_in doc found)
@@ -30,12 +30,12 @@ pub record TakenAt (found : Option Range) (doc text : List ℕ) (high : ℕ) (r 
   pub alike : (a : ℕ) → a ≤ r.from → Alike a high text text'
   pub long : length text' ≡ length text
 
--- only n bytes from low on may have changed
+-- at most the n bytes from low on have changed
 pub record Scratched (low n : ℕ) (text text' : List ℕ) : Type 0 where
   pub alike : (high : ℕ) → low + n ≤ high → Alike low high text text'
   pub long : length text' ≡ length text
 
--- an entry made for an item, its texts taken below high; n is the raw length of them all
+-- e is an entry of the item, its texts taken below high; n is the raw length of them all
 pub record Made (it : Item) (n high : ℕ) (text : List ℕ) (e : Entry) (text' : List ℕ) : Type 0 where
   pub is : item_of text' e ≡ it
   pub steady : (a : ℕ) → Steady a e.encoding text' e
@@ -43,16 +43,16 @@ pub record Made (it : Item) (n high : ℕ) (text : List ℕ) (e : Entry) (text' 
   pub alike : (a : ℕ) → a ≤ e.encoding → Alike a high text text'
   pub long : length text' ≡ length text
 
--- a number read from a value that was found, decoded into the free text from low on
+-- r is the number in a value that was found; what was decoded for it lies from low on
 pub record ReadAt (found : Option Range) (doc : List ℕ) (low : ℕ) (text : List ℕ) (r : Option ℕ) (text' : List ℕ) : Type 0 where
   pub is : r ≡ number_of (value_in doc found)
   pub scratch : Scratched low (raw_length found) text text'
 
--- a draft with a name, and the text of one more attribute
+-- a draft with a name and a second text
 abbrev pub drafted : ℕ → ℕ → ℕ → Option Range → Option Range → Draft
 drafted kind owner number name second = record { kind = kind; owner = owner; number = number; given = None; name = name; second = second; encoding = None }
 
--- the item that a draft stands for, and the raw length of its texts
+-- the item that a draft stands for
 abbrev pub drafted_item : Draft → List ℕ → Item
 drafted_item d doc =
     record {
@@ -65,45 +65,47 @@ drafted_item d doc =
       encoding = or_empty (value_in doc d.encoding);
     }
 
+-- and the raw length of its texts
 abbrev pub draft_length : Draft → ℕ
 draft_length d = raw_length d.name + raw_length d.second + raw_length d.encoding
 
--- ---- over what is lent
+-- ---- with the document and the buffers
 
--- what was found in a tag
+-- f has the ranges of what was noted of a tag
 pub record Finds (tag : Tag) (f : Noted) : Type 0 where
   pub is : f ≡ noted_of tag.noted
 
--- what reading a number asks, and adding an item: the state is kept, and the tag has room for the texts
+-- what reading a number asks: the state is kept, and the tag has room for the text
 unfoldable pub Reads : Work → State → Tag → Option Range → Type 0
 Reads w s tag found = Ready w s (room tag) × (raw_length found ≤ room tag)
 
+-- and what adding an item asks
 unfoldable pub Adds : Work → State → Tag → Draft → Type 0
 Adds w s tag d = Ready w s (room tag) × (draft_length d ≤ room tag)
 
--- what a tag says
+-- a tag's attributes
 abbrev pub attributes_of : Work → Tag → Attributes
 attributes_of w tag = attributes_in w.doc.now tag.attributes
 
--- a number, or 32 where there is none
+-- a number, or 32 where it is invalid
 abbrev pub numbered : ℕ → Option ℕ → Result ℕ Refusal
 numbered place (Some n) = Ok n
 numbered place None = Err (BadNumber place)
 
--- a number read for a tag, with n bytes of text free: nothing else changed
+-- r is a tag's number, or 32; the builder is the same, and n bytes of the text buffer are free
 pub record Numbered (place n : ℕ) (found : Option Range) (w : Work) (s : State) (w' : Work) (r : Result ℕ Refusal) : Type 0 where
   pub is : r ≡ numbered place (number_of (value_in w.doc.now found))
   pub ready : Ready w' s n
   pub builder : builder_in w' s ≡ builder_in w s
   pub same : Same w w'
 
--- what opening an element asks: the state is kept, the tag stands in the document, its texts have room, and these names were noted
+-- what opening an element asks: the tag is read, its texts have room, and these names were noted
 pub record Opens (k : Keys) (w : Work) (s : State) (tag : Tag) : Type 0 where
   pub ready : Ready w s (room tag)
   pub tagged : Tagged w.doc.now tag.attributes tag.next
   pub noted : NotedBy k w.doc.now tag.attributes tag.noted
 
--- the names that the reader notes of an element
+-- the names that the reader notes for an element
 abbrev pub keys_for : Element → Keys
 keys_for element.MessageSchema = schema_keys
 keys_for element.Type = type_keys

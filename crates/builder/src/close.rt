@@ -1,4 +1,4 @@
-// What closing an element and collecting text make of the builder.
+//! Closing an element, and collecting text.
 #![tactic(auto, using(crate::proofs::Laws::closing))]
 
 ghost use Rattle.std.specs.Prelude.{◌≡◌, Ok, ◌+◌, ◌-◌, ◌≤◌, length};
@@ -21,14 +21,14 @@ use refusals::Refusal;
 use texts::{Range, trim_range};
 
 impl<'d, 'a> Work<'d, 'a> {
-    // The last value of an enum.
+    /// The position of an enum's last value; `None` if it has none.
     fn last_value(&self, s: State, owner: u32) -> Option<u32>
         ensures { result ≡ last_under a_value owner (builder_in self.now s).schema.items }
     {
         View::new(s.model(), self.records, self.text).last_under(VALUE, owner)
     }
 
-    // A range of the text becomes the value of the last value of an enum, if it has one.
+    /// Makes a range of the text buffer the value of an enum's last value, if it has one.
     fn give(&mut self, s: State, owner: u32, value: Range)
         requires { Kept self.old s × (value.from + value.len ≤ 65536) }
         ensures { self.new ≡ over self.old (given_at (last_under a_value owner (builder_in self.old s).schema.items) value self.old.records.now) }
@@ -43,7 +43,7 @@ impl<'d, 'a> Work<'d, 'a> {
         }
     }
 
-    // The collected text, trimmed.
+    /// The range of the collected text, trimmed.
     fn collected(&self, s: State) -> Range
         requires { Kept self.now s }
         ensures { TrimmedTo self.now.text.now s.place.start (s.place.low - s.place.start) result }
@@ -52,8 +52,8 @@ impl<'d, 'a> Work<'d, 'a> {
         trim_range(self.text, start, s.place.low - start)
     }
 
-    // The collected text, trimmed, is given to the last value of the current enum; flag and text are
-    // cleared.
+    /// Closes a validValue: the collected text, trimmed, is given to the last value of the current
+    /// enum, then emptied, and text is collected no more.
     fn close_value(&mut self, s: State) -> State
         requires { Kept self.old s }
         ensures { After (on (close_value (builder_in self.old s))) self.old s 0 self.new (Ok result) }
@@ -77,6 +77,7 @@ impl<'d, 'a> Work<'d, 'a> {
         cleared
     }
 
+    /// Closes the element `e`, whose name is popped already.
     fn close_by(&mut self, s: State, e: Element) -> State
         requires { Kept self.old s }
         ensures { After (on (close_by e (builder_in self.old s))) self.old s 0 self.new (Ok result) }
@@ -106,7 +107,8 @@ impl<'d, 'a> Work<'d, 'a> {
         State { current, ..s }
     }
 
-    // Close pops and compares: 30 where the names differ.
+    /// Takes a close tag, whose `<` is at `place` and whose name is the `len` bytes at `name`: pops
+    /// the innermost open name. Refused (30) if that is another one.
     pub fn on_close(
         &mut self,
         s: State,
@@ -124,7 +126,7 @@ impl<'d, 'a> Work<'d, 'a> {
         Ok(self.close_by(s.popped(), e))
     }
 
-    // Text is collected while the flag is set.
+    /// Takes the text of `len` bytes at `from`: while text is collected, appends it, decoded.
     pub fn on_text(&mut self, s: State, from: usize, len: usize) -> State
         requires { Ready self.old s len }
         ensures { After (on (collect (decoded (piece self.old.doc.now from len)) (builder_in self.old s))) self.old s len self.new (Ok result) }

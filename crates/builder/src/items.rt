@@ -1,4 +1,4 @@
-// Numbers read and items added, over what is lent.
+//! Reading numbers and adding items.
 #![tactic(auto, using(crate::proofs::Laws::adding))]
 
 ghost use Rattle.std.specs.Prelude.{◌≡◌, List, ℕ, ◌-◌, ◌≤◌};
@@ -15,9 +15,9 @@ use model::{Entry, entry_at, put_entry};
 use refusals::Refusal;
 use texts::Range;
 
-// `number`, `put` and `add` are inlined, so that the state stays in its place and isn't copied to and fro.
+// `number`, `put` and `add` are inlined, so that the state is not copied in and out of calls.
 impl<'d, 'a> Work<'d, 'a> {
-    // The value that was found in a tag as a number, or 32.
+    /// The number in a value of a tag; 0 if it is absent or empty. Refused (32) if it is invalid.
     #[tactic(auto, unfolding(crate::specs::Taking::Reads), using(crate::proofs::Laws::adding))]
     #[inline(always)]
     pub(crate) fn number(
@@ -36,7 +36,7 @@ impl<'d, 'a> Work<'d, 'a> {
         }
     }
 
-    // An item whose entry is made: 35, or the entry at the end of the records.
+    /// Adds an item by its entry, whose texts are taken. Refused (35) at the limit.
     #[inline(always)]
     fn put(&mut self, s: State, place: usize, e: Entry) -> Result<State, Refusal>
         requires { Kept self.old s × Steady s.place.low e.encoding self.old.text.now e × (s.place.low ≤ e.encoding) × (e.encoding ≤ s.place.high) }
@@ -57,7 +57,7 @@ impl<'d, 'a> Work<'d, 'a> {
         })
     }
 
-    // An item of what was found in a tag.
+    /// Adds the item of a draft: takes its texts, then puts its entry. Refused (35) at the limit.
     #[tactic(auto, unfolding(crate::specs::Taking::Adds), using(crate::proofs::Laws::adding))]
     #[inline(always)]
     pub(crate) fn add(&mut self, s: State, tag: &Tag, d: Draft) -> Result<State, Refusal>
@@ -68,13 +68,14 @@ impl<'d, 'a> Work<'d, 'a> {
         self.put(s, tag.place, e)
     }
 
+    /// The entry of the item at position `i`.
     pub(crate) fn entry(&self, i: u32) -> Entry
         ensures { result ≡ entry_at self.now.records.now i }
     {
         entry_at(self.records, i)
     }
 
-    // The owner of an item of the state.
+    /// The owner of the item at position `i`; 0 past the last item.
     pub(crate) fn owner_of(&self, s: State, i: u32) -> u32
         ensures { result ≡ (item_at (builder_in self.now s).schema i).owner }
     {

@@ -1,13 +1,13 @@
-// The builder: takes the events of the reader into the model of a schema, one at a time.
-//
-// Its state is a struct by value (`state::State`); what it is lent is another (`work::Work`), and
-// specs/Layout.antt tells how the state lies in both. Opening, closing and text each promise one
-// equation with the definition of the same thing (specs/Builder.antt), refusals 30 and 32 to 35
-// included, and keep what the next step asks. Each has a `requires`, which the crate above meets:
-// the state is kept, and the event's texts have room.
-//
-// kept: a state stands beside what is lent, and a tag beside a state. The state goes by value, so that what is kept
-// (`Kept`) is of both, and no type's invariant says it; a tag is what one event tells.
+//! The builder: takes the reader's events into the model of a schema, one at a time.
+//!
+//! `state::State` is its state by value, and `work::Work` borrows the document and the two buffers;
+//! specs/Layout.antt says how the builder lies in both. Opening, closing and text (`open`,
+//! `close`) each promise one equation with the definition of the same thing (specs/Builder.antt),
+//! refusals 30 and 32 to 35 included, and keep what the next step asks. Each requires that the
+//! state is kept and that the event's texts have room, which the crate above ensures.
+//!
+//! State and work are two parameters: what steps keep (`Kept`) is a fact about both, which no
+//! type's invariant can say.
 #![tactic(auto)]
 
 pub mod close;

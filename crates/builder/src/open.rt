@@ -1,6 +1,7 @@
-// What opening an element makes of the builder: one function for each element, and the dispatcher.
-//
-// Each promise is one equation with the definition of the same name in specs/Builder.antt.
+//! Opening an element: one function for each, and `on_open`, which chooses.
+//!
+//! Each promises one equation with the definition of the same name in specs/Builder.antt. An
+//! invalid number is refused with 32, an item above the limit with 35.
 #![tactic(auto, using(crate::proofs::Laws::opening))]
 
 ghost use Rattle.std.specs.Prelude.{◌≡◌};
@@ -19,6 +20,7 @@ use model::Head;
 use refusals::Refusal;
 
 impl<'d, 'a> Work<'d, 'a> {
+    /// messageSchema: sets package, id and version.
     fn open_schema(&mut self, s: State, tag: &Tag) -> Result<State, Refusal>
         requires { Opens schema_keys self.old s tag.now }
         ensures { After (open_schema tag.now.place (attributes_of self.old tag.now) (builder_in self.old s)) self.old s (room tag.now) self.new result }
@@ -42,6 +44,7 @@ impl<'d, 'a> Work<'d, 'a> {
         })
     }
 
+    /// type: adds a type, or inside a composite a member of the current one, if there is one.
     fn open_type(&mut self, s: State, tag: &Tag) -> Result<State, Refusal>
         requires { Opens type_keys self.old s tag.now }
         ensures { After (open_type self.old.limits tag.now.place (parent_composite (builder_in self.old s)) (attributes_of self.old tag.now) (builder_in self.old s)) self.old s (room tag.now) self.new result }
@@ -67,6 +70,7 @@ impl<'d, 'a> Work<'d, 'a> {
         self.add(s, tag, Draft { kind, owner, ..d })
     }
 
+    /// ref: adds a ref of the current composite, if there is one.
     fn open_ref(&mut self, s: State, tag: &Tag) -> Result<State, Refusal>
         requires { Opens field_keys self.old s tag.now }
         ensures { After (open_ref self.old.limits tag.now.place (attributes_of self.old tag.now) (builder_in self.old s)) self.old s (room tag.now) self.new result }
@@ -79,6 +83,7 @@ impl<'d, 'a> Work<'d, 'a> {
         self.add(s, tag, d)
     }
 
+    /// composite: adds it and makes it current.
     fn open_composite(&mut self, s: State, tag: &Tag) -> Result<State, Refusal>
         requires { Opens field_keys self.old s tag.now }
         ensures { After (open_composite self.old.limits tag.now.place (attributes_of self.old tag.now) (builder_in self.old s)) self.old s (room tag.now) self.new result }
@@ -92,6 +97,7 @@ impl<'d, 'a> Work<'d, 'a> {
         self.add(State { current, ..s }, tag, d)
     }
 
+    /// enum: adds it and makes it current.
     fn open_enum(&mut self, s: State, tag: &Tag) -> Result<State, Refusal>
         requires { Opens enum_keys self.old s tag.now }
         ensures { After (open_enum self.old.limits tag.now.place (attributes_of self.old tag.now) (builder_in self.old s)) self.old s (room tag.now) self.new result }
@@ -105,7 +111,7 @@ impl<'d, 'a> Work<'d, 'a> {
         self.add(State { current, ..s }, tag, d)
     }
 
-    // The collected text is emptied; with a current enum the value is added and text is collected.
+    /// validValue: empties the collected text; in a current enum adds a value and collects text.
     fn open_value(&mut self, s: State, tag: &Tag) -> Result<State, Refusal>
         requires { Opens field_keys self.old s tag.now }
         ensures { After (open_value self.old.limits tag.now.place (attributes_of self.old tag.now) (builder_in self.old s)) self.old s (room tag.now) self.new result }
@@ -134,6 +140,7 @@ impl<'d, 'a> Work<'d, 'a> {
         )
     }
 
+    /// message: adds it and makes it current.
     fn open_message(&mut self, s: State, tag: &Tag) -> Result<State, Refusal>
         requires { Opens field_keys self.old s tag.now }
         ensures { After (open_message self.old.limits tag.now.place (attributes_of self.old tag.now) (builder_in self.old s)) self.old s (room tag.now) self.new result }
@@ -148,7 +155,7 @@ impl<'d, 'a> Work<'d, 'a> {
         self.add(State { current, ..s }, tag, d)
     }
 
-    // Without a message only the id is read.
+    /// group: adds it to the current message and makes it current; without one only reads its id.
     fn open_group(&mut self, s: State, tag: &Tag) -> Result<State, Refusal>
         requires { Opens field_keys self.old s tag.now }
         ensures { After (open_group self.old.limits tag.now.place (attributes_of self.old tag.now) (builder_in self.old s)) self.old s (room tag.now) self.new result }
@@ -166,7 +173,8 @@ impl<'d, 'a> Work<'d, 'a> {
         self.add(State { current, ..s }, tag, d)
     }
 
-    // 33 where the current group was opened under another message.
+    /// field: adds it to the current group of the current message, or else to the message, if there
+    /// is one. Refused (33) if the current group was opened under another message.
     fn open_field(&mut self, s: State, tag: &Tag) -> Result<State, Refusal>
         requires { Opens field_keys self.old s tag.now }
         ensures { After (open_field self.old.limits tag.now.place (attributes_of self.old tag.now) (builder_in self.old s)) self.old s (room tag.now) self.new result }
@@ -188,6 +196,7 @@ impl<'d, 'a> Work<'d, 'a> {
         self.add(s, tag, d)
     }
 
+    /// Opens the element `e`, whose name is pushed already.
     fn open_by(&mut self, s: State, e: Element, tag: &Tag) -> Result<State, Refusal>
         requires { Opens (keys_for e) self.old s tag.now }
         ensures { After (open_by e self.old.limits tag.now.place (parent_composite (builder_in self.old s)) (attributes_of self.old tag.now) (builder_in self.old s)) self.old s (room tag.now) self.new result }
@@ -206,6 +215,7 @@ impl<'d, 'a> Work<'d, 'a> {
         }
     }
 
+    /// Takes an open tag: pushes its name, then opens its element. Refused (34) at the depth limit.
     pub fn on_open(&mut self, s: State, tag: Tag) -> Result<State, Refusal>
         requires { Ready self.old s (room tag) × IsTag self.old.doc.now tag }
         ensures { After (opened self.old.limits tag.place (piece self.old.doc.now tag.name tag.len) (attributes_in self.old.doc.now tag.attributes) (builder_in self.old s)) self.old s (room tag) self.new result }

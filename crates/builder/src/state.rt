@@ -1,18 +1,18 @@
-// The builder's state by value. What lies in the buffers is told by specs/Layout.antt.
+//! The builder's state by value. specs/Layout.antt says what lies in the buffers.
 ghost use Rattle.std.specs.Prelude.{◌≡◌};
 ghost use Rattle.builder.specs.Layout.{first, higher, model_in};
 
 use model::{Head, Model};
 
-// How many items there may be, and how many elements may be open.
+/// How many items there may be, and how many elements may be open.
 #[derive(Clone, Copy)]
 pub struct Limits {
     pub items: u32,
     pub depth: usize,
 }
 
-// How much of the buffers is in use: open names, items, and the text below `low` and from `high`
-// on; the collected text begins at `start`.
+/// How much of the buffers is in use: `depth` open names and `count` items, and of the text buffer
+/// what is below `low`, where the collected text begins at `start`, and what is from `high` on.
 #[derive(Clone, Copy)]
 pub struct Place {
     pub depth: usize,
@@ -22,7 +22,7 @@ pub struct Place {
     pub start: usize,
 }
 
-// Whether text is collected, and what is current, by its position.
+/// Whether text is collected, and what is current of each kind, by its position among the items.
 #[derive(Clone, Copy)]
 pub struct Current {
     pub collecting: bool,
@@ -32,6 +32,7 @@ pub struct Current {
     pub group: Option<u32>,
 }
 
+/// The builder's state: how much is in use, what is current, and the schema's own attributes.
 #[derive(Clone, Copy)]
 pub struct State {
     pub place: Place,
@@ -40,7 +41,7 @@ pub struct State {
 }
 
 impl State {
-    // Before the first event.
+    /// The state before the first event.
     pub fn new() -> State
         ensures { result ≡ first }
     {
@@ -68,14 +69,14 @@ impl State {
         }
     }
 
-    // How many elements are open.
+    /// How many elements are open.
     pub fn depth(self) -> usize
         ensures { result ≡ self.place.depth }
     {
         self.place.depth
     }
 
-    // The schema so far, in the two buffers.
+    /// The schema so far, as it lies in the two buffers.
     pub fn model(self) -> Model
         ensures { result ≡ model_in self }
     {
@@ -85,7 +86,7 @@ impl State {
         }
     }
 
-    // With the innermost name popped.
+    /// The state with the innermost name popped, if there is one.
     pub(crate) fn popped(self) -> State
         ensures { result ≡ higher self }
     {

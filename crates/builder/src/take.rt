@@ -1,4 +1,4 @@
-// Attribute values taken into the text buffer, from its top downwards; numbers read on the way.
+//! Takes attribute values into the text buffer, from its top downwards, and reads numbers.
 #![tactic(auto, using(crate::proofs::Laws::taking))]
 
 ghost use Rattle.std.specs.Prelude.{◌≡◌, List, ℕ, ◌+◌, ◌≤◌, eqb, length, Some};
@@ -12,14 +12,15 @@ use model::Entry;
 use numbers::{digit_at, number_of};
 use texts::{Range, part};
 
-// A text in the text buffer.
+/// A range of the text buffer.
 #[derive(Clone, Copy)]
 pub struct Taken {
     pub from: usize,
     pub len: usize,
 }
 
-// The decoded value that was found, empty where it is absent, below `high`.
+/// Decodes a value that was found into the text buffer, where it gets as many bytes below `high` as
+/// it takes raw. An absent value is an empty text.
 pub fn take_value(doc: &[u8], found: Option<Range>, text: &mut [u8], high: usize) -> Taken
     requires { (raw_length found ≤ high) × (high ≤ length text.old) }
     ensures { TakenAt found doc.now text.old high result text.new }
@@ -36,7 +37,7 @@ pub fn take_value(doc: &[u8], found: Option<Range>, text: &mut [u8], high: usize
     }
 }
 
-// A piece of the document as a number, decoded into the free text from `low` on.
+/// A value as a number, decoded into the free text from `low` on; `None` if it is invalid.
 fn decoded_number(doc: &[u8], value: Range, text: &mut [u8], low: usize) -> Option<u32>
     requires { low + value.len ≤ length text.old }
     ensures { ReadAt (Some value) doc.now low text.old result text.new }
@@ -45,7 +46,7 @@ fn decoded_number(doc: &[u8], value: Range, text: &mut [u8], low: usize) -> Opti
     number_of(part(text, low, n))
 }
 
-// A piece of the document as a number. What is one as it stands has nothing to decode.
+/// A value as a number; `None` if it is invalid. It is decoded only if it is none as it stands.
 fn piece_number(doc: &[u8], value: Range, text: &mut [u8], low: usize) -> Option<u32>
     requires { low + value.len ≤ length text.old }
     ensures { ReadAt (Some value) doc.now low text.old result text.new }
@@ -56,7 +57,8 @@ fn piece_number(doc: &[u8], value: Range, text: &mut [u8], low: usize) -> Option
     }
 }
 
-// The value that was found as a number. Most are one digit.
+/// The number in a value that was found, 0 if it is absent or empty; `None` if it is invalid. Most
+/// have one digit, which is tested first.
 pub fn read_number(doc: &[u8], found: Option<Range>, text: &mut [u8], low: usize) -> Option<u32>
     requires { low + raw_length found ≤ length text.old }
     ensures { ReadAt found doc.now low text.old result text.new }
@@ -74,7 +76,7 @@ pub fn read_number(doc: &[u8], found: Option<Range>, text: &mut [u8], low: usize
     }
 }
 
-// Whether a value was found.
+/// 1 if a value was found, else 0.
 fn is_given(found: Option<Range>) -> u32
     ensures { (doc : List ℕ) → eqb result 1 ≡ is_given (value_in doc found) }
 {
@@ -84,9 +86,9 @@ fn is_given(found: Option<Range>) -> u32
     }
 }
 
-// ---- entries: the text that is taken last tells where the free text ends
+// ---- entries: where the text that is taken last begins, the free text ends
 
-// What an item is made of: its numbers, and where the values of its texts stand in the document.
+/// An item to add: its numbers, and where the raw values of its texts lie in the document.
 #[derive(Clone, Copy)]
 pub struct Draft {
     pub kind: u32,
@@ -99,7 +101,7 @@ pub struct Draft {
 }
 
 impl Draft {
-    // With a name, and the text of one more attribute.
+    /// A draft with a name and a second text, without length or encoding.
     pub fn new(
         kind: u32,
         owner: u32,
@@ -120,7 +122,8 @@ impl Draft {
         }
     }
 
-    // The entry, its texts taken below `high`. Inlined, what is absent costs nothing.
+    /// The entry of the item, its texts taken into the text buffer below `high`. Inlined, so that
+    /// what is absent costs nothing.
     #[inline(always)]
     pub fn entry(&self, doc: &[u8], text: &mut [u8], high: usize) -> Entry
         requires { (draft_length self.now ≤ high) × (high ≤ length text.old) × (high ≤ 65536) }

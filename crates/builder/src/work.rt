@@ -1,4 +1,4 @@
-// What a builder is lent, and what it is told of a tag.
+//! What the builder borrows, what it learns of a tag, and the stack of open names.
 #![tactic(auto, using(crate::proofs::Laws::stacking))]
 
 ghost use Rattle.std.specs.Prelude.{◌≡◌, ◌+◌, ◌≤◌, ◌<◌, length};
@@ -13,7 +13,7 @@ use tags::tag::{Noted, Notes, noted_of};
 use texts::{equal, part};
 use words::same_name;
 
-// The document, and the two buffers that hold what was read of it.
+/// The document, and the two buffers for what is read of it: items and open names, and texts.
 #[derive(Drop)]
 pub struct Work<'d, 'a> {
     pub limits: Limits,
@@ -22,8 +22,8 @@ pub struct Work<'d, 'a> {
     pub text: &'a mut [u8],
 }
 
-// A tag that was opened: the place of its '<', its local name, where its attributes begin and it
-// ends, and what the reader noted of it.
+/// An open tag: the place of its `<`, its local name, where its attributes begin, where it ends,
+/// and what the reader noted of it.
 #[derive(Clone, Copy)]
 pub struct Tag {
     pub place: usize,
@@ -35,6 +35,7 @@ pub struct Tag {
 }
 
 impl Tag {
+    /// The ranges of the values that the reader noted.
     pub(crate) fn found(&self) -> Noted
         ensures { Finds self.now result }
     {
@@ -43,6 +44,7 @@ impl Tag {
 }
 
 impl<'d, 'a> Work<'d, 'a> {
+    /// The document and the buffers before the first event.
     pub fn new(
         limits: Limits,
         doc: &'d [u8],
@@ -61,7 +63,7 @@ impl<'d, 'a> Work<'d, 'a> {
         }
     }
 
-    // The name at `from` is the innermost open one from now on.
+    /// Pushes a name, the `len` bytes at `from`: it is the innermost open one from now on.
     pub(crate) fn push(&mut self, s: State, from: usize, len: usize) -> State
         requires { (s.place.depth < 64) × (16384 ≤ length self.old.records.now) × (from + len ≤ 32768) }
         ensures { (result ≡ deeper s) × (self.new ≡ over self.old (pushed self.old.records.now s.place.depth from len)) }
@@ -79,7 +81,7 @@ impl<'d, 'a> Work<'d, 'a> {
         }
     }
 
-    // The innermost of so many open names; the empty one where there is none.
+    /// The innermost of `depth` open names; empty if there is none.
     fn top_name(&self, depth: usize) -> &'d [u8]
         requires { depth ≤ 64 }
         ensures { result.now ≡ top (stack_of depth self.now.records.now self.now.doc.now) }
@@ -93,7 +95,7 @@ impl<'d, 'a> Work<'d, 'a> {
         part(self.doc, from, len)
     }
 
-    // Whether the name at `name` is that of the innermost open one.
+    /// Whether the innermost open name is that of the `len` bytes at `name`.
     fn is_named(&self, s: State, name: usize, len: usize) -> bool
         requires { s.place.depth ≤ 64 }
         ensures { result ≡ same (piece self.now.doc.now name len) (top (builder_in self.now s).stack) }
@@ -101,7 +103,7 @@ impl<'d, 'a> Work<'d, 'a> {
         same_name(part(self.doc, name, len), self.top_name(s.place.depth))
     }
 
-    // The same, at once where the name at `name` is that very range, as where a tag closes itself.
+    /// The same. If it is the very same range, as where a tag closes itself, no bytes are compared.
     pub(crate) fn is_open(&self, s: State, name: usize, len: usize) -> bool
         requires { s.place.depth ≤ 64 }
         ensures { result ≡ same (piece self.now.doc.now name len) (top (builder_in self.now s).stack) }
@@ -115,7 +117,7 @@ impl<'d, 'a> Work<'d, 'a> {
         self.is_named(s, name, len)
     }
 
-    // Whether the name below the innermost one is composite.
+    /// Whether the name below the innermost one, that of the parent, is composite.
     pub(crate) fn in_composite(&self, s: State) -> bool
         requires { s.place.depth ≤ 64 }
         ensures { result ≡ parent_composite (builder_in self.now s) }

@@ -1,4 +1,4 @@
--- Laws of finding where something ends: what a search says, places one by one, and a scan for one byte.
+-- Laws of finding where markup ends: searches, positions one by one, and scans for one byte.
 use Rattle.std.specs.Prelude.{Option, Some, None}
 use mathlib.Core.Path.{◌≡◌, refl, sym, ap, ◌∙◌}
 use mathlib.Core.Bool.{Bool, true, false, not}
@@ -72,16 +72,16 @@ here_found n doc from l t = record { is = λ h. find-here n (drop from doc) from
 pub end-from : {n doc : List ℕ} {from end : ℕ} → FoundAt n doc from end → end < length doc → from ≤ end
 end-from {n} {doc} {from} {end} f h = found_from n doc from end (f.is h)
 
--- ---- places one by one
+-- ---- positions one by one
 
 pub short-stands : {n doc : List ℕ} {i modulus front : ℕ} {b : Bool} → StandsShort doc i modulus front b → ShortText n modulus front → Stands n doc i b
 short-stands {n} s t = record { is = sym (s.is n t) }
 
--- where it stands at none of the places before, it is found
+-- where it stands at no position before, it is found
 pub lacks-here : {n doc : List ℕ} {from i : ℕ} → Lacks n doc from i → Stands n doc i true → i < length doc → FoundAt n doc from i
 lacks-here {n} {doc} {from} {i} l t h = lacks-found l (here_found n doc i h t.is)
 
--- up to four places at which it does not stand
+-- up to four positions at which it does not stand
 module _ {n doc : List ℕ} {from : ℕ} where
   next : {i j : ℕ} → Lacks n doc from i → Stands n doc i false → j ≡ i + 1 → Lacks n doc from j
   next {i} l f e =
@@ -107,8 +107,8 @@ module _ {n doc : List ℕ} {from : ℕ} where
         pub lacks-four : Stands n doc (i + 3) false → Lacks n doc from (i + 4)
         lacks-four d = next lacks-three d (omega arith)
 
--- what the loop over the first places keeps: so far the needle stands nowhere, and what is left to `stop` are fours, each place
--- with room for a word
+-- what the loop over the first positions keeps: the needle stands nowhere so far, a multiple of
+-- four is left to `stop`, and behind `stop` there is room for a word
 abbrev pub Nearing : (n doc : List ℕ) (from stop i : ℕ) → Type 0
 Nearing n doc from stop i = Lacks n doc from i × ((stop - i) % 4 ≡ 0) × (stop + 8 ≤ length doc)
 
@@ -189,7 +189,7 @@ comment-begins {doc} {i} h = record { is = sym (four-stand (ascii "<!--") tt ref
 
 -- ---- by the last byte
 
--- before the first place of a byte it does not stand, and there it does
+-- it does not stand before the first position of a byte, and there it does
 module _ (x : ℕ) where
   unmet : (s : List ℕ) (m : ℕ) → m < count_while (until (is x)) s → starts_with (x ∷ []) (drop m s) ≡ false
   unmet [] m h = absurd (omega arith)
@@ -214,7 +214,7 @@ module _ (x : ℕ) where
 parts : (w : List ℕ) (x : ℕ) (doc : List ℕ) (k : ℕ) → starts_with (w ++ (x ∷ [])) (drop k doc) ≡ (starts_with w (drop k doc) and starts_with (x ∷ []) (drop (k + length w) doc))
 parts w x doc k = starts-append w (x ∷ []) (drop k doc) ∙ ap (λ (u : List ℕ). starts_with w (drop k doc) and starts_with (x ∷ []) u) (drop-drop (length w) k doc)
 
--- `due` is the first place of the byte that ends the needle, from where it may stand
+-- `due` is the first position of the byte that ends the needle, from where it may stand
 module _ (w : List ℕ) (x : ℕ) (doc : List ℕ) (from : ℕ) {due : ℕ} (e : due ≡ scan (until (is x)) doc (from + length w)) where
   due-lacks : Lacks (w ++ (x ∷ [])) doc from (due - length w)
   due-lacks =
@@ -247,7 +247,7 @@ module _ (w : List ℕ) (x : ℕ) (doc : List ℕ) (from : ℕ) {due : ℕ} (e :
   due-later : {r : ℕ} → FoundAt (w ++ (x ∷ [])) doc (due - length w) r → FoundAt (w ++ (x ∷ [])) doc from r
   due-later f = lacks-found due-lacks f
 
--- ---- what is told of an end
+-- ---- an end that was found, or was not
 
 some-same : {i j : ℕ} → Some i ≡ Some j → i ≡ j
 some-same e = cc
@@ -279,7 +279,7 @@ module _ {needle doc : List ℕ} {from : ℕ} where
   pub ends-within : {o : Option ℕ} → EndsAt needle doc from o → {i : ℕ} → o ≡ Some i → (from ≤ i) × (i < length doc)
   ends-within f {i} s = let g = f.is s in (found_from needle doc from i (g.0.is g.1), g.1)
 
-  -- the first place by itself
+  -- the first position by itself
   pub ends-here : Stands needle doc from true → from < length doc → EndsAt needle doc from (Some from)
   ends-here t h = ends-some (lacks-here lacks-start t h) h
 
@@ -317,11 +317,11 @@ module _ {doc : List ℕ} {from : ℕ} {o : Option ℕ} {due : ℕ} where
     pub instruction-later : {far : ℕ} → FoundAt (ascii "?>") doc (due - 1) far → far < length doc → EndsAt (ascii "?>") doc from (Some far)
     instruction-later l h = let g = f.is s in ends-some (due-later (ascii "?") 62 doc from g.0 l) h
 
--- what the loop over the first places keeps
+-- what the loop over the first positions keeps
 abbrev pub Nearby : (doc : List ℕ) (at stop i : ℕ) → Type 0
 Nearby doc at stop i = Scanning (until (is 62)) doc at i × ((stop - i) % 4 ≡ 0) × (stop + 8 ≤ length doc)
 
--- ---- the texts, by their numbers
+-- ---- the texts as integers
 
 pub short-comment-end : ShortText (ascii "-->") 16777216 4074797
 unfolding word_of

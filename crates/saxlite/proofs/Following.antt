@@ -1,5 +1,4 @@
--- What stands at a place leads on, within the document: so the events from there depend on the events further on alone, and no
--- count of pieces is ever used up.
+-- Laws of fuel: whatever stands at a position leads on within the document, so it never runs out.
 use Rattle.std.specs.Prelude.{Result, Option, Some, None, Ok, Err}
 use mathlib.Core.Path.{◌≡◌, refl, sym, ap, ◌∙◌}
 use mathlib.Core.Bool.{Bool, true, false}
@@ -87,7 +86,7 @@ module _ (doc : List ℕ) (at : ℕ) (h : at < length doc) {go go' : ℕ → Eve
       (λ l. pick-same (stands "<" doc at) (λ t. open-same)
       (λ m. text-same m)))))
 
--- ---- the count
+-- ---- the fuel
 
 module _ (doc : List ℕ) where
   within-more : (x y : Events) (j k at : ℕ) → length doc < at + j → length doc < at + k → 0 < j → 0 < k → events_within x j doc at ≡ events_within y k doc at
@@ -103,7 +102,7 @@ module _ (doc : List ℕ) where
   unfolding events_within
   from_end {at} h = rw (add-one, le-leb (length doc) at h)
 
-  -- what stands at a place, and then the events further on
+  -- what stands at a position, and then the events further on
   pub from-on : {at : ℕ} → at < length doc → events_from doc at ≡ events_at (events_from doc) doc at
   unfolding events_within
   from-on {at} h =

@@ -1,4 +1,4 @@
--- Laws of passing markup that is no event: each premise is what a call or a test says.
+-- Laws of skipping markup that is no event; each premise is the result of a call or a test.
 use Rattle.std.specs.Prelude.{Option, Some, Result, Ok, Err}
 use mathlib.Core.Path.{◌≡◌, refl, sym, ap, ◌∙◌}
 use mathlib.Core.Bool.{Bool, true, false}
@@ -24,7 +24,7 @@ use Rattle.saxlite.specs.Passing.{Passed, is_silent, PassedSome, PassedAll, Stan
 use Rattle.saxlite.proofs.Finding.{scan-found}
 use Rattle.saxlite.proofs.Following.{from-on}
 
--- ---- what stands at a place, by its first bytes
+-- ---- what stands at a position, by its first bytes
 
 pub front-not : (a b u : List ℕ) → starts_with a u ≡ false → starts_with (a ++ b) u ≡ false
 front-not a b u f = starts-append a b u ∙ rw f refl
@@ -86,7 +86,7 @@ module _ (doc : List ℕ) (at : ℕ) where
       from-on doc (omega (arith, stands-within (ascii "<!") doc at t (omega arith)))
       ∙ rw (f, second-differs 60 33 63 [] (drop at doc) refl t, t) refl
 
--- ---- several passed
+-- ---- several pieces skipped
 
 pub passed-none : {doc : List ℕ} {at : ℕ} → Passed doc at at
 passed-none = record { is = refl; forward = omega arith; within = λ h. h }
@@ -118,12 +118,12 @@ module _ {doc : List ℕ} (n : ℕ) (needle : List ℕ) (len : n ≡ length need
       (λ g. let h = ltb-false end (length doc) g in
       rw (p.refused h) (record { on = tt; broken = e ∙ rw (f.none h) refl }))
 
--- a comment is told by two pairs of bytes
+-- a comment is known by two pairs of bytes
 pub pairs-stand : {doc : List ℕ} {at : ℕ} → Stands (ascii "<!") doc at true → {b : Bool} → Stands (ascii "--") doc (at + 2) b → Stands (ascii "<!--") doc at b
 pairs-stand {doc} {at} p q =
     record { is = starts-append (ascii "<!") (ascii "--") (drop at doc) ∙ rw p.is (ap (starts_with (ascii "--")) (drop-drop 2 at doc) ∙ q.is) }
 
--- in a row; each b is what a comparison says
+-- in a row; each b is the result of a comparison
 module _ {doc : List ℕ} {at : ℕ} {o : Option ℕ} {end : ℕ} where
   pub comment-past : Stands (ascii "<!--") doc at true → EndsAt (ascii "-->") doc (at + 4) o → o ≡ Some end → Passed doc at (end + 3)
   comment-past t f s =
@@ -140,7 +140,7 @@ module _ {doc : List ℕ} {at : ℕ} {o : Option ℕ} {end : ℕ} where
       let g = f.is s in
       ends-at 2 (ascii "?>") refl (omega arith) (stands-within (ascii "<?") doc at t.is (omega arith)) _ (instruction-is doc at t.is) (g.0.is g.1)
 
--- one piece; each b is what a comparison says
+-- one piece; each b is the result of a comparison
 module _ {doc : List ℕ} {at : ℕ} (t : is_silent doc at ≡ true) {b : Bool} (e : b ≡ starts_with (ascii "<!--") (drop at doc)) where
   pub comment-piece : b ≡ true → {end : ℕ} → FoundAt (ascii "-->") doc (at + 4) end → {r : Result ℕ Refusal} → EndPassed doc end 3 (OpenComment at) r → PassedSome doc at r
   comment-piece y f p =

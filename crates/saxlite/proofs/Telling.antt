@@ -1,4 +1,4 @@
--- Laws of what stands at a place: text, a close tag, an open tag. Each premise is what a call or a test says.
+-- Laws of text, close tags and open tags; each premise is the result of a call or a test.
 use Rattle.std.specs.Prelude.{Some, None, Result, Ok, Err}
 use mathlib.Core.Path.{◌≡◌, refl, sym, ap, ◌∙◌}
 use mathlib.Core.Bool.{Bool, true, false}
@@ -132,7 +132,7 @@ module _ (doc : List ℕ) (at : ℕ) (h : at + 1 ≤ length doc) {b : Beginning}
               };
         }
 
--- ---- what is told at a place
+-- ---- what stands at a position
 
 module _ (doc : List ℕ) (at : ℕ) (h : at < length doc) {r : Result Read Refusal} {b : Bool} (e : b ≡ starts_with (ascii "<") (drop at doc)) where
   pub here-text : b ≡ false → Here (text_at (events_from doc) doc at) doc at r → Here (events_from doc at) doc at r

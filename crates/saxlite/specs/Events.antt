@@ -1,4 +1,4 @@
--- The events of a document: what stands at a place, and what follows it.
+-- Rules: Markup. The events of a document: what stands at a position, and what follows it.
 use Rattle.std.specs.Prelude.{List, ℕ, zero, suc, ◌+◌, ◌-◌, eqb, leb, length, Option, Some, None, Result, Ok, Err}
 use Prim.Native.String.{String}
 use Rattle.texts.specs.Choice.{pick}
@@ -14,7 +14,7 @@ use Rattle.tags.specs.Names.{local_name}
 use Rattle.tags.specs.Attributes.{tag_at}
 use Rattle.saxlite.specs.Event.{Attributes, Events, text, opens, closes, done, broken, next, attributes_in}
 
--- In what follows `go` gives the events from a place on. Places are of the document, and `at` is where the text or the markup begins.
+-- Below, `go` gives the events from a position on, and the text or the markup begins at `at`.
 
 -- text runs to the next '<' (60)
 unfoldable pub text_at : (ℕ → Events) → List ℕ → ℕ → Events
@@ -22,15 +22,16 @@ text_at go doc at =
     let end = scan (until (is 60)) doc at in
     next at (text (decoded (piece doc at (end - at)))) (go end)
 
--- markup that is no event: the events past the n bytes that end it, or the refusal where they stand nowhere
+-- the events behind markup that is none, which the n bytes at i end; the refusal if nothing does
 unfoldable pub past : (ℕ → Events) → ℕ → Option ℕ → Refusal → Events
 past go n (Some i) refusal = go (i + n)
 past go n None refusal = broken refusal
 
+-- the same by the text that ends it, which is looked for from a position on
 unfoldable pub past_end : (ℕ → Events) → String → List ℕ → ℕ → Refusal → Events
 past_end go end doc from refusal = past go (length (ascii end)) (find_from (ascii end) doc from) refusal
 
--- '</', a name that may be empty, spaces, '>'
+-- a close tag: '</', a name that may be empty, spaces, '>' (else 14)
 unfoldable pub close_at : (ℕ → Events) → List ℕ → ℕ → Events
 close_at go doc at =
     let name = at + 2 in
@@ -38,19 +39,19 @@ close_at go doc at =
     let due = scan is_space doc end in
     pick (stands ">" doc due) (next at (closes (local_name (piece doc name (end - name)))) (go (due + 1))) (broken (NoCloseTagEnd due at))
 
--- an open tag by how it ends; a self-closed one is an open, then a close
+-- an open tag by how it ends: a self-closed one is an open, then a close
 unfoldable pub open_by : (ℕ → Events) → ℕ → List ℕ → Attributes → Result Ending Refusal → Events
 open_by go at name a (Ok ending) = next at (opens name a) (pick ending.self_closed (next at (closes name) (go ending.next)) (go ending.next))
 open_by go at name a (Err refusal) = broken refusal
 
--- '<', a name that is not empty, attributes, '>' or '/>'
+-- an open tag: '<', a name that is not empty (else 15), attributes, '>' or '/>'
 unfoldable pub open_at : (ℕ → Events) → List ℕ → ℕ → Events
 open_at go doc at =
     let name = at + 1 in
     let end = scan (until is_tag_name_end) doc name in
     pick (eqb end name) (broken (NoTagName name at)) (open_by go at (local_name (piece doc name (end - name))) (attributes_in doc end) (tag_at doc end at).ending)
 
--- what stands at a place of the document
+-- by what stands at `at`
 unfoldable pub events_at : (ℕ → Events) → List ℕ → ℕ → Events
 events_at go doc at =
     pick (stands "<!--" doc at) (past_end go "-->" doc (at + 4) (OpenComment at))
@@ -60,15 +61,16 @@ events_at go doc at =
     (pick (stands "<" doc at) (open_at go doc at)
     (text_at go doc at)))))
 
--- The events from a place on, of at most k pieces of text and markup. Each takes a byte, so that one more than the document's length is
--- never used up: what is `spent` then does not matter (Fuel.antt).
+-- the events from a position on, of at most k pieces of text and markup. Each piece takes a byte,
+-- so k above the document's length is always enough, and `spent` does not matter (Fuel.antt)
 unfoldable pub events_within : Events → ℕ → List ℕ → ℕ → Events
 events_within spent zero doc at = spent
 events_within spent (suc k) doc at = pick (leb (length doc) at) done (events_at (events_within spent k doc) doc at)
 
--- from a place on
+-- the events from a position on
 abbrev pub events_from : List ℕ → ℕ → Events
 events_from doc at = events_within done (length doc + 1) doc at
 
+-- the events of the whole document
 abbrev pub events : List ℕ → Events
 events doc = events_from doc 0

@@ -1,10 +1,10 @@
--- The definitions of reading count pieces and parts to be seen to end. None of them ever ends because that count is used up.
+-- Rules: Markup. Its definitions end by a falling count, the fuel, which never runs out.
 use Rattle.std.specs.Prelude.{◌≡◌, List, ℕ, ◌<◌, length}
 use Rattle.tags.specs.Attributes.{Tag, tag_within, tag_at}
 use Rattle.saxlite.specs.Event.{Events}
 use Rattle.saxlite.specs.Events.{events_within, events}
 
--- a document's events are the same whatever stands for a count used up, and for every larger count
+-- a document's events are the same for all fuel above its length, whatever stands for none left
 abbrev pub EventsEnd : Type 0
 EventsEnd = (doc : List ℕ) (spent : Events) (k : ℕ) → length doc < k → events_within spent k doc 0 ≡ events doc
 

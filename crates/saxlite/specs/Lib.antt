@@ -1,5 +1,5 @@
--- Reading markup: the events of a document, and the reader that yields them. A customer reads Event, Events, Reader and Fuel; Moving and
--- Passing are internal.
+-- Reading markup: the events of a document, and the reader that yields them. A customer reads
+-- Event, Events, Reader and Fuel; Moving and Passing are internal.
 pub mod Event
 pub mod Events
 pub mod Reader

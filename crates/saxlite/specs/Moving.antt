@@ -16,11 +16,11 @@ use Rattle.saxlite.specs.declared.event.Owed.{Owed}
 use Rattle.saxlite.specs.declared.event.Cursor.{Cursor}
 use Rattle.saxlite.specs.declared.event.Read.{Read}
 
--- an event that opens nothing, and where the reader goes on behind it
+-- an event without notes, behind which the reader goes on at `behind`
 abbrev pub bare : Found → ℕ → ℕ → Read
 bare event place behind = record { told = record { event = event; place = place; noted = no_notes }; cursor = cursor_at behind }
 
--- behind an open tag: a self-closed one owes its close
+-- where the reader goes on behind an open tag: a self-closed one owes its close
 abbrev pub behind : Ending → Owed → Cursor
 behind ending o = record { at = ending.next; owed = pick ending.self_closed (Some o) None }
 
@@ -37,25 +37,25 @@ asked_in doc (Err refusal) = broken refusal
 
 -- ---- what is known of an event beside that
 
--- the bytes of text that it may take
+-- how many bytes of the text buffer it may take
 abbrev pub takes : Found → ℕ
 takes (Text from len) = len
 takes (Open name n attributes end) = end - attributes
 takes (Close name n) = 0
 
--- a tag whose attributes begin at one place ends at another
+-- the tag whose attributes begin at one position ends at the other
 pub record Tagged (doc : List ℕ) (attributes end : ℕ) : Type 0 where
   pub place : ℕ
   pub closed : Bool
   pub is : (tag_at doc attributes place).ending ≡ Ok (record { next = end; self_closed = closed })
 
--- where it lies in the document
+-- where an open tag lies in the document
 abbrev pub Inside : List ℕ → Found → Type 0
 Inside doc (Text from len) = Unit {0}
 Inside doc (Open name n attributes end) = Tagged doc attributes end × (name + n ≤ length doc)
 Inside doc (Close name n) = Unit {0}
 
--- what was noted of a tag that is opened: the values of four names, which depend on the element
+-- the notes of an open tag: the values of the four names that matter to its element
 abbrev pub NotedIn : List ℕ → Found → Notes → Type 0
 NotedIn doc (Open name n attributes end) noted = NotedBy (keys_of (piece doc name n)) doc attributes noted
 NotedIn doc (Text from len) noted = Unit {0}
@@ -69,7 +69,7 @@ owing (Some o) = 1
 abbrev pub left : List ℕ → Cursor → ℕ
 left doc c = 2 * (length doc - c.at) + owing c.owed
 
--- from one cursor to the next by an event
+-- the event t leads from the cursor c on to c', within the document, and fewer events are left
 pub record Moves (doc : List ℕ) (c : Cursor) (t : Told) (c' : Cursor) : Type 0 where
   pub grows : c.at + takes t.event ≤ c'.at
   pub less : left doc c' < left doc c
@@ -79,12 +79,12 @@ pub record Moves (doc : List ℕ) (c : Cursor) (t : Told) (c' : Cursor) : Type 0
 
 -- ---- what functions over the document and a place promise
 
--- text or a tag at a place, where these events are to come: it is told, or refused
+-- r is the event at `at`, or its refusal, and es are the events from there
 pub record Here (es : Events) (doc : List ℕ) (at : ℕ) (r : Result Read Refusal) : Type 0 where
   pub is : es ≡ read_in doc r
   pub moves : IfOk r (λ x. Moves doc (cursor_at at) x.told x.cursor)
 
--- what is read at a cursor
+-- r is what is read at the cursor c
 pub record Asked (doc : List ℕ) (c : Cursor) (r : Result (Option Read) Refusal) : Type 0 where
   pub is : to_come doc c ≡ asked_in doc r
   pub moves : IfOk r (λ o. IfSome o (λ x. Moves doc c x.told x.cursor))

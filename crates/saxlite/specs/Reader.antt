@@ -18,11 +18,11 @@ event_in doc (Text from len) = text (decoded (piece doc from len))
 event_in doc (Open name n attributes end) = opens (piece doc name n) (attributes_in doc attributes)
 event_in doc (Close name n) = closes (piece doc name n)
 
--- a place where no close is owed
+-- a position with no close owed
 abbrev pub cursor_at : ℕ → Cursor
 cursor_at at = record { at = at; owed = None }
 
--- an owed close comes first, with the place of its tag
+-- an owed close comes before the other events, with the place of its tag
 abbrev pub owed_before : List ℕ → Option Owed → Events → Events
 owed_before doc None more = more
 owed_before doc (Some o) more = next o.place (closes (piece doc o.name o.len)) more
@@ -31,17 +31,17 @@ owed_before doc (Some o) more = next o.place (closes (piece doc o.name o.len)) m
 abbrev pub to_come : List ℕ → Cursor → Events
 to_come doc c = owed_before doc c.owed (events_from doc c.at)
 
--- an event that was told, before those that follow it
+-- an event that was yielded, before those that follow it
 abbrev pub told_before : List ℕ → Told → Events → Events
 told_before doc t more = next t.place (event_in doc t.event) more
 
--- what an answer says of the events that were to come, with those that are to come after it
+-- what an answer says of the events that were to come: itself, with `more` to come behind it
 abbrev pub yielded_in : List ℕ → Result (Option Told) Refusal → Events → Events
 yielded_in doc (Ok None) more = done
 yielded_in doc (Ok (Some t)) more = told_before doc t more
 yielded_in doc (Err refusal) more = broken refusal
 
--- a reader over the same document, whose answer and what is to come after it are what was to come
+-- the reader r yields o and is r' then: what was to come for r is o, then what is to come for r'
 pub record Yields (r r' : Reader) (o : Result (Option Told) Refusal) : Type 0 where
   pub doc : r'.doc ≡ r.doc
   pub is : to_come r.doc.now r.cursor ≡ yielded_in r.doc.now o (to_come r.doc.now r'.cursor)

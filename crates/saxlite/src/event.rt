@@ -1,4 +1,4 @@
-//! Events by ranges of the document, and where the reader goes on behind one.
+//! Events as ranges of the document, and where the reader goes on behind one.
 #![tactic(auto)]
 
 ghost use Rattle.std.specs.Prelude.{◌≡◌};
@@ -7,15 +7,15 @@ ghost use Rattle.saxlite.specs.Moving.{bare};
 
 use tags::tag::{Notes, nothing};
 
-/// What the reader yields. Ranges are of the document.
+/// What the reader yields, as ranges of the document.
 #[derive(Clone, Copy)]
 pub enum Event {
-    /// Text, which is still to be decoded.
+    /// Text, not decoded.
     Text {
         from: usize,
         len: usize,
     },
-    /// An open tag: its local name, where its attributes begin, right behind its raw name, and where it ends.
+    /// An open tag: its local name, where its attributes begin (behind its raw name), and its end.
     Open {
         name: usize,
         name_len: usize,
@@ -29,7 +29,7 @@ pub enum Event {
     },
 }
 
-/// An event, the place of its `<` or of its first byte, and what was noted of a tag that is opened.
+/// An event, its place (a tag's '<', a text's first byte), and what was noted of an open tag.
 #[derive(Clone, Copy)]
 pub struct Told {
     pub event: Event,
@@ -37,7 +37,7 @@ pub struct Told {
     pub noted: Notes,
 }
 
-/// The close that the self-closed tag at `place` owes.
+/// The close that a self-closed tag owes: the place of its '<', and its local name.
 #[derive(Clone, Copy)]
 pub(crate) struct Owed {
     pub place: usize,
@@ -52,7 +52,7 @@ pub(crate) struct Cursor {
     pub owed: Option<Owed>,
 }
 
-/// An event, and where the reader goes on.
+/// An event, and where the reader goes on behind it.
 #[derive(Clone, Copy)]
 pub(crate) struct Read {
     pub told: Told,
@@ -60,7 +60,7 @@ pub(crate) struct Read {
 }
 
 impl Cursor {
-    /// At a place, with no close owed.
+    /// At a position, with no close owed.
     pub fn at(at: usize) -> Cursor
         ensures { result ≡ cursor_at at }
     {
@@ -69,7 +69,7 @@ impl Cursor {
 }
 
 impl Read {
-    /// An event that opens nothing, behind which the reader goes on at `next`.
+    /// An event without notes, behind which the reader goes on at `next`.
     pub(crate) fn bare(event: Event, place: usize, next: usize) -> Read
         ensures { result ≡ bare event place next }
     {

@@ -1,8 +1,8 @@
-//! A law of the definitions, which no code calls.
+//! A theorem on the definitions, as the contract of a function that does nothing.
 
 ghost use Rattle.saxlite.specs.Fuel.{EventsEnd, TagsEnd};
 
-/// The definitions of a document's events and of a tag never end for want of fuel.
+/// The definitions of a document's events and of a tag never run out of fuel.
 pub fn reading_ends()
     ensures events { EventsEnd }
     ensures tags { TagsEnd }

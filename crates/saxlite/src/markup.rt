@@ -1,4 +1,5 @@
-//! What stands at a place of the document: text, a close tag or an open tag. An open tag is read whole before it is told of.
+//! What stands at a position of the document: text, a close tag or an open tag. An open tag is read
+//! to its end before it is an event.
 #![tactic(auto, using(crate::proofs::Telling::telling))]
 
 ghost use Rattle.std.specs.Prelude.{◌≡◌, false, ◌+◌, ◌≤◌, ◌<◌, length, drop};
@@ -13,7 +14,7 @@ use tags::beginning::{begin_at, closing_at};
 use tags::scan::{byte_from, prefix_len, skip_space, tag_name_end};
 use tags::tag::{Ending, tag_noting};
 
-/// The text at `at`.
+/// The text at `at`, up to the next '<' or the document's end.
 fn read_text(doc: &[u8], at: usize) -> Result<Read, Refusal>
     requires { (at < length doc.now) × (starts_with (ascii "<") (drop at doc.now) ≡ false) }
     ensures { Here (text_at (events_from doc.now) doc.now at) doc.now at result }
@@ -23,7 +24,7 @@ fn read_text(doc: &[u8], at: usize) -> Result<Read, Refusal>
     Ok(Read::bare(Event::Text { from: at, len }, at, end))
 }
 
-/// The close tag at `at`, of any name.
+/// The close tag at `at`, of any name. Refused (14) without its '>'.
 fn read_any_close(doc: &[u8], at: usize) -> Result<Read, Refusal>
     requires { at + 2 ≤ length doc.now }
     ensures { Here (close_at (events_from doc.now) doc.now at) doc.now at result }
@@ -45,7 +46,7 @@ fn read_any_close(doc: &[u8], at: usize) -> Result<Read, Refusal>
     })
 }
 
-/// The close tag at `at`: at once, where its name is known.
+/// The close tag at `at`. A known name needs no scan.
 fn read_close(doc: &[u8], at: usize) -> Result<Read, Refusal>
     requires { at + 2 ≤ length doc.now }
     ensures { Here (close_at (events_from doc.now) doc.now at) doc.now at result }
@@ -60,7 +61,7 @@ fn read_close(doc: &[u8], at: usize) -> Result<Read, Refusal>
     read_any_close(doc, at)
 }
 
-/// Behind an open tag: a self-closed one owes its close.
+/// Where the reader goes on behind an open tag: a self-closed one owes its close.
 fn behind(ending: Ending, owed: Owed) -> Cursor
     ensures { result ≡ behind ending owed }
 {
@@ -70,7 +71,7 @@ fn behind(ending: Ending, owed: Owed) -> Cursor
     }
 }
 
-/// The open tag at `at`.
+/// The open tag at `at`, with what is noted of it. Refused with 15 to 20.
 fn read_open(doc: &[u8], at: usize) -> Result<Read, Refusal>
     requires { at + 1 ≤ length doc.now }
     ensures { Here (open_at (events_from doc.now) doc.now at) doc.now at result }
@@ -109,7 +110,7 @@ fn read_open(doc: &[u8], at: usize) -> Result<Read, Refusal>
     })
 }
 
-/// What stands at `at`, where no markup begins that is no event.
+/// The event at `at`, where no markup begins that is to be skipped. Refused with 14 to 20.
 pub(crate) fn read_at(doc: &[u8], at: usize) -> Result<Read, Refusal>
     requires { (at < length doc.now) × (is_silent doc.now at ≡ false) }
     ensures { Here (events_from doc.now at) doc.now at result }

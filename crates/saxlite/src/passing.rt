@@ -1,4 +1,8 @@
-//! Past markup that is no event, comments, instructions and declarations: rows of them in a loop each, and any one of them by words.
+//! Skips markup that is no event: comments, instructions and declarations.
+//!
+//! Rows of one kind are skipped by a hot loop each, which works while 32 bytes are left, and any
+//! other piece by `past_piece`, which refuses one without an end. Most ends are near: the first
+//! positions are tested one by one, the others eight at once (SWAR).
 #![tactic(auto, using(crate::proofs::Finding::finding, crate::proofs::Silence::passing))]
 
 ghost use Rattle.std.specs.Prelude.{◌≡◌, true, List, [], ◌∷◌, ℕ, ◌+◌, ◌%◌, ◌≤◌, ◌<◌, length};
@@ -10,7 +14,7 @@ use refusals::Refusal;
 use tags::scan::{byte_from, find};
 use words::{half_at, stands_short, text_from};
 
-// Where `needle` first stands from `from` on, or the document's length.
+/// Where `needle` first stands from `from` on, or the document's length.
 fn found(doc: &[u8], from: usize, needle: &[u8]) -> usize
     requires { 0 < length needle.now }
     ensures { FoundAt needle.now doc.now from result }
@@ -18,7 +22,8 @@ fn found(doc: &[u8], from: usize, needle: &[u8]) -> usize
     find(doc, from, needle).unwrap_or(doc.len())
 }
 
-// Where `needle`, which has these numbers, first stands from `from` on, by words.
+/// The same, eight positions at once; `modulus` and `front` are the needle as an integer, as in
+/// `words::stands_short`.
 fn found_far<const N: usize>(
     doc: &[u8],
     from: usize,
@@ -41,8 +46,8 @@ fn found_far<const N: usize>(
     found(doc, near, needle)
 }
 
-// Whether these two bytes stand at `i`. Each is compared by itself: at a comparison of both with one number, which has an
-// operand of two bytes, the processor's decoder waits.
+/// Whether these two bytes stand at `i`. Each is compared by itself: one comparison of both has an
+/// immediate operand of 16 bits, on which the processor's decoder stalls.
 fn pair_stands(doc: &[u8], i: usize, first: u8, second: u8) -> bool
     requires { i + 2 ≤ length doc.now }
     ensures { Stands (first ∷ second ∷ []) doc.now i result }
@@ -53,20 +58,22 @@ fn pair_stands(doc: &[u8], i: usize, first: u8, second: u8) -> bool
     false
 }
 
-// What ends markup that is passed over.
+/// What ends a kind of markup.
 pub trait MarkupEnd {
+    /// The bytes that end it.
     ghost needle: { List ℕ };
 
-    // Whether it stands at `i`.
+    /// Whether they stand at `i`.
     fn stands(doc: &[u8], i: usize) -> bool
         requires { i + 8 ≤ length doc.now }
         ensures { Stands needle doc.now i result };
 
-    // Where it first stands from `from` on, by words.
+    /// Where they first stand from `from` on, or the document's length; eight positions at once.
     fn far(doc: &[u8], from: usize) -> usize
         ensures { FoundAt needle doc.now from result };
 }
 
+/// `-->`, which ends a comment.
 pub struct CommentEnd;
 
 impl MarkupEnd for CommentEnd {
@@ -81,6 +88,7 @@ impl MarkupEnd for CommentEnd {
     }
 }
 
+/// `?>`, which ends an instruction.
 pub struct InstructionEnd;
 
 impl MarkupEnd for InstructionEnd {
@@ -95,6 +103,7 @@ impl MarkupEnd for InstructionEnd {
     }
 }
 
+/// `>`, which ends a declaration.
 pub struct DeclarationEnd;
 
 impl MarkupEnd for DeclarationEnd {
@@ -109,8 +118,9 @@ impl MarkupEnd for DeclarationEnd {
     }
 }
 
-// Where the markup that is open at `from` ends: the first sixteen places one by one, and then by words. `past_piece`, which
-// meets such markup only where the loops below have not passed it, asks by words at once.
+/// Where the markup that is open at `from` ends, or the document's length: the first sixteen
+/// positions one by one, then eight at once. `past_piece`, which meets only what the hot loops have
+/// left, calls `far` instead.
 fn markup_end<E: MarkupEnd>(doc: &[u8], from: usize) -> usize
     requires { from ≤ length doc.now }
     ensures { FoundAt E.needle doc.now from result }
@@ -120,7 +130,7 @@ fn markup_end<E: MarkupEnd>(doc: &[u8], from: usize) -> usize
     }
     let stop = from + 16;
     let mut i = from;
-    // kept: a `while`, since its steps are of four places.
+    // `while`: each turn tests four positions.
     while i < stop {
         if E::stands(doc, i) {
             return i;
@@ -139,8 +149,9 @@ fn markup_end<E: MarkupEnd>(doc: &[u8], from: usize) -> usize
     E::far(doc, i)
 }
 
-// Where the first '>' from `at` on stands, with which all such markup ends: `N` places one by one, which the processor predicts,
-// and then by words, whose answers wait for each other.
+/// Where the first '>' from `at` on stands, with which all such markup ends; `None` if there is
+/// none. First `N` positions one by one, as branches are predicted, then eight at once, where each
+/// step waits for the one before.
 #[inline(always)]
 fn bracket_from<const N: usize>(doc: &[u8], at: usize) -> Option<usize>
     requires { (N % 4 ≡ 0) × (at + N + 8 ≤ length doc.now) }
@@ -148,7 +159,7 @@ fn bracket_from<const N: usize>(doc: &[u8], at: usize) -> Option<usize>
 {
     let stop = at + N;
     let mut i = at;
-    // kept: a `while`, since its steps are of four places.
+    // `while`: each turn tests four positions.
     while i < stop {
         if doc[i] == b'>' {
             return Some(i);
@@ -168,7 +179,7 @@ fn bracket_from<const N: usize>(doc: &[u8], at: usize) -> Option<usize>
     if far < doc.len() { Some(far) } else { None }
 }
 
-// The same for instructions: their first eight places with no loop, as the compiler lays these out, take a fifth less.
+/// The same for instructions. The compiler unrolls the first eight positions: a fifth less time.
 #[inline(always)]
 fn bracket_near(doc: &[u8], at: usize) -> Option<usize>
     requires { at + 16 ≤ length doc.now }
@@ -183,7 +194,7 @@ fn bracket_near(doc: &[u8], at: usize) -> Option<usize>
     if far < doc.len() { Some(far) } else { None }
 }
 
-// Whether a comment that is open at `from` is empty, by its '>' first.
+/// Whether the comment that is open at `from` ends there, tested by its '>' first.
 fn comment_is_empty(doc: &[u8], from: usize) -> bool
     requires { from + 3 ≤ length doc.now }
     ensures { Stands (ascii "-->") doc.now from result }
@@ -194,7 +205,8 @@ fn comment_is_empty(doc: &[u8], from: usize) -> bool
     false
 }
 
-// Where what ends a comment first stands from `from` on: at the first '>', if two '-' stand before it.
+/// Where `-->` first stands from `from` on: at the first '>' if "--" is before it, else by a search
+/// from there. `None` if it stands nowhere.
 #[inline(always)]
 fn dashes_from(doc: &[u8], from: usize) -> Option<usize>
     requires { from + 20 ≤ length doc.now }
@@ -213,7 +225,7 @@ fn dashes_from(doc: &[u8], from: usize) -> Option<usize>
     }
 }
 
-// Where the comment that is open at `from` ends.
+/// Where the comment that is open at `from` ends; `None` if it does not.
 #[inline(always)]
 fn comment_end(doc: &[u8], from: usize) -> Option<usize>
     requires { from + 28 ≤ length doc.now }
@@ -225,7 +237,8 @@ fn comment_end(doc: &[u8], from: usize) -> Option<usize>
     dashes_from(doc, from + 1)
 }
 
-// Where the instruction that is open at `from` ends: at the first '>', if a '?' stands before it.
+/// Where the instruction that is open at `from` ends: at the first '>' if '?' is before it, else by
+/// a search from there. `None` if it does not end.
 #[inline(always)]
 fn instruction_end(doc: &[u8], from: usize) -> Option<usize>
     requires { from + 28 ≤ length doc.now }
@@ -244,7 +257,8 @@ fn instruction_end(doc: &[u8], from: usize) -> Option<usize>
     }
 }
 
-// Whether a comment begins at `i`. By half a word: from a whole one the compiler would take the bytes that are compared next.
+/// Whether a comment begins at `i`. Only four bytes are loaded: out of eight, the compiler would
+/// also take the bytes that are compared next.
 fn comment_begins(doc: &[u8], i: usize) -> bool
     requires { i + 4 ≤ length doc.now }
     ensures { Stands (ascii "<!--") doc.now i result }
@@ -252,14 +266,14 @@ fn comment_begins(doc: &[u8], i: usize) -> bool
     half_at(doc, i) == 0x2d2d_213c
 }
 
-// Past the comments at `at`, one behind the other.
+/// The position past the comments at `at`, one behind the other, as far as 32 bytes are left.
 fn past_comments(doc: &[u8], at: usize) -> usize
     requires { at + 32 ≤ length doc.now }
     ensures { Passed doc.now at result }
 {
     let last = doc.len() - 32;
     let mut i = at;
-    // kept: a `while`, since its steps are comments.
+    // `while`: each turn consumes a comment.
     while i <= last {
         if !comment_begins(doc, i) {
             return i;
@@ -272,14 +286,14 @@ fn past_comments(doc: &[u8], at: usize) -> usize
     i
 }
 
-// Past the instructions at `at`, one behind the other.
+/// The position past the instructions at `at`, in the same way.
 fn past_instructions(doc: &[u8], at: usize) -> usize
     requires { at + 32 ≤ length doc.now }
     ensures { Passed doc.now at result }
 {
     let last = doc.len() - 32;
     let mut i = at;
-    // kept: a `while`, since its steps are instructions.
+    // `while`: each turn consumes an instruction.
     while i <= last {
         if !pair_stands(doc, i, b'<', b'?') {
             return i;
@@ -292,14 +306,14 @@ fn past_instructions(doc: &[u8], at: usize) -> usize
     i
 }
 
-// Past the declarations at `at`, one behind the other.
+/// The position past the declarations at `at`, in the same way, up to the first comment.
 fn past_declarations(doc: &[u8], at: usize) -> usize
     requires { at + 32 ≤ length doc.now }
     ensures { Passed doc.now at result }
 {
     let last = doc.len() - 32;
     let mut i = at;
-    // kept: a `while`, since its steps are declarations.
+    // `while`: each turn consumes a declaration.
     while i <= last {
         if !pair_stands(doc, i, b'<', b'!') {
             return i;
@@ -315,7 +329,7 @@ fn past_declarations(doc: &[u8], at: usize) -> usize
     i
 }
 
-// Past a row of the markup that begins at `at`.
+/// The position past the row of markup at `at`, of the kind that begins there.
 fn past_row(doc: &[u8], at: usize) -> usize
     requires { at + 32 ≤ length doc.now }
     ensures { Passed doc.now at result }
@@ -331,7 +345,7 @@ fn past_row(doc: &[u8], at: usize) -> usize
 
 // ---- anywhere in the document
 
-// Past the `n` bytes at `end`, or refused where nothing ends.
+/// The position behind the `n` bytes at `end`; the refusal if no end was found in the document.
 fn past_end(doc: &[u8], end: usize, n: usize, refusal: Refusal) -> Result<usize, Refusal>
     requires { n ≤ 8 }
     ensures { EndPassed doc.now end n refusal result }
@@ -342,7 +356,7 @@ fn past_end(doc: &[u8], end: usize, n: usize, refusal: Refusal) -> Result<usize,
     Err(refusal)
 }
 
-// Past the one piece of markup at `at`.
+/// The position past the one piece of markup at `at`. Refused (11 to 13) if it does not end.
 fn past_piece(doc: &[u8], at: usize) -> Result<usize, Refusal>
     requires { is_silent doc.now at ≡ true }
     ensures { PassedSome doc.now at result }
@@ -359,7 +373,7 @@ fn past_piece(doc: &[u8], at: usize) -> Result<usize, Refusal>
     past_end(doc, end, 1, Refusal::OpenDeclaration { at })
 }
 
-// Past the markup at `at`, and what of its row can be passed with it.
+/// The position past the markup at `at`, with the rest of its row where the hot loops apply.
 fn past_some(doc: &[u8], at: usize) -> Result<usize, Refusal>
     requires { is_silent doc.now at ≡ true }
     ensures { PassedSome doc.now at result }
@@ -373,19 +387,20 @@ fn past_some(doc: &[u8], at: usize) -> Result<usize, Refusal>
     past_piece(doc, at)
 }
 
-// Whether markup that is no event begins at `at`.
+/// Whether markup that is no event begins at `at`.
 fn is_silent(doc: &[u8], at: usize) -> bool
     ensures { result ≡ is_silent doc.now at }
 {
     texts::starts_with(doc, at, b"<!") || texts::starts_with(doc, at, b"<?")
 }
 
-// From `at` on past all markup that is no event, or refused where some of it does not end.
+/// The position past all markup at `at` that is no event; `at` itself if there is none. Refused (11
+/// to 13) if a piece does not end.
 pub(crate) fn past_silent(doc: &[u8], at: usize) -> Result<usize, Refusal>
     ensures { PassedAll doc.now at result }
 {
     let mut i = at;
-    // kept: a `while`, since its steps are pieces of markup.
+    // `while`: each turn consumes a piece or a row.
     while is_silent(doc, i) {
         i = past_some(doc, i)?;
     }

@@ -1,4 +1,4 @@
-//! The reader: a struct that holds the document and where it stands, and yields one event at a time.
+//! The reader: holds the document and where it stands, and yields one event at a time.
 #![tactic(auto, using(crate::proofs::Reading::reading))]
 
 ghost use Rattle.std.specs.Prelude.{◌≡◌, None};
@@ -13,7 +13,7 @@ use refusals::Refusal;
 use tags::tag::nothing;
 
 impl Owed {
-    /// The close, behind which the reader goes on at `at`.
+    /// The close event, behind which the reader goes on at `at`.
     fn close(self, at: usize) -> Read
         ensures { result ≡ bare (Close self.name self.len) self.place at }
     {
@@ -26,7 +26,7 @@ impl Owed {
 }
 
 impl Cursor {
-    /// What is read here, with no close owed: markup that is no event is passed first.
+    /// The next event, past markup that is no event; `None` at the end. No close is owed.
     fn read_on(self, doc: &[u8]) -> Result<Option<Read>, Refusal>
         requires { self.owed ≡ None }
         ensures { Asked doc.now self result }
@@ -39,7 +39,7 @@ impl Cursor {
         Ok(Some(read))
     }
 
-    /// What is read here: an event, or nothing at the end of the document.
+    /// The owed close, or else the next event; `None` at the document's end.
     fn read(self, doc: &[u8]) -> Result<Option<Read>, Refusal>
         ensures { Asked doc.now self result }
     {
@@ -58,7 +58,7 @@ pub struct Reader<'a> {
 }
 
 impl<'a> Reader<'a> {
-    /// Before the first byte of the document.
+    /// A reader that stands before the first byte of `doc`.
     pub fn new(doc: &'a [u8]) -> Reader<'a>
         ensures { (result.doc ≡ doc.entry) × (result.cursor ≡ cursor_at 0) }
     {
@@ -68,7 +68,8 @@ impl<'a> Reader<'a> {
         }
     }
 
-    /// The next event, the end of the document as `None`, or the refusal of what stands here. The reader has moved on behind an event.
+    /// The next event, `None` at the document's end, or the refusal of what stands here. An event
+    /// moves the reader; the end and a refusal leave it, and come again.
     pub fn next(&mut self) -> Result<Option<Told>, Refusal>
         ensures yields { Yields self.old self.new result }
         ensures moves { Advances self.old.doc.now self.old.cursor self.new.cursor result }

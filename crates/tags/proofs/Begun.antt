@@ -31,7 +31,7 @@ use Rattle.tags.proofs.Searching.{stands-within}
 use Rattle.tags.proofs.Naming.{prefix-within, lost-within, lost-fits, local-range}
 use Rattle.tags.proofs.Knowing.{up-each, starts-split}
 
--- ---- the known ones, by words
+-- ---- known raw names, compared as words
 
 module _ (doc : List ℕ) (at : ℕ) {behind code len : ℕ} {b : Bool} where
   pub begin-short : {kind : TagKind} {modulus front : ℕ} → StandsShort doc at modulus front b → KnownShort behind code kind len modulus front → b ≡ true → Opens behind doc at (record { code = code; kind = kind; len = len; lost = 0 })
@@ -119,7 +119,7 @@ says-schema = record { above = lit< tt; below = lit< tt; long = refl; prefix = r
 pub begin-schema : (behind : ℕ) (doc : List ℕ) (at : ℕ) {b : Bool} {w : List ℕ} → b ≡ starts_with w (drop at doc) → w ≡ tagged_text behind 11 → b ≡ true → Opens behind doc at (record { code = 11; kind = Schema; len = 17; lost = 4 })
 begin-schema behind doc at e t v = record { stands = sym (ap (λ (w : List ℕ). starts_with w (drop at doc)) t) ∙ sym e ∙ v; says = says-schema }
 
--- ---- such a raw name is what the general way finds
+-- ---- such a raw name is the one that the general way reads
 
 -- bytes that pass, up to one that fails
 count-to : (p : ℕ → Bool) (n : List ℕ) (b : ℕ) (r : List ℕ) → T (all p n) → p b ≡ false → count_while p (n ++ b ∷ r) ≡ length n

@@ -1,4 +1,4 @@
--- Laws of the numbers of names: which of them matter in a tag, and what is noted of an attribute by its number.
+-- Laws of codes: which names matter in a tag, and what is noted of an attribute by its code.
 use Rattle.tags.specs.declared.tag.Ending.{Ending}
 use Rattle.texts.specs.declared.Range.{Range}
 use Rattle.std.specs.Prelude.{Some, None, Option, Result, Ok, Err}
@@ -34,7 +34,7 @@ use Rattle.tags.proofs.Tagging.{Going, part-less, part-value, going_on, going_en
 use Rattle.tags.proofs.Looking.{found-value, Looking, looking-start, looking-on, looking-end, looking-bad}
 use Rattle.tags.proofs.Knowing.{up-each, goes, plain_name, known-plain, goes-all, goes_other}
 
--- ---- the numbers of the names that matter
+-- ---- the codes of the names that matter
 
 module _ {kind : TagKind} where
   pub codes-schema : kind ≡ Schema → CodesOf (keys_by kind) (record { first = 2; second = 8; third = 9; fourth = 0 })
@@ -53,7 +53,7 @@ module _ {kind : TagKind} where
   unfolding same
   codes-other e = rw e (record { first = tt; second = tt; third = tt; fourth = tt })
 
--- by the element's name: each b is what a comparison says
+-- by the element's name; each b is the result of a comparison
 module _ (name : List ℕ) {b₁ : Bool} (e₁ : b₁ ≡ same name (ascii "messageSchema")) where
   pub keys-schema : b₁ ≡ true → keys_by Schema ≡ keys_of name
   unfolding keys_of
@@ -112,7 +112,7 @@ module _ (code : ℕ) (h : 0 < code) (l : code < 18) (value len : ℕ) (key : Li
       rw (plain-space (known_name code) (known-plain code h l), plain_local (known_name code) (known-plain code h l), ← s)
       (by-test m (λ t. rw (hy, hz, t) (found-value value len)) (λ t. rw (hy, hz, t) refl))
 
--- each m is what the comparison with a number says
+-- each m is the result of a comparison with a code
 module _ (code : ℕ) (h : 0 < code) (l : code < 18) (value len : ℕ) (was : Notes) (cs : Codes) where
   pub known_more :
       {m₁ m₂ m₃ m₄ : Bool} → m₁ ≡ eqb code cs.first → m₂ ≡ eqb code cs.second → m₃ ≡ eqb code cs.third → m₄ ≡ eqb code cs.fourth →
@@ -129,7 +129,7 @@ module _ (code : ℕ) (h : 0 < code) (l : code < 18) (value len : ℕ) (was : No
 -- ---- each name on its own
 
 module _ (code : ℕ) (h : 0 < code) (l : code < 18) (value len : ℕ) (was : Notes) (cs : Codes) (a : Apart cs) (k : Keys) (t : CodesOf k cs) where
-  -- what a comparison with another number says, where one has said yes
+  -- the result of a comparison with another code, where one code is equal
   other : (c d : ℕ) → code ≡ c → eqb c d ≡ false → false ≡ eqb code d
   other c d e f = sym (ap (λ x. eqb x d) e ∙ f)
 
@@ -151,7 +151,7 @@ module _ (code : ℕ) (h : 0 < code) (l : code < 18) (value len : ℕ) (was : No
   pub known-nowhere : (code ≡ cs.first → ⊥) → (code ≡ cs.second → ⊥) → (code ≡ cs.third → ⊥) → (code ≡ cs.fourth → ⊥) → NotedMore (known_name code) value len k was was
   known-nowhere n o p q = known_more code h l value len was cs (sym (ne_eqb code cs.first n)) (sym (ne_eqb code cs.second o)) (sym (ne_eqb code cs.third p)) (sym (ne_eqb code cs.fourth q)) refl refl refl refl refl refl refl refl k t
 
--- the numbers of a kind's names are apart
+-- the codes of a kind's names differ
 pub apart-schema : Apart (record { first = 2; second = 8; third = 9; fourth = 0 })
 apart-schema = record { first-second = refl; first-third = refl; first-fourth = refl; second-third = refl; second-fourth = refl; third-fourth = λ h. refl }
 
@@ -203,7 +203,7 @@ module _ (raw : List ℕ) (value len : ℕ) {kind : TagKind} {was r : Notes} whe
   pub other-field : kind ≡ Other → NotedWith raw value len (ascii "id") (ascii "name") (ascii "type") [] was r → NotedMore raw value len (keys_by kind) was r
   other-field e n = rw e (record { first = n.0; second = n.1; third = n.2; fourth = n.3 })
 
--- ---- the loop of `tag_noting` stands at i; q is the part there
+-- ---- the loop of `tag_noting` is at i; q is the part there
 
 pub record LookingAll (doc : List ℕ) (at : ℕ) (k : Keys) (i : ℕ) (noted : Notes) : Type 0 where
   pub first : Looking doc at k.first i (found_at noted.first noted.len1)

@@ -1,4 +1,4 @@
--- Laws of the raw names that declare a namespace, told by a word.
+-- Laws of raw names that declare a namespace, compared as one word.
 use mathlib.Core.Path.{◌≡◌, refl, sym, ap, ◌∙◌}
 use mathlib.Core.Bool.{Bool, true, false}
 use mathlib.Core.List.{List, [], ◌∷◌, ◌++◌}

@@ -1,4 +1,4 @@
--- Laws of attributes that declare a namespace, which are passed by themselves.
+-- Laws of attributes that declare a namespace, which are skipped in a loop of their own.
 use Rattle.std.specs.Prelude.{Result, Ok, Err}
 use mathlib.Core.Path.{◌≡◌, refl, sym, ap, ◌∙◌}
 use mathlib.Core.Bool.{Bool, true, false}

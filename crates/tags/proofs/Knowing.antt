@@ -1,4 +1,4 @@
--- Laws of known attributes: what stands at a place is the part that the general way finds there.
+-- Laws of known attributes: the fast path reads the part that the general way reads.
 use Rattle.refusals.specs.declared.Refusal.{Refusal}
 use Rattle.std.specs.Prelude.{Some, None, Result}
 use mathlib.Core.Path.{◌≡◌, refl, sym, ap, subst, ◌∙◌}

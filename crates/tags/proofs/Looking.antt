@@ -76,7 +76,7 @@ module _ (doc : List ℕ) (raw n value len : ℕ) (key : List ℕ) (was long : �
       rw (f, ← z, ← s)
       (by-test m (λ t. rw (hy, hz, t) (found-value value len)) (λ t. rw (hy, hz, t) refl))
 
--- ---- a loop that looks a name up in the tag at `at` stands at i, and has found `found`; p is the part at i
+-- ---- a loop that looks a name up, from `at` on, is at i, with `found` so far; p is the part at i
 
 pub record Looking (doc : List ℕ) (at : ℕ) (name : List ℕ) (i : ℕ) (found : Option Range) : Type 0 where
   pub rest : later (last_of name (tag_at doc i 0).attributes) found ≡ attribute_at doc at name

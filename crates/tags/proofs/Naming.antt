@@ -68,7 +68,7 @@ module _ (doc : List ℕ) (a n : ℕ) {w : List ℕ} (e : w ≡ piece doc a n) {
 pub local-range : (doc : List ℕ) (a n : ℕ) → piece doc (a + prefix_length (piece doc a n)) (n - prefix_length (piece doc a n)) ≡ local_name (piece doc a n)
 local-range doc a n = sym (drop-piece doc a n (prefix_length (piece doc a n)))
 
--- ---- xmlns: b and c are what the comparisons say
+-- ---- xmlns; b and c are the results of the comparisons
 
 module _ (name : List ℕ) {b : Bool} (e : b ≡ same name (ascii "xmlns")) where
   pub xmlns-whole : b ≡ true → true ≡ is_xmlns name

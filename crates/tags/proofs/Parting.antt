@@ -1,4 +1,4 @@
--- Laws of one part of a tag, as its functions come to it: each premise is what a call or a test says.
+-- Laws of one part of a tag, case by case; each premise is the result of a call or a test.
 use Rattle.refusals.specs.declared.Refusal.{Refusal}
 use Rattle.std.specs.Prelude.{Result, Ok, Err}
 use mathlib.Core.Path.{◌≡◌}
@@ -41,7 +41,7 @@ module _ (quote : ℕ) (doc : List ℕ) (name n at place : ℕ) (h : at + 1 < le
       let w : at + 1 + 1 ≡ at + 2 = omega arith in
       rw (z, w) at (quoted-ends quote doc name n at place (byte-stop (byte-on scan-start (omega arith) d) (omega arith) e) (omega arith))
 
--- ---- a quoted value; b and c are what the comparisons with the quotes say, r what the function above returns
+-- ---- a quoted value; b and c are the results of the tests for a quote, r is that of the call
 
 module _ (doc : List ℕ) (name n at place : ℕ) {b : Bool} (e : b ≡ starts_with (ascii "\"") (drop at doc)) where
   pub value-double : b ≡ true → {r : Result TagPart Refusal} → r ≡ quoted_at 34 doc name n (at + 1) place → r ≡ value_at doc name n at place

@@ -1,4 +1,4 @@
--- The parts of a tag do not depend on its place, which refusals alone tell.
+-- Laws: the parts of a tag do not depend on its place, which only refusals hold.
 use Rattle.tags.specs.declared.tag.Ending.{Ending}
 use Rattle.std.specs.Prelude.{Result, Ok, Err}
 use mathlib.Core.Path.{◌≡◌, refl, ap, ◌∙◌}
@@ -18,7 +18,7 @@ use Rattle.tags.specs.declared.tag.TagPart.TheVariants.{Attribute as Part, TagEn
 use Rattle.tags.specs.Find.{stands}
 use Rattle.tags.specs.Attributes.{quoted_at, value_at, attribute_part_at, tag_part_at}
 
--- a part but for what a refusal says
+-- a part, all refusals being taken as one
 abbrev unplaced : Result TagPart Refusal → Result TagPart Refusal
 unplaced (Ok (Part name n value len next)) = Ok (Part name n value len next)
 unplaced (Ok (TagEnd ending)) = Ok (TagEnd ending)
@@ -74,7 +74,7 @@ is-end (Ok (Part name n value len next)) e = e
 is-end (Ok (TagEnd ending)) e = e
 is-end (Err refusal) e = absurd (let z : ◌≡◌ {A = ℕ} 0 1 = cc in omega arith)
 
--- the refusal at another place
+-- the refusal that a part is
 abbrev pub bad_of : Result TagPart Refusal → Refusal
 bad_of (Ok (Part name n value len next)) = OpenTag 0 0
 bad_of (Ok (TagEnd ending)) = OpenTag 0 0

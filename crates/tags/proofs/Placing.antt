@@ -1,4 +1,4 @@
--- The place that is handed to a tag's parts matters to refusals alone: its attributes are the same whatever it is.
+-- Laws: the attributes of a tag do not depend on its place, which only refusals hold.
 use Rattle.std.specs.Prelude.{Result, Ok, Err}
 use mathlib.Core.Path.{◌≡◌, refl}
 use mathlib.Core.List.{List}

@@ -1,4 +1,4 @@
--- Where the attributes of a tag lie: one behind the other, so that values looked up under different names do not overlap.
+-- Laws of ranges: a tag's attributes lie one behind the other, and their values do not overlap.
 use Rattle.tags.specs.declared.tag.Ending.{Ending}
 use Rattle.refusals.specs.declared.Refusal.{Refusal}
 use Rattle.texts.specs.declared.Range.{Range}

@@ -1,4 +1,4 @@
--- Laws of standing at a place and of searching: what the loop of `find` keeps, and where what was found lies.
+-- Laws of searching: what stands at a position, what the loop of `find` keeps, where a find lies.
 use Rattle.std.specs.Prelude.{Some, None}
 use mathlib.Core.Path.{◌≡◌, refl, sym, ◌∙◌}
 use mathlib.Core.Bool.{Bool, true, false}
@@ -19,12 +19,12 @@ use Rattle.texts.proofs.Comparing.{starts-length}
 use Rattle.texts.proofs.Scanning.{Scanning, scan-start, byte-on}
 use Rattle.tags.specs.Find.{find_in, find_from}
 
--- ---- what stands at a place lies within the document
+-- ---- what stands at a position lies within the document
 
 pub stands-within : (w doc : List ℕ) (i : ℕ) → starts_with w (drop i doc) ≡ true → 0 < length w → i + length w ≤ length doc
 stands-within w doc i t p = omega (arith, starts-length w (drop i doc) t, length-drop i doc)
 
--- b is what the comparison at i says: the place k bytes on is within, and fits
+-- a text stands at i (b): the position k bytes on is within the document, and fits
 module _ {b : Bool} (w doc : List ℕ) (i k : ℕ) (e : b ≡ starts_with w (drop i doc)) (t : b ≡ true) (p : T (ltb 0 (length w))) (q : T (leb k (length w))) where
   pub stands_on : i + k ≤ length doc
   stands_on = omega (arith, stands-within w doc i (sym e ∙ t) (lit< p), leb→le k (length w) q)
@@ -32,12 +32,12 @@ module _ {b : Bool} (w doc : List ℕ) (i k : ℕ) (e : b ≡ starts_with w (dro
   pub stands-fits : length doc < 2 ^ 64 → Fits w64 (i + k)
   stands-fits l = omega (arith, stands_on)
 
--- one byte that stands at a place
+-- one byte that stands at a position
 pub byte-stands : (b : ℕ) (doc : List ℕ) (i : ℕ) → i < length doc → get_or doc i 0 ≡ b → starts_with (b ∷ []) (drop i doc) ≡ true
 unfolding starts_with
 byte-stands b doc i h e = rw (drop-cons doc i 0 h, eq-eqb (get_or doc i 0) b e, starts_with)
 
--- a scan that starts within the document ends there, and one up to a byte that does not stand at its start moves
+-- a scan from within the document ends there; one for a byte moves if that is not at its start
 count-within : (p : ℕ → Bool) (s : List ℕ) → count_while p s ≤ length s
 count-within p [] = zero-le
 count-within p (x ∷ xs) = by-test (p x) (λ t. rw (t, count_while) (suc-le-suc (count-within p xs))) (λ f. rw (f, count_while) zero-le)
@@ -66,14 +66,14 @@ pub find_none : (n : List ℕ) (k : ℕ) → starts_with n [] ≡ false → find
 unfolding find_in
 find_none n k t = rw (t, find_in)
 
--- a loop that searches doc for n from `from` on stands at i
+-- the loop that searches doc for n from `from` on is at i
 pub record Searching (n doc : List ℕ) (from i : ℕ) : Type 0 where
   pub rest : find_from n doc i ≡ find_from n doc from
 
 pub search-start : {n doc : List ℕ} {from : ℕ} → Searching n doc from from
 search-start = record { rest = refl }
 
--- b is what the comparison at i says
+-- b: whether n stands at i
 module _ {n doc : List ℕ} {from i : ℕ} {b : Bool} (inv : Searching n doc from i) (e : b ≡ starts_with n (drop i doc)) where
   pub search-found : b ≡ true → Some i ≡ find_from n doc from
   search-found t = sym (find-here n (drop i doc) i (sym e ∙ t)) ∙ inv.rest

@@ -1,4 +1,4 @@
--- Laws of a raw name that is walked once, for its end and its first colon.
+-- Laws of a raw name that is scanned once, for its end and its first colon.
 use mathlib.Core.Path.{◌≡◌, refl, sym, ap, subst, ◌∙◌}
 use mathlib.Core.Bool.{Bool, true, false, not}
 use mathlib.Core.List.{List, [], ◌∷◌}

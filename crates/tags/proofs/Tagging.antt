@@ -1,4 +1,4 @@
--- Laws of a whole tag: where its parts lie, that the fuel is enough, and what the loop of `tag_noting` keeps of its end.
+-- Laws of a whole tag: where its parts lie, that the fuel is enough, and where the tag ends.
 use Rattle.tags.specs.declared.tag.Ending.{Ending}
 use Rattle.std.specs.Prelude.{Result, Ok, Err}
 use mathlib.Core.Path.{◌≡◌, refl, sym, ap, ◌∙◌}
@@ -113,7 +113,7 @@ module _ (doc : List ℕ) (at place : ℕ) where
   pub tag-bad : {refusal : Refusal} → tag_part_at doc at place ≡ Err refusal → tag_at doc at place ≡ record { attributes = []; ending = Err refusal }
   tag-bad e = rw add-one (within-bad no_tag (length doc) doc at place e)
 
--- ---- the loop that goes for a tag's end stands at i; p is the part there
+-- ---- the loop over a tag's parts is at i; p is the part there
 
 pub record Going (doc : List ℕ) (at place i : ℕ) : Type 0 where
   pub rest : (tag_at doc i place).ending ≡ (tag_at doc at place).ending

@@ -1,4 +1,4 @@
--- Laws of the comparison with a known name, by words.
+-- Laws of comparing the document with a known name, eight bytes at once.
 use mathlib.Core.Path.{◌≡◌, refl, sym, ◌∙◌}
 use mathlib.Core.Bool.{Bool, true}
 use mathlib.Core.List.{List}
@@ -89,7 +89,7 @@ pub told-byteorder : ToldLong 16 12 7306090180831902050 16777216 2243954
 unfolding word_of
 told-byteorder = record { above = lit< tt; below = lit< tt; ahead = refl; text = record { eight = refl; number = refl; bytes = tt; rest = record { few = leb→le 3 8 tt; power = refl; number = refl; bytes = tt } } }
 
--- a power of 256 is no zero
+-- a power of 256 is not 0
 module _ {code skip modulus : ℕ} where
   pub short-power : {front : ℕ} → ToldShort code skip modulus front → 0 < modulus
   short-power t = power-some t.text

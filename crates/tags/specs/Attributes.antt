@@ -1,4 +1,4 @@
--- Attributes: the parts of a tag, one after the other, up to its end; and the look-up of a name.
+-- Rules: Markup. A tag: its parts, one after the other, up to its end; and the look-up of a name.
 use Rattle.std.specs.Prelude.{true, false, List, [], ◌∷◌, ℕ, zero, suc, ◌+◌, ◌-◌, eqb, ltb, leb, length, Option, Some, None, Result, Ok, Err}
 use Rattle.texts.specs.Choice.{pick}
 use Rattle.texts.specs.Text.{piece, same}
@@ -13,22 +13,22 @@ use Rattle.tags.specs.declared.tag.Ending.{Ending}
 use Rattle.tags.specs.Find.{stands}
 use Rattle.tags.specs.Names.{local_name, is_xmlns}
 
--- ---- one part of a tag; place is the tag's '<'
+-- ---- one part of a tag, due at `at`; refusals hold `place`, the tag's '<'
 
--- a value's first byte is due at `at`, and its end is the next such quote
+-- the value runs from `at` to the next such quote (else 20); the raw name is n bytes at `name`
 unfoldable pub quoted_at : ℕ → List ℕ → ℕ → ℕ → ℕ → ℕ → Result TagPart Refusal
 quoted_at quote doc name n at place =
     let end = scan (until (is quote)) doc at in
     pick (ltb end (length doc)) (Ok (Part name n at (end - at) (end + 1))) (Err (OpenValue at place))
 
--- a quoted value is due
+-- a value between two quotes (34) or two apostrophes (39) is due; 19 without one
 unfoldable pub value_at : List ℕ → ℕ → ℕ → ℕ → ℕ → Result TagPart Refusal
 value_at doc name n at place =
     pick (stands "\"" doc at) (quoted_at 34 doc name n (at + 1) place)
     (pick (stands "'" doc at) (quoted_at 39 doc name n (at + 1) place)
     (Err (NoQuote at place)))
 
--- an attribute is due: its name, spaces, '=', spaces, its value
+-- an attribute is due: a name that is not empty (else 17), spaces, '=' (else 18), spaces, its value
 unfoldable pub attribute_part_at : List ℕ → ℕ → ℕ → Result TagPart Refusal
 attribute_part_at doc at place =
     let end = scan (until is_attribute_name_end) doc at in
@@ -37,7 +37,7 @@ attribute_part_at doc at place =
     (pick (stands "=" doc equals) (value_at doc at (end - at) (scan is_space doc (equals + 1)) place)
     (Err (NoEquals equals place)))
 
--- after spaces an attribute, '/>' or '>' is due
+-- behind spaces '>', '/>' or an attribute is due; 16 if the document ends
 unfoldable pub tag_part_at : List ℕ → ℕ → ℕ → Result TagPart Refusal
 tag_part_at doc at place =
     let i = scan is_space doc at in
@@ -48,7 +48,7 @@ tag_part_at doc at place =
 
 -- ---- a whole tag
 
--- an attribute: its local name, and where its raw value lies in the document
+-- an attribute that counts: its local name, and where its raw value lies in the document
 pub record Attribute : Type 0 where
   pub name : List ℕ
   pub from : ℕ
@@ -59,7 +59,7 @@ pub record Tag : Type 0 where
   pub attributes : List Attribute
   pub ending : Result Ending Refusal
 
--- one more attribute before what follows; `xmlns` and `xmlns:...` are dropped
+-- one more attribute before those of `rest`; `xmlns` and `xmlns:...` are dropped
 unfoldable pub with_part : List ℕ → ℕ → ℕ → ℕ → ℕ → Tag → Tag
 with_part doc name n value len rest =
     record {
@@ -69,8 +69,8 @@ with_part doc name n value len rest =
       ending = rest.ending;
     }
 
--- A tag of at most k parts, and what is `spent` where these are used up. Each part takes a byte, so that one more than the document's
--- length is never used up: what is spent then does not matter.
+-- a tag of at most k parts, and what is `spent` where these are used up: each part takes a byte, so
+-- k above the document's length is always enough, and `spent` does not matter
 unfoldable pub tag_within : Tag → ℕ → List ℕ → ℕ → ℕ → Tag
 tag_within spent zero doc at place = spent
 tag_within spent (suc k) doc at place =
@@ -83,28 +83,32 @@ tag_within spent (suc k) doc at place =
 abbrev pub no_tag : Tag
 no_tag = record { attributes = []; ending = Err (OpenTag 0 0) }
 
+-- the tag whose attributes begin at `at`
 abbrev pub tag_at : List ℕ → ℕ → ℕ → Tag
 tag_at doc at place = tag_within no_tag (length doc + 1) doc at place
 
--- ---- the look-up: of equal attribute names the last counts
+-- ---- the look-up of a name
 
+-- of two values under one name the later counts
 abbrev pub later : Option Range → Option Range → Option Range
 later (Some found) earlier = Some found
 later None earlier = earlier
 
+-- the raw value of the last attribute of that name, if there is one
 unfoldable pub last_of : List ℕ → List Attribute → Option Range
 last_of name [] = None
 last_of name (a ∷ more) = later (last_of name more) (pick (same a.name name) (Some (record { from = a.from; len = a.len })) None)
 
--- the raw value of the last attribute of that name in the tag whose attributes begin at `at` (the place matters to refusals alone)
+-- the same in the tag whose attributes begin at `at`. The place, here 0, matters to refusals alone
 unfoldable pub attribute_at : List ℕ → ℕ → List ℕ → Option Range
 attribute_at doc at name = last_of name (tag_at doc at 0).attributes
 
--- how many bytes of the document a raw value takes; and all of those looked up under some names
+-- how many bytes of the document a raw value takes
 abbrev pub raw_length : Option Range → ℕ
 raw_length (Some found) = found.len
 raw_length None = 0
 
+-- and all those that are found under some names
 abbrev pub raw_lengths : List ℕ → ℕ → List (List ℕ) → ℕ
 raw_lengths doc at [] = 0
 raw_lengths doc at (name ∷ names) = raw_length (attribute_at doc at name) + raw_lengths doc at names

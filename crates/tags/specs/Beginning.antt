@@ -1,4 +1,4 @@
--- Where a tag begins: its raw name, and what that says. Some are known beforehand, by numbers from 1 on. Internal.
+-- How a tag begins: its raw name, of which some are known, with codes from 1 on. Internal.
 use Rattle.std.specs.Prelude.{◌≡◌, true, List, [], ◌∷◌, ◌++◌, ℕ, ◌+◌, ◌-◌, ◌<◌, length, drop, Option, Some, None}
 use Rattle.texts.specs.Text.{ascii, piece, starts_with}
 use Rattle.texts.specs.Scan.{scan, until}
@@ -12,14 +12,15 @@ use Rattle.tags.specs.Names.{prefix_length, local_name}
 use Rattle.tags.specs.Noting.{keys_of}
 use Rattle.tags.specs.Known.{nth, keys_by}
 
+-- the raw name of a code
 abbrev pub raw_name : ℕ → List ℕ
 raw_name = nth ([] ∷ ascii "field" ∷ ascii "type" ∷ ascii "enum" ∷ ascii "group" ∷ ascii "ref" ∷ ascii "validValue" ∷ ascii "composite" ∷ ascii "sbe:message" ∷ ascii "message" ∷ ascii "types" ∷ ascii "sbe:messageSchema" ∷ [])
 
--- as it is nearly always written: a space behind it where a tag opens, '>' where one closes
+-- with the byte behind it: nearly always a space where a tag opens, '>' where one closes
 abbrev pub tagged_text : ℕ → ℕ → List ℕ
 tagged_text behind code = raw_name code ++ behind ∷ []
 
--- what such a raw name says: its length, that of its prefix, and the names that matter
+-- what a known raw name says: its length, that of its prefix, and the names that matter
 pub record Says (code : ℕ) (kind : TagKind) (len lost : ℕ) : Type 0 where
   pub above : 0 < code
   pub below : code < 12
@@ -27,26 +28,27 @@ pub record Says (code : ℕ) (kind : TagKind) (len lost : ℕ) : Type 0 where
   pub prefix : lost ≡ prefix_length (raw_name code)
   pub matter : keys_by kind ≡ keys_of (local_name (raw_name code))
 
--- k stands at `at` with that byte behind it
+-- k's raw name stands at `at`, with that byte behind it
 pub record Opens (behind : ℕ) (doc : List ℕ) (at : ℕ) (k : Opening) : Type 0 where
   pub stands : starts_with (tagged_text behind k.code) (drop at doc) ≡ true
   pub says : Says k.code k.kind k.len k.lost
 
--- none, or what stands at `at` with that byte behind it
+-- none, or a known beginning at `at`
 abbrev pub KnownBeginning : ℕ → List ℕ → ℕ → Option Opening → Type 0
 KnownBeginning behind doc at None = Unit {0}
 KnownBeginning behind doc at (Some k) = Opens behind doc at k
 
--- the numbers by which such a text is told by words
+-- such a text of at most one word, by its integers
 pub record KnownShort (behind code : ℕ) (kind : TagKind) (len modulus front : ℕ) : Type 0 where
   pub says : Says code kind len 0
   pub text : ShortText (tagged_text behind code) modulus front
 
+-- and one of two words
 pub record KnownLong (behind code len lost front modulus back : ℕ) : Type 0 where
   pub says : Says code Other len lost
   pub text : LongText (tagged_text behind code) front modulus back
 
--- of the tag whose raw name is due at `name`
+-- r is the beginning of the tag whose raw name is due at `name`
 pub record BeginsAt (doc : List ℕ) (name : ℕ) (r : Beginning) : Type 0 where
   pub ends : r.end ≡ scan (until is_tag_name_end) doc name
   pub lost : r.lost ≡ prefix_length (piece doc name (r.end - name))

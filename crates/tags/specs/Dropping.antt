@@ -5,13 +5,13 @@ use Rattle.tags.specs.declared.tag.TagPart.{TagPart}
 use Rattle.tags.specs.declared.tag.TagPart.TheVariants.{Attribute as Part, TagEnd}
 use Rattle.tags.specs.Attributes.{tag_at}
 
--- where a part ends that is an attribute, and `at` for any other
+-- where an attribute ends; `at` for any other part
 abbrev pub next_of : Result TagPart Refusal → ℕ → ℕ
 next_of (Ok (Part name n value len next)) at = next
 next_of (Ok (TagEnd ending)) at = at
 next_of (Err refusal) at = at
 
--- a tag is the same from r on as it is from `at` on
+-- a tag is the same from r on as from `at` on, and r is `at` or further on in the document
 pub record Unchanged (doc : List ℕ) (at r : ℕ) : Type 0 where
   pub forward : at ≤ r
   pub within : at < r → r ≤ length doc

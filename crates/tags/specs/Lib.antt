@@ -1,4 +1,4 @@
--- Names, attributes and tags.
+-- Names, attributes and tags. A customer reads Find, Names and Attributes; the others are internal.
 pub mod Find
 pub mod Names
 pub mod Attributes

@@ -1,8 +1,8 @@
-// Where a tag begins: its raw name, and what that says. Nearly every tag of a schema is of one of eleven names, written with a
-// space behind it, or with '>' where it closes: that is told by one comparison, with no walk for the name's end, a colon or the
-// names that matter.
-//
-// kept: the numbers of a text are parameters, and the room for two words is asked of the caller, as in `known`.
+//! Where a tag begins: its raw name, its prefix, and which attribute names matter. Nearly every tag
+//! of a schema has one of eleven raw names, with a space behind it, or '>' where it closes:
+//! comparing one or two words of eight bytes finds it. Any other raw name is scanned.
+//!
+//! As in `known`, a text to compare is given by integers, and callers test for sixteen bytes.
 #![tactic(auto, using(crate::proofs::Laws::beginning))]
 
 ghost use Rattle.std.specs.Prelude.{◌≡◌, ◌+◌, ◌≤◌, length};
@@ -13,9 +13,8 @@ use crate::tag::TagKind::{Enum, Other, Schema, Type};
 use crate::tag::{TagKind, kind_of};
 use words::{stands_long, stands_short};
 
-// A beginning that is known: the number of its raw name (specs/Beginning.antt), which names matter there, and the lengths of
-// the raw name and of its prefix.
-// kept: a number for a raw name, for the same reason as in `known`.
+/// A known beginning: the code of its raw name (specs/Beginning.antt; a number, as in `known`),
+/// which names matter there, and the lengths of the raw name and of its prefix.
 #[derive(Clone, Copy)]
 pub struct Opening {
     pub code: usize,
@@ -24,7 +23,7 @@ pub struct Opening {
     pub lost: usize,
 }
 
-// Any beginning: where the raw name ends, the length of its prefix, and which names matter.
+/// Any beginning: where the raw name ends, the length of its prefix, and which names matter.
 #[derive(Clone, Copy)]
 pub struct Beginning {
     pub end: usize,
@@ -32,8 +31,8 @@ pub struct Beginning {
     pub kind: TagKind,
 }
 
-// The raw name of a number, where it stands at `at` with `behind` behind it: a text of less than eight bytes. That byte is
-// in the numbers already, and named for the contract.
+/// The beginning of this code, if its raw name stands at `at` with `behind` behind it: less than
+/// eight bytes. The integers hold `behind` too; as a parameter it serves the contract alone.
 fn opening_short(
     doc: &[u8],
     at: usize,
@@ -59,7 +58,7 @@ fn opening_short(
     }
 }
 
-// The same for a text of 8 to 15 bytes.
+/// As `opening_short`, for a text of 8 to 15 bytes in a tag of kind `Other`.
 fn opening_long(
     doc: &[u8],
     at: usize,
@@ -86,8 +85,9 @@ fn opening_long(
     }
 }
 
-// The two raw names with a prefix, where one stands at `at` with `behind` behind it: `back` is the number of the first one's
-// last bytes, and `schema` the second one, which is longer than two words.
+/// One of the two raw names with a prefix, if it stands at `at` with `behind` behind it:
+/// "sbe:message", whose last bytes and `behind` are `back`, or "sbe:messageSchema", longer than two
+/// words, which with `behind` is `schema`.
 fn prefixed_at(doc: &[u8], at: usize, behind: u8, back: u64, schema: &[u8]) -> Option<Opening>
     requires { (at + 16 ≤ length doc.now) × KnownLong behind 8 11 4 8319104456489001587 4294967296 back × (schema.now ≡ tagged_text behind 11) }
     ensures { KnownBeginning behind doc.now at result }
@@ -118,7 +118,7 @@ fn prefixed_at(doc: &[u8], at: usize, behind: u8, back: u64, schema: &[u8]) -> O
     }
 }
 
-// The known beginning at `at`, by its first letter.
+/// The known raw name at `at` with a space behind it, by its first letter.
 fn opening_by(doc: &[u8], at: usize) -> Option<Opening>
     requires { at + 16 ≤ length doc.now }
     ensures { KnownBeginning 32 doc.now at result }
@@ -177,7 +177,7 @@ fn opening_by(doc: &[u8], at: usize) -> Option<Opening>
     }
 }
 
-// The known beginning at `at`; none is looked for in the last 15 bytes.
+/// The known raw name at `at` with a space behind it. Always `None` in the last 15 bytes.
 fn opening_at(doc: &[u8], at: usize) -> Option<Opening>
     ensures { KnownBeginning 32 doc.now at result }
 {
@@ -187,7 +187,7 @@ fn opening_at(doc: &[u8], at: usize) -> Option<Opening>
     opening_by(doc, at)
 }
 
-// The beginning of the tag whose raw name is due at `name`.
+/// The beginning of the tag whose raw name is due at `name`.
 pub fn begin_at(doc: &[u8], name: usize) -> Beginning
     requires { name ≤ length doc.now }
     ensures { BeginsAt doc.now name result }
@@ -199,7 +199,7 @@ pub fn begin_at(doc: &[u8], name: usize) -> Beginning
             kind: known.kind,
         };
     }
-    // The one tag that nearly every schema has without attributes.
+    // "types>": nearly every schema has this tag, without attributes.
     if name + 8 <= doc.len() {
         if let Some(types) = opening_short(
             doc,
@@ -228,7 +228,7 @@ pub fn begin_at(doc: &[u8], name: usize) -> Beginning
     }
 }
 
-// The known raw name at `at` with '>' behind it, by its first letter.
+/// The known raw name at `at` with '>' behind it, by its first letter.
 fn closing_by(doc: &[u8], at: usize) -> Option<Opening>
     requires { at + 16 ≤ length doc.now }
     ensures { KnownBeginning 62 doc.now at result }
@@ -285,8 +285,8 @@ fn closing_by(doc: &[u8], at: usize) -> Option<Opening>
     }
 }
 
-// The same; none is looked for in the last 15 bytes.
-// kept: one function for both beginnings takes 3 % more instructions, as it then has two callers.
+/// The known raw name at `at` with '>' behind it. Always `None` in the last 15 bytes. One function
+/// for this and `opening_at` would have two callers, which takes 3 % more instructions.
 pub fn closing_at(doc: &[u8], at: usize) -> Option<Opening>
     ensures { KnownBeginning 62 doc.now at result }
 {

@@ -1,8 +1,11 @@
-// Attributes whose names are known beforehand. Nearly every attribute of a schema is one of these, written `name="`:
-// it is told by one comparison, with no walk for the name's end, a colon or the names that matter.
-//
-// kept: the numbers of a text (`modulus`, `front`, `back`) and of its name (`code`, `skip`) are parameters, constants at each call. A struct
-// of them would be written out at each call as well; and the room for two words is asked of the caller, who tests it once for all.
+//! Attributes with well-known names. Nearly every attribute of a schema has one of seventeen names,
+//! written `name="`: comparing one or two words of eight bytes finds it, with no scan for the
+//! name's end or a colon and no comparison with the names that matter.
+//!
+//! A text to compare is given by little-endian integers: `front` is its first eight bytes or fewer,
+//! `back` those behind them, and `modulus` is 256 to the number of bytes in the last of the two.
+//! They are parameters, not a struct: constants at each call. The caller tests once, for all names,
+//! that sixteen bytes are there.
 #![tactic(auto, using(crate::proofs::Laws::telling))]
 
 ghost use Rattle.std.specs.Prelude.{◌≡◌, ◌+◌, ◌≤◌, length};
@@ -11,18 +14,17 @@ ghost use Rattle.tags.specs.Known.{KnownAt, keys_by, CodesOf, Apart, ToldShort, 
 use crate::tag::TagKind;
 use words::{stands_long, stands_short};
 
-// A known attribute: the number of its name (specs/Known.antt), and how far the value's first byte is from the space before
-// the name: the name's length and 3, so that one addition finds the value.
-// kept: a number for a name. The proofs compute over all of them (`up_to`, specs/Known.antt), and an enum would be numbered again
-// for that.
+/// A known attribute: the code of its name (specs/Known.antt), and how far its value is from the
+/// space before the name, which is the name's length and 3: one addition finds the value. The code
+/// is a number, not an enum, since the proofs compute over all codes.
 #[derive(Clone, Copy)]
 pub struct Known {
     pub code: usize,
     pub skip: usize,
 }
 
-// The numbers of the four names that matter in a tag; 0 where a name is not known.
-// kept: as an Option each would be two comparisons, of a tag and of a number, at each attribute.
+/// The codes of the four names that matter in a tag, 0 for none. Numbers, not options, which would
+/// take two comparisons for each attribute.
 #[derive(Clone, Copy)]
 pub struct Codes {
     pub first: usize,
@@ -31,6 +33,7 @@ pub struct Codes {
     pub fourth: usize,
 }
 
+/// The codes of the names that matter in a tag of this kind.
 pub fn codes_of(kind: TagKind) -> Codes
     ensures are { CodesOf (keys_by kind) result }
     ensures apart { Apart result }
@@ -63,7 +66,8 @@ pub fn codes_of(kind: TagKind) -> Codes
     }
 }
 
-// The name of a number, where it stands at `at` with '=' and '"' behind it: a text of less than eight bytes.
+/// The attribute of this code, if its text of less than eight bytes (name, '=' and '"') stands at
+/// `at`; `skip` is the name's length and 3.
 fn known_short(
     doc: &[u8],
     at: usize,
@@ -82,7 +86,7 @@ fn known_short(
     }
 }
 
-// The same for a text of 8 to 15 bytes.
+/// As `known_short`, for a text of 8 to 15 bytes.
 fn known_long(
     doc: &[u8],
     at: usize,
@@ -102,7 +106,7 @@ fn known_long(
     }
 }
 
-// And for the two that are longer.
+/// As `known_short`, for the two texts that are longer than two words.
 fn known_text(doc: &[u8], at: usize, code: usize, skip: usize, text: &[u8]) -> Option<Known>
     requires { ToldText code skip text.now }
     ensures { KnownAt doc.now at result }
@@ -114,7 +118,7 @@ fn known_text(doc: &[u8], at: usize, code: usize, skip: usize, text: &[u8]) -> O
     }
 }
 
-// Where more than one name has a first letter: primitiveType, presence, package.
+/// The known attribute at `at`, by those that begin with 'p': primitiveType, presence, package.
 fn known_p(doc: &[u8], at: usize) -> Option<Known>
     requires { at + 16 ≤ length doc.now }
     ensures { KnownAt doc.now at result }
@@ -138,7 +142,7 @@ fn known_p(doc: &[u8], at: usize) -> Option<Known>
     known_long(doc, at, 9, 10, 0x3d65_6761_6b63_6170, 0x100, 0x22)
 }
 
-// semanticType, sinceVersion, semanticVersion.
+/// By those that begin with 's': semanticType, sinceVersion, semanticVersion.
 fn known_s(doc: &[u8], at: usize) -> Option<Known>
     requires { at + 16 ≤ length doc.now }
     ensures { KnownAt doc.now at result }
@@ -170,7 +174,7 @@ fn known_s(doc: &[u8], at: usize) -> Option<Known>
     known_text(doc, at, 17, 18, b"semanticVersion=\"")
 }
 
-// blockLength, byteOrder.
+/// By those that begin with 'b': blockLength, byteOrder.
 fn known_b(doc: &[u8], at: usize) -> Option<Known>
     requires { at + 16 ≤ length doc.now }
     ensures { KnownAt doc.now at result }
@@ -198,7 +202,7 @@ fn known_b(doc: &[u8], at: usize) -> Option<Known>
     )
 }
 
-// The known attribute that stands at `at`, by its first letter. The numbers are those of the bytes of name, '=' and '"'.
+/// The known attribute at `at`, by its first letter. The integers hold name, '=' and '"'.
 fn known_by(doc: &[u8], at: usize) -> Option<Known>
     requires { at + 16 ≤ length doc.now }
     ensures { KnownAt doc.now at result }
@@ -236,7 +240,7 @@ fn known_by(doc: &[u8], at: usize) -> Option<Known>
     }
 }
 
-// The known attribute that stands at `at`; none is looked for in the last 15 bytes.
+/// The known attribute at `at`. Always `None` in the last 15 bytes, which two words do not fit.
 pub fn known_at(doc: &[u8], at: usize) -> Option<Known>
     requires { at ≤ length doc.now }
     ensures { KnownAt doc.now at result }

@@ -1,16 +1,18 @@
-// Tags, by position: names, attributes, and a whole tag up to its end.
-//
-// `scan` passes spaces and names and searches. `tag::tag_part` tells one part of a tag: an attribute, the tag's end, or a
-// refusal (16 to 20). `tag::attribute` looks a name up, and `tag::tag_noting` reads a tag to its end and notes the values that
-// its element looks up. `known` and `beginning` tell the names that nearly every tag of a schema has by a word or two; the
-// general way answers for all others. `namespaces` passes attributes that declare a namespace.
-//
-// `tag_part` and `attribute` require nothing of a caller. Each promise is with a definition of specs/, on all inputs:
-// specs/Find.antt, specs/Names.antt and specs/Attributes.antt. What is noted is specs/Noting.antt. A tag's values lie within the tag,
-// without overlap (proofs/Ranges.antt).
-//
-// kept: a document and a place in it are two parameters, here and in saxlite, elements and numbers. A place is what a caller goes on
-// from; a struct of both would be made at each call and taken apart at once. The reader, which goes on by itself, is one.
+//! Tags of a document, by position: names, attributes, and a whole tag up to its end.
+//!
+//! `tag::tag_part` reads one part of a tag: an attribute, the tag's end, or a refusal (16 to 20).
+//! `tag::attribute` looks one name up, and `tag::tag_noting` reads a tag to its end and notes the
+//! values that its element looks up. `scan` skips spaces and names and searches. `known` and
+//! `beginning` are the fast paths: they find names that nearly every schema has by comparing eight
+//! bytes at once (SWAR), and leave all others to the general way. `namespaces` skips attributes
+//! that declare a namespace.
+//!
+//! `tag_part` and `attribute` require nothing of a caller, and equal definitions on all inputs:
+//! specs/Find.antt, Names.antt, Attributes.antt; for what is noted, Noting.antt. The values of a
+//! tag lie within it and do not overlap (proofs/Ranges.antt).
+//!
+//! A document and a position are two parameters, not a struct: a caller goes on from the position,
+//! so that the struct would be built at each call and taken apart at once.
 #![tactic(auto)]
 
 pub mod beginning;

@@ -1,5 +1,5 @@
-// Past attributes that declare a namespace: they change nothing of a tag, and stand in rows. Here one takes no part of a tag and no
-// notes, which takes half the time.
+//! Skips attributes that declare a namespace (`xmlns`, `xmlns:..`). They add nothing to a tag and
+//! often stand in rows. This loop makes neither parts nor notes of them, which halves the time.
 #![tactic(auto, using(crate::proofs::Dropping::dropping))]
 
 ghost use Rattle.std.specs.Prelude.{◌≡◌, ℕ, ◌≤◌, length};
@@ -8,8 +8,8 @@ ghost use Rattle.tags.specs.Dropping.{Unchanged, next_of};
 
 use crate::scan::{attribute_name_end, byte_from, is_xmlns_at, skip_space};
 
-// Past the value whose first byte is due at `from`, up to the next `quote`, or `at`, where none ends. An empty value and one of a
-// single byte are told at once.
+/// The position past the value that starts at `from`, behind the next `quote`; `at` if there is
+/// none. An empty value and one of a single byte need no search.
 #[inline(always)]
 fn past_quoted(doc: &[u8], at: usize, from: usize, quote: u8) -> usize
     requires { from ≤ length doc.now }
@@ -27,7 +27,7 @@ fn past_quoted(doc: &[u8], at: usize, from: usize, quote: u8) -> usize
     if end < doc.len() { end + 1 } else { at }
 }
 
-// Past the quoted value that is due at `from`, or `at`.
+/// The position past the quoted value that is due at `from`; `at` if there is none.
 fn past_value(doc: &[u8], at: usize, from: usize) -> usize
     ensures { (name n : ℕ) → result ≡ next_of (value_at doc.now name n from 0) at }
 {
@@ -40,7 +40,8 @@ fn past_value(doc: &[u8], at: usize, from: usize) -> usize
     at
 }
 
-// Past the attribute at `at`, where it declares a namespace.
+/// The position past the attribute at `at` if it declares a namespace, else `at`. Gives `at` as
+/// well where fewer than 16 bytes are left: the general way reads those.
 fn past_declaration(doc: &[u8], at: usize) -> usize
     ensures { Unchanged doc.now at result }
 {
@@ -48,7 +49,7 @@ fn past_declaration(doc: &[u8], at: usize) -> usize
     if doc.len() <= i {
         return at;
     }
-    // With room for two words here, none is asked for by what is called below.
+    // With 16 bytes left, the calls that are inlined below need no test for room.
     if doc.len() < 16 || doc.len() - 16 < i {
         return at;
     }
@@ -69,13 +70,13 @@ fn past_declaration(doc: &[u8], at: usize) -> usize
     past_value(doc, at, skip_space(doc, equals + 1))
 }
 
-// Past all that stand at `at`, one after the other.
+/// The position past all namespace declarations at `at`, one after the other.
 #[inline(never)]
 fn past_row(doc: &[u8], at: usize) -> usize
     ensures { Unchanged doc.now at result }
 {
     let mut i = at;
-    // kept: a `loop`, whose steps are attributes.
+    // `loop`: each turn consumes an attribute.
     loop {
         let next = past_declaration(doc, i);
         if next == i {
@@ -85,8 +86,8 @@ fn past_row(doc: &[u8], at: usize) -> usize
     }
 }
 
-// The same, from a function of its own: a slice that is lent on to a call is kept in memory by the compiler wherever its lender
-// uses it, and the lender of this one is the loop over a tag.
+/// As `past_row`. A function of its own because the compiler keeps a slice in memory throughout a
+/// function that passes it to a call, and otherwise that would be the hot loop over a tag.
 pub fn past_declarations(doc: &[u8], at: usize) -> usize
     ensures { Unchanged doc.now at result }
 {

@@ -1,4 +1,4 @@
-// What is noted of a tag with one more attribute: its value, under the names that matter there.
+//! What one more attribute adds to a tag's notes: its value, if its name matters there.
 #![tactic(auto, using(crate::proofs::Laws::laws))]
 
 ghost use Rattle.std.specs.Prelude.{◌≡◌, false, [], ◌+◌, ◌<◌, ◌^◌, length};
@@ -13,14 +13,14 @@ use crate::scan::{is_xmlns_at, prefix_len};
 use crate::tag::{Notes, TagKind};
 use texts::Range;
 
-// This one where `on` says so, else the earlier one.
+/// `this` if `on`, else `earlier`.
 fn latest(on: bool, this: usize, earlier: usize) -> usize
     ensures { result ≡ pick on this earlier }
 {
     if on { this } else { earlier }
 }
 
-// What is noted with one more value, under the names that it has: 1 + its place, and its length.
+/// The notes with one more value, under each name that it has: `is1` to `is4`.
 fn noted_where(is1: bool, is2: bool, is3: bool, is4: bool, value: Range, earlier: Notes) -> Notes
     requires { value.from < 2 ^ 63 }
     ensures { (result.first ≡ pick is1 (value.from + 1) earlier.first) × (result.len1 ≡ pick is1 value.len earlier.len1) × (result.second ≡ pick is2 (value.from + 1) earlier.second) × (result.len2 ≡ pick is2 value.len earlier.len2) × (result.third ≡ pick is3 (value.from + 1) earlier.third) × (result.len3 ≡ pick is3 value.len earlier.len3) × (result.fourth ≡ pick is4 (value.from + 1) earlier.fourth) × (result.len4 ≡ pick is4 value.len earlier.len4) }
@@ -38,14 +38,14 @@ fn noted_where(is1: bool, is2: bool, is3: bool, is4: bool, value: Range, earlier
     }
 }
 
-// Where an attribute's raw name and its raw value lie.
+/// Where an attribute's raw name and raw value lie in the document.
 #[derive(Clone, Copy)]
 pub struct RawAttribute {
     pub name: Range,
     pub value: Range,
 }
 
-// What is noted with one more attribute, which declares no namespace.
+/// The notes with one more attribute, by its local name. It declares no namespace.
 fn noted_with(
     doc: &[u8],
     a: RawAttribute,
@@ -68,7 +68,8 @@ fn noted_with(
     noted_where(is1, is2, is3, is4, a.value, earlier)
 }
 
-// What is noted under one name with one more attribute; one that declares a namespace counts for nothing.
+/// The notes with one more attribute, for a look-up of one name, noted as the first. A namespace
+/// declaration changes nothing.
 pub fn noted_one(doc: &[u8], a: RawAttribute, name: &[u8], earlier: Notes) -> Notes
     requires { a.value.from < length doc.now }
     ensures { NotedWith (piece doc.now a.name.from a.name.len) a.value.from a.value.len name.now [] [] [] earlier result }
@@ -79,13 +80,13 @@ pub fn noted_one(doc: &[u8], a: RawAttribute, name: &[u8], earlier: Notes) -> No
     noted_with(doc, a, name, b"", b"", b"", earlier)
 }
 
-// What is noted with a known attribute. Each name has a return of its own, so that the processor guesses which it is, and what is
-// noted under the others stays where it is.
+/// The notes with a known attribute. Each name returns by itself: the branch is predicted, and the
+/// notes under the other names stay where they are.
 fn noted_known(code: usize, codes: Codes, value: Range, earlier: Notes) -> Notes
     requires { (0 < code) × (code < 18) × (value.from < 2 ^ 63) × Apart codes }
     ensures { (k : Keys) → CodesOf k codes → NotedMore (known_name code) value.from value.len k earlier result }
 {
-    // Names that matter in no tag.
+    // Codes above 9 matter in no tag.
     if 9 < code {
         return earlier;
     }
@@ -121,7 +122,7 @@ fn noted_known(code: usize, codes: Codes, value: Range, earlier: Notes) -> Notes
     earlier
 }
 
-// The same with an attribute of another name, which declares no namespace, in a tag of that kind.
+/// The notes with an attribute of any other name, in a tag of this kind. It declares no namespace.
 fn noted_other(doc: &[u8], a: RawAttribute, kind: TagKind, earlier: Notes) -> Notes
     requires { (a.value.from < length doc.now) × (is_xmlns (piece doc.now a.name.from a.name.len) ≡ false) }
     ensures { NotedMore (piece doc.now a.name.from a.name.len) a.value.from a.value.len (keys_by kind) earlier result }
@@ -142,7 +143,7 @@ fn noted_other(doc: &[u8], a: RawAttribute, kind: TagKind, earlier: Notes) -> No
     }
 }
 
-// Whether an attribute of a raw name, known or not, declares a namespace.
+/// Whether an attribute declares a namespace; one with a code does not.
 pub fn is_declaration(doc: &[u8], name: Range, code: Option<usize>) -> bool
     ensures { Declares doc.now name.from name.len code result }
 {
@@ -152,7 +153,7 @@ pub fn is_declaration(doc: &[u8], name: Range, code: Option<usize>) -> bool
     }
 }
 
-// What is noted with one more attribute, of a known name or another, which declares no namespace.
+/// The notes with one more attribute, by its code or else its name. It declares no namespace.
 pub fn noted_by(
     doc: &[u8],
     a: RawAttribute,

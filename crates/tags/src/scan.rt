@@ -1,4 +1,5 @@
-// Scans and searches over the document.
+//! Scans and searches over the document. A scan that nothing stops gives the document's length, one
+//! from past the end gives where it began.
 #![tactic(auto, using(crate::proofs::Laws::laws))]
 
 ghost use Rattle.std.specs.Prelude.{◌≡◌, ◌-◌, ◌≤◌, length};
@@ -13,6 +14,7 @@ use classes::{is_attribute_name_end, is_name_stop, is_space, is_tag_name_end};
 use texts::scan::{ByteTest, scan_eights, scan_fours};
 use words::stands_short;
 
+/// Passes spaces.
 #[derive(Clone, Copy)]
 struct Spaces;
 
@@ -24,6 +26,7 @@ impl ByteTest for Spaces {
     }
 }
 
+/// Passes what does not end a tag's name.
 #[derive(Clone, Copy)]
 struct TagNames;
 
@@ -35,7 +38,7 @@ impl ByteTest for TagNames {
     }
 }
 
-// The bytes of a raw name that are no colon.
+/// Passes what neither ends a tag's name nor is a colon.
 #[derive(Clone, Copy)]
 struct NameParts;
 
@@ -47,6 +50,7 @@ impl ByteTest for NameParts {
     }
 }
 
+/// Passes what does not end an attribute's name.
 #[derive(Clone, Copy)]
 struct AttributeNames;
 
@@ -58,7 +62,7 @@ impl ByteTest for AttributeNames {
     }
 }
 
-// Past the spaces at `at`: where a tag has none, as mostly, one byte tells it, and where it has one, two.
+/// The position past the spaces at `at`. The usual, none or one, takes a comparison or two.
 #[inline(always)]
 pub fn skip_space(doc: &[u8], at: usize) -> usize
     ensures { result ≡ scan is_space doc.now at }
@@ -78,28 +82,29 @@ pub fn skip_space(doc: &[u8], at: usize) -> usize
     at
 }
 
-// Where the tag name at `at` ends.
+/// Where the tag name at `at` ends.
 pub fn tag_name_end(doc: &[u8], at: usize) -> usize
     ensures { result ≡ scan (until is_tag_name_end) doc.now at }
 {
     scan_eights(doc, at, &TagNames)
 }
 
-// Where the raw name at `at` ends or first has a colon.
+/// Where the raw name at `at` ends, or where its first colon stands.
 fn name_stop(doc: &[u8], at: usize) -> usize
     ensures { result ≡ scan (until is_name_stop) doc.now at }
 {
     scan_eights(doc, at, &NameParts)
 }
 
-// A raw name: where it ends, and how many bytes it loses.
+/// A raw name: where it ends, and the length of its prefix with the colon (0 without a colon).
 #[derive(Clone, Copy)]
 pub struct Raw {
     pub end: usize,
     pub lost: usize,
 }
 
-// The raw name at `at`, in one walk: a name that takes the whole document is not walked again for its colon.
+/// The raw name at `at`. One pass finds its end and its colon, so that even a name as long as the
+/// document is scanned once.
 #[tactic(auto, using(crate::proofs::Laws::stopping))]
 pub fn raw_name(doc: &[u8], at: usize) -> Raw
     requires { at ≤ length doc.now }
@@ -116,8 +121,9 @@ pub fn raw_name(doc: &[u8], at: usize) -> Raw
     Raw { end: stop, lost: 0 }
 }
 
-// Where the attribute name at `at` ends. "xmlns" is told by a word: with '=' behind it, at once. Each way has a return of its own,
-// so that the processor guesses the way, and waits for no choice between two places.
+/// Where the attribute name at `at` ends. "xmlns" is compared as one word, and with '=' behind it
+/// needs no scan. Each case returns by itself: a branch is predicted, while a select between two
+/// positions would have to be waited for.
 #[tactic(auto, using(crate::proofs::Declaring::declaring))]
 #[inline(always)]
 pub fn attribute_name_end(doc: &[u8], at: usize) -> usize
@@ -136,14 +142,14 @@ pub fn attribute_name_end(doc: &[u8], at: usize) -> usize
     scan_eights(doc, at, &AttributeNames)
 }
 
-// Where the first `b` from `at` on stands, or the end.
+/// Where the first `b` from `at` on stands, or the document's length.
 pub fn byte_from(doc: &[u8], at: usize, b: u8) -> usize
     ensures { result ≡ scan (until (is b)) doc.now at }
 {
     words::byte_from(doc, at, b)
 }
 
-// The first place from `from` on where `needle` stands.
+/// The first position from `from` on where `needle` stands; `None` if there is none.
 pub fn find(doc: &[u8], from: usize, needle: &[u8]) -> Option<usize>
     ensures { result ≡ find_from needle.now doc.now from }
 {
@@ -160,7 +166,7 @@ pub fn find(doc: &[u8], from: usize, needle: &[u8]) -> Option<usize>
     }
 }
 
-// How many bytes a name loses: those up to and including its first colon.
+/// The length of a name's prefix, up to and including its first colon; 0 without a colon.
 pub fn prefix_len(name: &[u8]) -> usize
     ensures { result ≡ prefix_length name.now }
 {
@@ -168,7 +174,7 @@ pub fn prefix_len(name: &[u8]) -> usize
     if colon < name.len() { colon + 1 } else { 0 }
 }
 
-// Whether a raw name declares a namespace.
+/// Whether a raw name declares a namespace: "xmlns", or any that begins with "xmlns:".
 pub fn is_xmlns(name: &[u8]) -> bool
     ensures { result ≡ is_xmlns name.now }
 {
@@ -178,7 +184,8 @@ pub fn is_xmlns(name: &[u8]) -> bool
     texts::starts_with(name, 0, b"xmlns:")
 }
 
-// Whether the raw name of `n` bytes at `raw` declares a namespace, by a word where there is room for one.
+/// Whether the raw name of `n` bytes at `raw` declares a namespace: by one comparison of a word
+/// where eight bytes are left.
 #[tactic(auto, using(crate::proofs::Declaring::declaring))]
 #[inline(always)]
 pub fn is_xmlns_at(doc: &[u8], raw: usize, n: usize) -> bool

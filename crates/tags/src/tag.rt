@@ -1,4 +1,4 @@
-// Tags: their parts, where they end, and their attributes.
+//! Tags: their parts, where they end, and the attributes that are looked up in them.
 #![tactic(auto, using(crate::proofs::Laws::laws))]
 
 ghost use Rattle.std.specs.Prelude.{◌≡◌, false, [], ◌+◌, ◌<◌, ◌^◌, ◌≤◌, length};
@@ -16,8 +16,8 @@ use crate::scan::{attribute_name_end, byte_from, skip_space};
 use refusals::Refusal;
 use texts::Range;
 
-// One part of a tag: an attribute with the ranges of its raw name and raw value, or the tag's end.
-// kept: no `Result`, as neither is an error; a refusal is the `Err` around it.
+/// One part of a tag: an attribute, with the ranges of its raw name and raw value and the position
+/// behind it, or the tag's end. Neither is an error: a refusal is the `Err` around it.
 #[derive(Clone, Copy)]
 pub enum TagPart {
     Attribute {
@@ -30,14 +30,14 @@ pub enum TagPart {
     TagEnd(Ending),
 }
 
-// Where a tag ends, and how.
+/// How a tag ends, and the position behind its '>'.
 #[derive(Clone, Copy)]
 pub struct Ending {
     pub next: usize,
     pub self_closed: bool,
 }
 
-// The tags by the names that matter in them.
+/// Tags by the attribute names that matter in them (`keys_by`, specs/Known.antt).
 #[derive(Clone, Copy, PartialEq, Eq)]
 pub enum TagKind {
     Schema,
@@ -59,9 +59,11 @@ impl From<usize> for TagKind {
     }
 }
 
-// What was noted under four names: 1 + the place of the raw value's first byte, 0 where there is none, and its length.
-// Eight words: they go from hand to hand for each attribute, and the bytes beside an enum's tag, copied with it, or a
-// pair copied at once after its halves were stored, stall that.
+/// What was noted under four names: for each, 1 + the position of the raw value's first byte, or 0
+/// if there is no such attribute, and the value's length.
+///
+/// Eight plain words, since they are copied for each attribute: padding beside an enum's tag, or a
+/// pair that is loaded whole right after its halves were stored, would defeat store forwarding.
 #[derive(Clone, Copy)]
 pub struct Notes {
     pub first: usize,
@@ -74,7 +76,7 @@ pub struct Notes {
     pub len4: usize,
 }
 
-// The ranges of the raw values that were found under four names.
+/// The ranges of the raw values found under four names; `None` without such an attribute.
 #[derive(Clone, Copy)]
 pub struct Noted {
     pub first: Option<Range>,
@@ -83,14 +85,15 @@ pub struct Noted {
     pub fourth: Option<Range>,
 }
 
-// A tag read whole: how it ends, and what was noted of it.
+/// A tag read to its end: how it ends, and what was noted of it.
 #[derive(Clone, Copy)]
 pub struct Whole {
     pub ending: Result<Ending, Refusal>,
     pub noted: Notes,
 }
 
-// The value that begins at `at`, up to the next `quote`.
+/// The attribute whose raw name is the `n` bytes at `name` and whose value runs from `at` to the
+/// next `quote`. Refused (20) without one.
 fn quoted_part(
     doc: &[u8],
     name: usize,
@@ -114,7 +117,7 @@ fn quoted_part(
     })
 }
 
-// The same, where an empty value and one of a single byte are told at once.
+/// As `quoted_part`; an empty value and one of a single byte need no search.
 fn short_or_quoted(
     doc: &[u8],
     name: usize,
@@ -149,7 +152,7 @@ fn short_or_quoted(
     quoted_part(doc, name, n, at, quote, place)
 }
 
-// The quoted value that is due at `at`.
+/// As `quoted_part`, for a value whose opening quote is due at `at`. Refused with 19 or 20.
 fn value_part(
     doc: &[u8],
     name: usize,
@@ -168,7 +171,7 @@ fn value_part(
     Err(Refusal::NoQuote { offset: at, place })
 }
 
-// The attribute that is due at `at`.
+/// The attribute that is due at `at`: its name, '=' and its value. Refused with 17 to 20.
 fn attribute_part(doc: &[u8], at: usize, place: usize) -> Result<TagPart, Refusal>
     ensures { result ≡ attribute_part_at doc.now at place }
 {
@@ -187,7 +190,7 @@ fn attribute_part(doc: &[u8], at: usize, place: usize) -> Result<TagPart, Refusa
     value_part(doc, at, end - at, value, place)
 }
 
-// The part of a tag at `at`; `place` is the tag's '<'.
+/// The part of a tag behind the spaces at `at`. Refusals (16 to 20) hold `place`, the tag's '<'.
 pub fn tag_part(doc: &[u8], at: usize, place: usize) -> Result<TagPart, Refusal>
     ensures { result ≡ tag_part_at doc.now at place }
 {
@@ -210,14 +213,14 @@ pub fn tag_part(doc: &[u8], at: usize, place: usize) -> Result<TagPart, Refusal>
     attribute_part(doc, i, place)
 }
 
-// A part of a tag, and the number of the attribute's name where that is known (specs/Known.antt).
+/// A part of a tag, and the code of the attribute's name if it is known (specs/Known.antt).
 #[derive(Clone, Copy)]
 pub struct Quick {
     pub code: Option<usize>,
     pub part: Result<TagPart, Refusal>,
 }
 
-// The part of a tag at `at`: at once, where it is a known attribute behind one space.
+/// The part of a tag at `at`. A known attribute behind one space takes the fast path.
 fn quick_part(doc: &[u8], at: usize, place: usize) -> Quick
     ensures { QuickAt doc.now at place result }
 {
@@ -237,7 +240,7 @@ fn quick_part(doc: &[u8], at: usize, place: usize) -> Quick
     }
 }
 
-// Nothing found.
+/// No value under any name.
 pub fn nothing() -> Notes
     ensures { result ≡ no_notes }
 {
@@ -253,7 +256,7 @@ pub fn nothing() -> Notes
     }
 }
 
-// What a note says.
+/// The range that a note stands for; `None` if it is 0.
 fn found_of(at: usize, len: usize) -> Option<Range>
     ensures { result ≡ found_at at len }
 {
@@ -263,7 +266,7 @@ fn found_of(at: usize, len: usize) -> Option<Range>
     Some(Range { from: at - 1, len })
 }
 
-// What four notes say.
+/// The ranges that four notes stand for.
 pub fn noted_of(notes: Notes) -> Noted
     ensures { result ≡ noted_of notes }
 {
@@ -275,15 +278,16 @@ pub fn noted_of(notes: Notes) -> Noted
     }
 }
 
-// The tag whose attributes begin at `at`: how it ends, and the raw values of the last attributes of four names. Behind an attribute
-// that declares a namespace others are likely.
+/// Reads the tag whose attributes begin at `at`: how it ends, and the last raw value under each of
+/// the four names of `kind`. One namespace declaration is likely followed by others, which are
+/// skipped in a loop of their own.
 pub fn tag_noting(doc: &[u8], at: usize, place: usize, kind: TagKind) -> Whole
     ensures { (result.ending ≡ (tag_at doc.now at place).ending) × NotedBy (keys_by kind) doc.now at result.noted }
 {
     let codes = codes_of(kind);
     let mut i = at;
     let mut noted = nothing();
-    // kept: a `loop` over the parts of a tag, which the part that ends it answers.
+    // `loop`: the part that ends the tag returns.
     loop {
         let Quick { code, part } = quick_part(doc, i, place);
         match part {
@@ -329,8 +333,7 @@ pub fn tag_noting(doc: &[u8], at: usize, place: usize, kind: TagKind) -> Whole
     }
 }
 
-// Which names matter in a tag of the element `name`.
-// kept: text by text, as `element_of` of elements.
+/// The kind of a tag by the local name of its element.
 pub fn kind_of(name: &[u8]) -> TagKind
     ensures { keys_by result ≡ keys_of name.now }
 {
@@ -345,15 +348,16 @@ pub fn kind_of(name: &[u8]) -> TagKind
     }
 }
 
-// The raw value of the last attribute of that name, in the tag whose attributes begin at `at`.
+/// The raw value of the last attribute called `name`, in the tag whose attributes begin at `at`;
+/// `None` if there is none. Of a tag that is refused, the attributes before the fault count.
 pub fn attribute(doc: &[u8], at: usize, name: &[u8]) -> Option<Range>
     ensures { result ≡ attribute_at doc.now at name.now }
 {
     let mut i = at;
     let mut noted = nothing();
-    // kept: a `loop` over the parts of a tag, which the part that ends it answers.
+    // `loop`: the part that ends the tag returns.
     loop {
-        // The place matters to refusals alone, and none is told here.
+        // Only refusals hold the place, and none leaves this function.
         match tag_part(doc, i, 0) {
             Ok(
                 TagPart::Attribute {

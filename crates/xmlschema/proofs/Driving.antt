@@ -116,7 +116,7 @@ module _ {r : Reader} {w : Work} {s : State} (d : Driving r w s) {r' : Reader} {
                   (sym (built-on w.limits t.place (event_in w.doc.now t.event) (to_come w.doc.now r'.cursor) (builder_in w s) (builder_in w' s') (sym z)) ∙ here)));
             }
 
--- over what was lent at first
+-- by the buffers as they were at first
 pub drive-lent : {w₀ w : Work} → Same w₀ w → {l : Limits} → w₀.limits ≡ l → {doc : List ℕ} → w₀.doc.now ≡ doc → {x : Whole} → x ≡ reading w.limits w.doc.now → x ≡ reading l doc
 drive-lent {w = w} s {l} f {doc} d {x} e =
     e

@@ -1,4 +1,4 @@
--- The laws that the proofs of functions cite, in one set: `search driving` at each goal.
+-- The rule sets that functions name in `using(..)`.
 use borrow.Author.Rules.{rules}
 use Rattle.xmlschema.proofs.Driving.{drive-start, drive-broken, drive-open, drive-done, drive-ready, drive-inside, drive-noted, drive-less, drive-refused, drive-on}
 use Rattle.xmlschema.proofs.Stepping.{step-text, step-open, step-close, text-ready, tag-ready, tag-is}

@@ -1,8 +1,9 @@
--- A validValue that closes while an enum is current finds a value of that enum, whatever the document and whatever the limits.
+-- Laws: a validValue that closes while an enum is current finds a value of that enum.
 --
--- `Tracked` is what holds of every builder that a document leads to: where an enum is current and a validValue is open above the nearest
--- open enum, the items hold a value of the current enum. The empty builder is so (`track-empty`) and every event keeps it so (`track`);
--- hence it holds wherever the events of a document lead (`reached-tracked`).
+-- `Tracked` holds of every builder that the events of a document lead to: where an enum is current
+-- and a validValue is open above the nearest open enum, the items hold a value of the current enum.
+-- It holds of the empty builder (`track-empty`), every event keeps it (`track`), and so it holds
+-- wherever events lead (`reached-tracked`).
 use mathlib.Core.Path.{◌≡◌, refl, sym, ap, ◌∙◌}
 use mathlib.Core.Bool.{Bool, true, false}
 use mathlib.Core.List.{List, [], ◌∷◌, ◌++◌}

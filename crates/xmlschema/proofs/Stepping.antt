@@ -1,4 +1,4 @@
--- Laws of one step: by the event.
+-- Laws of one step, by event.
 use mathlib.Core.Path.{◌≡◌}
 use mathlib.Core.List.{List}
 use Prim.Native.Nat.{ℕ, ◌-◌}

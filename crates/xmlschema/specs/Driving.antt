@@ -1,4 +1,4 @@
--- What the driver keeps from event to event. Internal.
+-- What the loop over the events keeps. Internal.
 use Rattle.std.specs.Prelude.{◌≡◌, ◌≤◌, length, Result, Ok, Err}
 use Rattle.refusals.specs.declared.Refusal.{Refusal}
 use Rattle.saxlite.specs.Events.{events}
@@ -14,7 +14,7 @@ abbrev pub with_state : State → Result (Unit {0}) Refusal → Result State Ref
 with_state s (Ok u) = Ok s
 with_state s (Err refusal) = Err refusal
 
--- what the state and the events to come make is what the whole document makes
+-- the events still to come, taken by the builder so far, make what the whole document makes
 pub record Driving (r : Reader) (w : Work) (s : State) : Type 0 where
   pub doc : r.doc.now ≡ w.doc.now
   pub kept : Kept w s

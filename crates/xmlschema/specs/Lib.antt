@@ -1,4 +1,4 @@
--- How a whole document is read into the model of a schema. A customer reads Whole, Read and Tracking; Driving is internal.
+-- Reading a whole document. A customer reads Whole, Read and Tracking; Driving is internal.
 pub mod Whole
 pub mod Read
 pub mod Tracking

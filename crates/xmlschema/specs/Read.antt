@@ -1,16 +1,16 @@
--- What reading a document promises: its answer, and what the two work buffers hold then.
+-- Rules: Limits and refusals. What reading a document answers, and what the work buffers hold then.
 use Rattle.std.specs.Prelude.{◌≡◌, List, ◌⊎◌, ℕ, ◌<◌, length, Result, Ok, Err}
 use Rattle.refusals.specs.declared.Refusal.{Refusal}
 use Rattle.model.specs.Store.{schema_of}
 use Rattle.model.specs.declared.Model.{Model}
 use Rattle.xmlschema.specs.Whole.{Whole, accepted, refused_by, answer_of}
 
--- what an answer says, with the records and the text as they are then
+-- what an answer says, with what the two buffers hold then
 abbrev pub shown : Result Model Refusal → List ℕ → List ℕ → Whole
 shown (Ok m) rec text = accepted (schema_of m rec text)
 shown (Err r) rec text = refused_by r
 
--- the answer, whatever the buffers held; where one of them is too short, both hold what they held
+-- the answer, whatever the buffers held before; if one of them is too short, both hold that still
 pub record ReadInto (doc rec text : List ℕ) (r : Result Model Refusal) (rec' text' : List ℕ) : Type 0 where
   pub is : shown r rec' text' ≡ answer_of doc (length rec) (length text)
   pub untouched : (length rec < 16384) ⊎ (length text < 65536) → (rec' ≡ rec) × (text' ≡ text)

@@ -1,5 +1,5 @@
--- A validValue that closes while an enum is current finds a value of that enum, which it is the text of. (The Rust has a panic for the
--- other case, "validValue tracking", which so can't be reached.)
+-- Rules: The builder. A validValue that closes while an enum is current finds a value of that enum:
+-- the Rust's panic "validValue tracking" cannot be reached.
 use Rattle.std.specs.Prelude.{◌≡◌, true, List, ℕ, Some}
 use Rattle.texts.specs.Text.{same}
 use Rattle.saxlite.specs.Event.{Event, Events, closes, next}
@@ -21,6 +21,7 @@ pub record HasValue (enum : ℕ) (s : Schema) : Type 0 where
   pub at : ℕ
   pub is : last (under a_value enum s) ≡ Some at
 
+-- where the close tag of an open validValue is next and an enum is current, that enum has a value
 abbrev pub ValuesFound : Type 0
 ValuesFound =
     (l : Limits) (doc : List ℕ) (place : ℕ) (name : List ℕ) (more : Events) (b : Builder) (enum : ℕ) →

@@ -1,4 +1,4 @@
--- The reading of a whole document: the builder takes its events one after another. Then the order of refusals up to 31.
+-- Rules: Limits and refusals. What a whole document gives: its schema, or its first refusal.
 use Rattle.std.specs.Prelude.{false, List, [], ℕ, ltb, length, None}
 use Rattle.texts.specs.Choice.{pick, ◌or◌}
 use Rattle.texts.specs.Scan.{scan, is_ascii}
@@ -10,19 +10,19 @@ use Rattle.model.specs.Schema.{Schema}
 use Rattle.builder.specs.Builder.{Builder, Outcome, on, refused, opened, closed, collect}
 use Rattle.builder.specs.declared.state.Limits.{Limits}
 
--- what an event, met at a place, makes of the builder
+-- what an event makes of the builder; refusals hold its place
 abbrev pub step : Limits → ℕ → Event → Builder → Outcome
 step l place (text s) b = on (collect s b)
 step l place (opens name a) b = opened l place name a b
 step l place (closes name) b = closed place name b
 
--- what events one after another make of it: the first refusal, the builder's or the reader's, ends it
+-- what events make of it, one after another, up to the first refusal, the builder's or the reader's
 unfoldable pub built : Limits → Events → Builder → Outcome
 built l done b = on b
 built l (broken refusal) b = refused refusal
 built l (next place event more) b = elim (step l place event b) [ on b' ↦ built l more b' | refused refusal ↦ refused refusal ]
 
--- before the first event
+-- the builder before the first event
 abbrev pub empty : Builder
 empty =
     record {
@@ -33,15 +33,17 @@ empty =
       schema = record { package_name = []; id = 0; version = 0; items = [] };
     }
 
+-- what a whole document gives: a schema or a refusal
 pub data Whole : Type 0 where
   accepted : Schema → Whole
   refused_by : Refusal → Whole
 
--- at the end no element is open, else 31
+-- at the end no element is open; else 31
 unfoldable pub ending : List ℕ → Outcome → Whole
 ending doc (on b) = pick (ltb 0 (length b.stack)) (refused_by (OpenElements (length doc))) (accepted b.schema)
 ending doc (refused refusal) = refused_by refusal
 
+-- what a document gives as it is read
 abbrev pub reading : Limits → List ℕ → Whole
 reading l doc = ending doc (built l (events doc) empty)
 
@@ -49,7 +51,7 @@ reading l doc = ending doc (built l (events doc) empty)
 abbrev pub the_limits : Limits
 the_limits = record { items = 1024; depth = 64 }
 
--- 1, 2, 10, then as the document is read, then 31; records and bytes are the lengths of the two buffers
+-- 1, 2, 10, then what reading gives; records and bytes are the lengths of the two buffers
 unfoldable pub answer_of : List ℕ → ℕ → ℕ → Whole
 answer_of doc records bytes =
     let high = scan is_ascii doc 0 in

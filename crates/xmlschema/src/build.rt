@@ -1,4 +1,4 @@
-//! Reads a whole document into the two lent buffers.
+//! Reads a whole document: tests it and the buffers, then hands each event to the builder.
 #![tactic(auto, using(crate::proofs::Laws::driving, crate::proofs::Laws::stepping, crate::proofs::Laws::answering))]
 
 ghost use Rattle.std.specs.Prelude.{◌≡◌, ◌≤◌, length};
@@ -23,11 +23,13 @@ const MAX_DEPTH: usize = 64;
 
 const MAX_DOCUMENT: usize = 32768;
 
+/// In numbers of 32 bits.
 const MIN_RECORDS: usize = 16384;
 
+/// In bytes.
 const MIN_TEXT: usize = 65536;
 
-// What one event makes of the builder's state.
+/// What one event makes of the builder's state, by value. Refused with 30 or 32 to 35.
 fn step_value(s: State, w: &mut Work<'_, '_>, told: Told) -> Result<State, Refusal>
     requires { Ready w.old s (takes told.event) × Inside w.old.doc.now told.event × NotedIn w.old.doc.now told.event told.noted }
     ensures { After (step_of w.old.limits told.place (event_in w.old.doc.now told.event) (builder_in w.old s)) w.old s (takes told.event) w.new result }
@@ -64,7 +66,7 @@ fn step(s: &mut State, w: &mut Work<'_, '_>, told: Told) -> Result<(), Refusal>
     Ok(())
 }
 
-// Reads a document whose length and bytes, and the buffers, are tested.
+/// Reads a document that is tested already, as the buffers are. Refused with 11 to 20, 30 to 35.
 #[inline(never)]
 fn read_tested(l: Limits, doc: &[u8], rec: &mut [u32], text: &mut [u8]) -> Result<Model, Refusal>
     requires { (length doc.now ≤ 32768) × (16384 ≤ length rec.old) × (65536 ≤ length text.old) × (l.items ≤ 1024) × (l.depth ≤ 64) }
@@ -82,9 +84,9 @@ fn read_tested(l: Limits, doc: &[u8], rec: &mut [u32], text: &mut [u8]) -> Resul
     Ok(state.model())
 }
 
-// The whole document: 1, 2, 10, then 11 to 35 as it is read, then 31. Where it is accepted, the two
-// buffers hold the model that the accessors of `model` show; where one is too short, nothing is
-// written to either.
+/// Reads a document of any bytes. Refused, in this order, with 1, 2, 10, then 11 to 20, 30 and 32
+/// to 35 as it is read, then 31. If it is accepted, the two buffers hold the model, which the
+/// accessors of `model` show; if one of them is too short, nothing is written to either.
 pub fn read_schema(doc: &[u8], rec: &mut [u32], text: &mut [u8]) -> Result<Model, Refusal>
     ensures { ReadInto doc.now rec.old text.old result rec.new text.new }
 {

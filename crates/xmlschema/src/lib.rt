@@ -1,8 +1,9 @@
-//! Reads a whole document into the model of a schema, in two lent buffers: each event of the reader is taken by the builder.
+//! Reads a whole document into the model of a schema, in two buffers of the caller's.
 //!
-//! `build::read_schema` reads: 1, 2, 10, then 11 to 35 as the document is read, then 31. What it answers, and the model that it
-//! leaves, equal `answer_of` of specs/Whole.antt on all inputs, whatever the buffers held before; where one is too short, both
-//! hold that still. What it read is seen through the accessors of `model` alone. `tracking` names a law of the definitions.
+//! `build::read_schema` reads. Its answer, and the model that it leaves, equal `answer_of` of
+//! specs/Whole.antt on all inputs, whatever the buffers held before; if one is too short, both hold
+//! that still. The model is seen through the accessors of `model` alone. `tracking` states a
+//! theorem on the definitions.
 #![tactic(auto)]
 
 pub mod build;

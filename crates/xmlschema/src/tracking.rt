@@ -1,4 +1,4 @@
-//! A law of the definitions, which no code calls.
+//! A theorem on the definitions, as the contract of a function that does nothing.
 
 ghost use Rattle.xmlschema.specs.Tracking.{ValuesFound};
 

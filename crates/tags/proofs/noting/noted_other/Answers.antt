@@ -1,4 +1,4 @@
--- kept: `search` finds these with the set named here, and not by an attribute with it.
+-- `search` closes these goals with the rule set named here; `using(..)` with that set does not.
 use Rattle.tags.proofs.Laws.{laws}
 use Rattle.tags.proofs.noting.noted_other.Goals as goal
 
