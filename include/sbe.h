@@ -78,8 +78,8 @@ uint32_t sbe_xml_to_proto(const uint8_t *document, size_t document_len, uint32_t
  *    3  `output` is shorter than the converted name: *offset and *place are 0
  *
  * Where several apply, the first is answered in the order 1, 10, 3; of two names the value is tested first
- * within each. No converted name is longer than twice its name, so that 3 is never answered to an output of
- * that length. An empty name is converted to nothing. */
+ * within each. An empty name is converted to nothing. By these rules no converted name is longer than twice its
+ * name, so that an output of that length is never refused: tested, and no part of what is proved. */
 
 /* MDEntryPx: md_entry_px */
 uint32_t sbe_camel_to_snake(const uint8_t *name, size_t name_len, uint8_t *output, size_t output_len,
