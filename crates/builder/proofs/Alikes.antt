@@ -1,15 +1,10 @@
 -- Laws of texts that agree where they are in use: the builder, and what is kept, do not change.
-use mathlib.Core.Path.{◌≡◌, refl, sym, ap, ◌∙◌}
-use mathlib.Core.List.{List, [], ◌∷◌}
-use Prim.Native.Nat.{ℕ, ◌+◌, ◌-◌, ◌≤◌}
-use native.Mathlib.Omega.{arith}
-use lib.ListN.{length, take, drop}
-use lib.Seq.{sets, drop-drop, take-take}
+use Rattle.std.proofs.Common.{◌≡◌, refl, sym, ap, ◌∙◌, List, [], ◌∷◌, ℕ, ◌+◌, ◌-◌, ◌≤◌, arith, length, take, drop, drop-drop, take-take, T}
+use lib.Seq.{sets}
 use Rattle.texts.specs.Text.{piece}
 use Rattle.texts.proofs.Stores.{take-sets, drop-sets, piece-below}
 use Rattle.tags.specs.Attributes.{attribute_at, raw_length, raw_lengths}
 use Rattle.tags.proofs.Ranges.{different, values-lie}
-use lib.Dec.{T}
 use Rattle.builder.specs.Layout.{builder_in, texted, Alike, Kept, Tagged}
 use Rattle.builder.specs.declared.state.State.{State}
 use Rattle.builder.specs.declared.work.Work.{Work}

@@ -1,13 +1,6 @@
 -- Laws of closing an element, and of text.
-use mathlib.Core.Path.{◌≡◌, refl, sym, ap, ◌∙◌}
-use mathlib.Core.Bool.{Bool, true, false}
-use mathlib.Core.List.{List, [], ◌++◌}
-use Prim.Native.Nat.{ℕ, ◌+◌, ◌*◌, ◌-◌, ◌≤◌, ◌<◌}
-use native.Mathlib.Omega.{arith}
-use mir.Val.{Fits}
-use mir.Syntax.{w64}
-use lib.ListN.{length, take, drop, get_or, set}
-use lib.Seq.{sets, length-sets, take-add, drop-drop}
+use Rattle.std.proofs.Common.{◌≡◌, refl, sym, ap, ◌∙◌, Bool, true, false, List, [], ◌++◌, ℕ, ◌+◌, ◌*◌, ◌-◌, ◌≤◌, ◌<◌, arith, Fits, w64, length, take, drop, get_or, set, take-add, drop-drop, Option, None, Some, Result, Ok, Err}
+use lib.Seq.{sets, length-sets}
 use Rattle.texts.specs.Text.{piece, same}
 use Rattle.texts.specs.Trim.{trimmed, TrimmedTo}
 use Rattle.texts.specs.declared.Range.{Range}
@@ -23,7 +16,6 @@ use Rattle.builder.specs.Layout.{model_in, builder_in, stack_of, over, texted, v
 use Rattle.elements.specs.Elements.{element_of}
 use Rattle.elements.specs.declared.Element.{Element}
 use Rattle.model.specs.declared.Entry.{Entry}
-use Rattle.std.specs.Prelude.{Option, None, Some, Result, Ok, Err}
 use Rattle.builder.specs.declared.state.Current.{Current}
 use Rattle.builder.specs.declared.state.State.{State}
 use Rattle.builder.specs.declared.work.Work.{Work}

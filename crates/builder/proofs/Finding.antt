@@ -1,11 +1,6 @@
 -- Laws of what was found in a tag: its values, the room for them, and the items made of them.
 use Rattle.texts.specs.declared.Range.{Range}
-use Rattle.std.specs.Prelude.{Option, Some, None, Result}
-use mathlib.Core.Path.{◌≡◌, refl, ap, ◌∙◌}
-use mathlib.Core.Bool.{true}
-use mathlib.Core.List.{List, [], ◌∷◌}
-use Prim.Native.Nat.{ℕ, ◌≤◌}
-use native.Mathlib.Omega.{arith}
+use Rattle.std.proofs.Common.{Option, Some, None, Result, ◌≡◌, refl, ap, ◌∙◌, true, List, [], ◌∷◌, ℕ, ◌≤◌, arith}
 use Rattle.texts.specs.Text.{ascii, same}
 use Rattle.refusals.specs.declared.Refusal.{Refusal}
 use Rattle.tags.specs.declared.tag.Noted.{Noted}

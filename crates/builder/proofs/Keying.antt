@@ -1,7 +1,5 @@
 -- Laws of what the reader noted, by element: the names that each looks up.
-use mathlib.Core.Path.{◌≡◌, refl}
-use mathlib.Core.List.{List}
-use Prim.Native.Nat.{ℕ}
+use Rattle.std.proofs.Common.{◌≡◌, refl, List, ℕ}
 use Rattle.texts.specs.Text.{ascii, piece, same}
 use Rattle.texts.proofs.Choosing.{by-test, pick_yes, pick_no}
 use Rattle.texts.proofs.Comparing.{same-equal}

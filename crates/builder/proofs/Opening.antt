@@ -1,11 +1,5 @@
 -- Laws of opening an element, by the cases of its definition, and without a number.
-use Rattle.std.specs.Prelude.{Some, None, Result, Ok}
-use mathlib.Core.Path.{◌≡◌, refl, ap, ◌∙◌}
-use mathlib.Core.Bool.{Bool, true, false}
-use mathlib.Core.List.{[]}
-use Prim.Native.Nat.{ℕ, ◌-◌}
-use native.Mathlib.Omega.{arith}
-use lib.Dec.{eqb, leb}
+use Rattle.std.proofs.Common.{Some, None, Result, Ok, ◌≡◌, refl, ap, ◌∙◌, Bool, true, false, [], ℕ, ◌-◌, arith, eqb, leb}
 use Rattle.texts.specs.Choice.{pick}
 use Rattle.refusals.specs.declared.Refusal.{Refusal}
 use Rattle.refusals.specs.declared.Refusal.TheVariants.{BadNumber, MisplacedField}

@@ -1,12 +1,6 @@
 -- Laws of the stack of open names.
-use mathlib.Core.Path.{◌≡◌, refl, sym, ap, ◌∙◌}
-use mathlib.Core.Bool.{Bool, true}
-use mathlib.Core.List.{List, ◌∷◌}
-use Prim.Native.Nat.{ℕ, zero, suc, ◌+◌, ◌*◌, ◌-◌, ◌≤◌, ◌<◌}
-use native.Mathlib.Numerals.{add-one}
-use native.Mathlib.Omega.{arith}
-use lib.ListN.{length, get_or, set, length-set}
-use lib.Seq.{sets, get_or-set_same, get_or-set_other}
+use Rattle.std.proofs.Common.{◌≡◌, refl, sym, ap, ◌∙◌, Bool, true, List, ◌∷◌, ℕ, zero, suc, ◌+◌, ◌*◌, ◌-◌, ◌≤◌, ◌<◌, add-one, arith, length, get_or, set, length-set, get_or-set_same, get_or-set_other}
+use lib.Seq.{sets}
 use Rattle.texts.specs.Text.{ascii, piece, same}
 use Rattle.texts.proofs.Comparing.{equal-same}
 use Rattle.texts.proofs.Stores.{get_or-sets-above}

@@ -1,15 +1,7 @@
 -- Laws of taking texts, of numbers read on the way, and of the entries made of them.
 use Rattle.texts.specs.declared.Range.{Range}
-use Rattle.std.specs.Prelude.{Option, Some, None}
-use mathlib.Core.Path.{◌≡◌, refl, sym, ap, ◌∙◌}
-use mathlib.Core.Bool.{true, not}
-use mathlib.Core.List.{List, [], ◌∷◌}
-use Prim.Native.Nat.{ℕ, suc, ◌+◌, ◌-◌, ◌≤◌}
-use native.Mathlib.Omega.{arith}
-use lib.Dec.{eqb, leb}
-use lib.ListN.{length, length-take}
+use Rattle.std.proofs.Common.{Option, Some, None, ◌≡◌, refl, sym, ap, ◌∙◌, true, not, List, [], ◌∷◌, ℕ, suc, ◌+◌, ◌-◌, ◌≤◌, arith, eqb, leb, length, length-take, eqb-true, ne_eqb, leb-true}
 use lib.Seq.{sets, length-sets}
-use borrow.Author.Tests.{eqb-true, ne_eqb, leb-true}
 use Rattle.texts.specs.Choice.{◌and◌}
 use Rattle.texts.specs.Scan.{count_while, until, is}
 use Rattle.texts.proofs.Choosing.{by-test, both_true}

@@ -1,14 +1,6 @@
 -- Laws of the charset test: punctuation, one byte and eight at once; what is left; the names.
-use mathlib.Core.Path.{◌≡◌, refl, sym, ap, ◌∙◌}
-use mathlib.Core.Bool.{Bool, true, false, ◌&&◌}
-use mathlib.Core.List.{List, [], ◌∷◌, ◌++◌, append_assoc, append-nil}
-use Prim.Native.Nat.{ℕ, suc, ◌+◌, ◌≤◌, ◌<◌}
-use native.Mathlib.Numerals.{add-one}
-use native.Mathlib.Omega.{arith}
-use lib.Dec.{leb, T}
-use lib.ListN.{length, take, drop, get_or, set, length-append, length-set, drop_of_length-le}
-use lib.Seq.{drop-cons, take-suc, take-set-le, length-take-le, get_or-set_same}
-use borrow.Author.Tests.{leb-true}
+use Rattle.std.proofs.Common.{◌≡◌, refl, sym, ap, ◌∙◌, Bool, true, false, ◌&&◌, List, [], ◌∷◌, ◌++◌, append_assoc, append-nil, ℕ, suc, ◌+◌, ◌≤◌, ◌<◌, add-one, arith, leb, T, length, take, drop, get_or, set, length-append, length-set, drop_of_length-le, drop-cons, take-suc, length-take-le, get_or-set_same, leb-true}
+use lib.Seq.{take-set-le}
 use Rattle.texts.specs.Choice.{◌and◌}
 use Rattle.texts.specs.Text.{piece}
 use Rattle.texts.specs.Lists.{among}

@@ -1,10 +1,6 @@
 -- The table's rule: for each class one test, computed over all 256 entries.
-use mathlib.Core.List.{List, [], ◌∷◌}
-use Prim.Native.Nat.{ℕ, ◌<◌}
-use lib.Dec.{eqb}
+use Rattle.std.proofs.Common.{List, [], ◌∷◌, ℕ, ◌<◌, eqb, not, get_or}
 use lib.Bits.{bit_and}
-use mathlib.Core.Bool.{not}
-use lib.ListN.{get_or}
 use Rattle.classes.specs.Class.{is_space, is_tag_name_end, is_attribute_name_end, is_upper, is_lower}
 use Rattle.classes.specs.Table.{is_name_stop, ClassOf}
 use Rattle.classes.proofs.Rule.{agree}

@@ -1,16 +1,5 @@
 -- Laws of the prefix cut: a text is matched part by part.
-use mathlib.Core.Path.{◌≡◌, refl, sym, ◌∙◌}
-use Rattle.std.specs.Prelude.{Option, Some, None}
-use mathlib.Core.Bool.{Bool, true, false}
-use mathlib.Core.List.{List, [], ◌∷◌, ◌++◌}
-use Prim.Native.Nat.{ℕ, zero, suc, ◌+◌, ◌-◌, ◌≤◌, ◌<◌}
-use native.Mathlib.Nat.{add_assoc}
-use native.Mathlib.Numerals.{add-one}
-use native.Mathlib.Omega.{arith}
-use lib.ListN.{length, get_or, drop, length-append, length-drop, drop_of_length-le}
-use lib.Seq.{drop-cons, drop-drop, take_all}
-use borrow.Author.Rules.{rules}
-use borrow.Author.Tests.{eq-eqb, ne_eqb}
+use Rattle.std.proofs.Common.{◌≡◌, refl, sym, ◌∙◌, Option, Some, None, Bool, true, false, List, [], ◌∷◌, ◌++◌, ℕ, zero, suc, ◌+◌, ◌-◌, ◌≤◌, ◌<◌, add_assoc, add-one, arith, length, get_or, drop, length-append, length-drop, drop_of_length-le, drop-cons, drop-drop, take_all, rules, eq-eqb, ne_eqb}
 use Rattle.texts.specs.Text.{ascii, piece, starts_with}
 use Rattle.texts.proofs.Choosing.{by-test, pick_yes, pick_no}
 use Rattle.texts.proofs.Comparing.{starts-append, starts-yes, starts-no}

@@ -1,15 +1,6 @@
 -- Laws of raising and lowering: t is what the class test says of b.
-use mathlib.Core.Path.{◌≡◌, refl, sym, ◌∙◌}
-use mathlib.Core.List.{List}
-use mathlib.Core.Bool.{Bool, true, false}
-use Prim.Native.Nat.{ℕ, ◌+◌, ◌-◌, ◌≤◌}
-use native.Mathlib.Omega.{arith}
-use lib.Dec.{leb, ltb}
-use lib.ListN.{get_or}
+use Rattle.std.proofs.Common.{◌≡◌, refl, sym, ◌∙◌, List, Bool, true, false, ℕ, ◌+◌, ◌-◌, ◌≤◌, arith, leb, ltb, get_or, Fits, w8, leb-true}
 use Rattle.texts.specs.Choice.{◌and◌}
-use mir.Val.{Fits}
-use mir.Syntax.{w8}
-use borrow.Author.Tests.{leb-true}
 use Rattle.texts.proofs.Choosing.{by-test, both_true, pick_yes, pick_no}
 use Rattle.classes.specs.Class.{is_upper, is_lower}
 use Rattle.conversions.specs.Letters.{lowered, raised}

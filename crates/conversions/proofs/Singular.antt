@@ -1,13 +1,5 @@
 -- Laws of the singular, by what its tests say of a name.
-use mathlib.Core.Path.{◌≡◌, refl, sym, ap, ◌∙◌}
-use mathlib.Core.Bool.{Bool, true, false}
-use mathlib.Core.List.{List, [], ◌∷◌, ◌++◌}
-use Prim.Native.Nat.{ℕ, suc, ◌-◌, ◌≤◌, ◌<◌}
-use native.Mathlib.Omega.{arith}
-use lib.Dec.{ltb}
-use lib.ListN.{length, get_or, take, drop}
-use lib.Seq.{take_all, length-take-le}
-use borrow.Author.Tests.{ltb-true}
+use Rattle.std.proofs.Common.{◌≡◌, refl, sym, ap, ◌∙◌, Bool, true, false, List, [], ◌∷◌, ◌++◌, ℕ, suc, ◌-◌, ◌≤◌, ◌<◌, arith, ltb, length, get_or, take, drop, take_all, length-take-le, ltb-true}
 use Rattle.texts.proofs.Choosing.{both_true}
 use Rattle.printing.proofs.Writing.{writing}
 use Rattle.conversions.specs.Letters.{raised}

@@ -1,10 +1,5 @@
 -- Laws of storing a name that surely fits: two bytes are left for each of its positions.
-use mathlib.Core.Path.{◌≡◌}
-use mathlib.Core.Bool.{Bool, true, false}
-use mathlib.Core.List.{List, [], ◌∷◌, ◌++◌}
-use Prim.Native.Nat.{ℕ, ◌+◌, ◌-◌, ◌*◌, ◌≤◌, ◌<◌}
-use native.Mathlib.Omega.{arith}
-use lib.ListN.{length, get_or, set}
+use Rattle.std.proofs.Common.{◌≡◌, Bool, true, false, List, [], ◌∷◌, ◌++◌, ℕ, ◌+◌, ◌-◌, ◌*◌, ◌≤◌, ◌<◌, arith, length, get_or, set}
 use Rattle.texts.specs.Choice.{pick}
 use Rattle.printing.specs.Printed.{last, past, Printed}
 use Rattle.printing.specs.Repeated.{up_to}

@@ -1,12 +1,5 @@
 -- Laws of the elements' names: a, b, .. are what the comparisons say, in their order.
-use mathlib.Core.Path.{◌≡◌, refl, sym, ap, ◌∙◌}
-use mathlib.Core.Bool.{Bool, true, false, not}
-use mathlib.Core.List.{List, [], ◌∷◌, ◌++◌}
-use Prim.Native.Nat.{ℕ, ◌+◌, ◌≤◌}
-use native.Mathlib.Omega.{arith}
-use lib.Dec.{T, ltb, leb→le, ltb→lt}
-use lib.ListN.{length, drop, length-take, length-drop, take-append-drop}
-use borrow.Author.Tests.{eq-eqb}
+use Rattle.std.proofs.Common.{◌≡◌, refl, sym, ap, ◌∙◌, Bool, true, false, not, List, [], ◌∷◌, ◌++◌, ℕ, ◌+◌, ◌≤◌, arith, T, ltb, leb→le, ltb→lt, length, drop, length-take, length-drop, take-append-drop, eq-eqb}
 use Rattle.texts.specs.Text.{ascii, piece, same, starts_with}
 use Rattle.texts.proofs.Choosing.{by-test}
 use Rattle.texts.proofs.Comparing.{same-lengths, same-equal, starts-yes}

@@ -1,21 +1,13 @@
 -- Laws of copying text without `&`: eight bytes at a time, the last eight over bytes that are
 -- copied already, and the rest.
-use mathlib.Core.Path.{◌≡◌, refl, sym, ap, ◌∙◌}
-use mathlib.Core.Bool.{Bool, true, false, not}
-use mathlib.Core.List.{List, [], ◌∷◌, ◌++◌, append-nil}
-use Prim.Native.Nat.{ℕ, zero, suc, ◌+◌, ◌-◌, ◌≤◌, ◌<◌}
-use native.Mathlib.Omega.{arith}
-use lib.Dec.{eqb}
-use lib.ListN.{length, take, drop, set, length-append, length-take, length-drop, take-append-drop, drop_of_length-le}
-use lib.Seq.{sets, length-sets, length-take-le, take_all, take-add, take-length, drop-length, set-set, set_comm}
-use borrow.Author.Tests.{le-leb}
+use Rattle.std.proofs.Common.{◌≡◌, refl, sym, ap, ◌∙◌, Bool, true, false, not, List, [], ◌∷◌, ◌++◌, append-nil, ℕ, zero, suc, ◌+◌, ◌-◌, ◌≤◌, ◌<◌, arith, eqb, length, take, drop, set, length-append, length-take, length-drop, take-append-drop, drop_of_length-le, length-take-le, take_all, take-add, set-set, le-leb, Some, None}
+use lib.Seq.{sets, length-sets, take-length, drop-length, set_comm}
 use Rattle.texts.specs.Scan.{count_while, scan, until, is}
 use Rattle.texts.specs.Text.{piece}
 use Rattle.texts.proofs.Choosing.{by-test, pick_no}
 use Rattle.texts.proofs.Scanning.{count_yes, count_no}
 use Rattle.words.proofs.Copying.{sets-append}
 use Rattle.words.proofs.Finding.{count_past}
-use Rattle.std.specs.Prelude.{Some, None}
 use Rattle.entities.specs.Entities.{front, decoded_past, decoded, DecodedInto}
 use Rattle.entities.specs.Copying.{PlainTo, RestInto}
 use Rattle.entities.proofs.Decoding.{decoded-cons, decoding-short}

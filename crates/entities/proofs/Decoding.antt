@@ -1,21 +1,11 @@
 -- Laws of entities and of decoding.
-use mathlib.Core.Path.{◌≡◌, refl, sym, subst, ◌∙◌}
-use mathlib.Core.Bool.{Bool, true, false}
-use mathlib.Core.List.{List, [], ◌∷◌}
-use Prim.Native.Nat.{ℕ, zero, suc, ◌+◌, ◌-◌, ◌≤◌, ◌<◌, ◌^◌, zero-le, suc-le-suc}
-use native.Mathlib.Numerals.{add-one}
-use native.Mathlib.Omega.{arith}
-use lib.Dec.{eqb}
-use lib.ListN.{length, drop, get_or, set, length-set, length-drop, drop_of_length-le}
-use lib.Seq.{drop-cons, drop-drop, sets}
-use mir.Val.{Fits}
-use mir.Syntax.{w64}
-use borrow.Author.Tests.{eq-eqb, ne_eqb, le-leb, lt-leb}
+use Rattle.std.proofs.Common.{◌≡◌, refl, sym, subst, ◌∙◌, Bool, true, false, List, [], ◌∷◌, ℕ, zero, suc, ◌+◌, ◌-◌, ◌≤◌, ◌<◌, ◌^◌, zero-le, suc-le-suc, add-one, arith, eqb, length, drop, get_or, set, length-set, length-drop, drop_of_length-le, drop-cons, drop-drop, Fits, w64, eq-eqb, ne_eqb, le-leb, Option, Some, None}
+use lib.Seq.{sets}
+use borrow.Author.Tests.{lt-leb}
 use Rattle.texts.specs.Text.{ascii, starts_with}
 use Rattle.texts.proofs.Choosing.{pick_yes, pick_no, pick-by}
 use Rattle.texts.proofs.Comparing.{starts-length}
 use Rattle.entities.specs.declared.Unit.{Unit}
-use Rattle.std.specs.Prelude.{Option, Some, None}
 use Rattle.entities.specs.Entities.{entity, front, decoded_past, decoded, DecodedInto}
 use Rattle.entities.specs.Copying.{RestInto}
 

@@ -1,16 +1,6 @@
 -- Laws of writing run by run: what is to be written from position i on is the run, then what comes
 -- behind it.
-use mathlib.Core.Path.{◌≡◌, refl, sym, ap, ◌∙◌}
-use mathlib.Core.Bool.{Bool, true, false}
-use mathlib.Core.List.{List, [], ◌∷◌, ◌++◌}
-use Prim.Native.Nat.{ℕ, ◌+◌, ◌-◌, ◌^◌, ◌≤◌, ◌<◌}
-use native.Mathlib.Numerals.{add-one}
-use native.Mathlib.Omega.{arith}
-use lib.Dec.{eqb, ltb}
-use lib.ListN.{length, take, drop, get_or, drop_of_length-le}
-use lib.Seq.{drop-cons, drop-drop}
-use borrow.Author.Rules.{rules}
-use borrow.Author.Tests.{eqb-true}
+use Rattle.std.proofs.Common.{◌≡◌, refl, sym, ap, ◌∙◌, Bool, true, false, List, [], ◌∷◌, ◌++◌, ℕ, ◌+◌, ◌-◌, ◌^◌, ◌≤◌, ◌<◌, add-one, arith, eqb, ltb, length, take, drop, get_or, drop_of_length-le, drop-cons, drop-drop, rules, eqb-true}
 use Rattle.texts.specs.Scan.{count_while, scan}
 use Rattle.texts.specs.Text.{piece}
 use Rattle.texts.specs.Lists.{each}

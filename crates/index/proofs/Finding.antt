@@ -1,11 +1,6 @@
 -- Laws of searches by the index, each from the facts at hand where the code needs it.
-use mathlib.Core.Path.{◌≡◌, refl, sym, ◌∙◌}
-use mathlib.Core.Bool.{true, false}
-use Rattle.std.specs.Prelude.{Option, Some, None, is_some}
-use mathlib.Core.List.{List, [], ◌∷◌}
-use Prim.Native.Nat.{ℕ, ◌+◌, ◌*◌, ◌-◌, ◌≤◌, ◌<◌}
-use native.Mathlib.Omega.{arith}
-use lib.ListN.{length, get_or, get_or-eq_default}
+use Rattle.std.proofs.Common.{◌≡◌, refl, sym, ◌∙◌, true, false, Option, Some, None, is_some, List, [], ◌∷◌, ℕ, ◌+◌, ◌*◌, ◌-◌, ◌≤◌, ◌<◌, arith, length, get_or}
+use lib.ListN.{get_or-eq_default}
 use Rattle.model.specs.Schema.{Schema, item_at, no_item, next_under, last_named, a_type, a_composite, an_enum}
 use Rattle.model.specs.Search.{ahead}
 use Rattle.model.proofs.Records.{by_less}

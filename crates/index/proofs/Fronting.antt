@@ -1,9 +1,5 @@
 -- An item put in front of a list of the index: what changes, and what stays.
-use mathlib.Core.Path.{◌≡◌, ◌∙◌}
-use mathlib.Core.List.{List}
-use Prim.Native.Nat.{ℕ, ◌+◌, ◌<◌}
-use lib.ListN.{length, get_or, set, length-set}
-use lib.Seq.{get_or-set_same, get_or-set_other}
+use Rattle.std.proofs.Common.{◌≡◌, ◌∙◌, List, ℕ, ◌+◌, ◌<◌, length, get_or, set, length-set, get_or-set_same, get_or-set_other}
 use Rattle.index.specs.Index.{fronted}
 
 module _ (ix : List ℕ) (head at i : ℕ) where

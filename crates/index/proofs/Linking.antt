@@ -1,14 +1,5 @@
 -- The links of the items from a position on, and of one more before them.
-use mathlib.Core.Path.{◌≡◌, sym, ap, ◌∙◌}
-use Rattle.std.specs.Prelude.{Some, None}
-use mathlib.Core.List.{List}
-use Prim.Native.Nat.{ℕ, suc, ◌+◌, ◌*◌, ◌≤◌, ◌<◌}
-use native.Mathlib.Numerals.{add-one}
-use native.Mathlib.Omega.{arith}
-use lib.Dec.{eqb}
-use lib.ListN.{length, get_or, drop, drop_of_length-le}
-use lib.Seq.{drop-cons}
-use borrow.Author.Tests.{eqb-true, eq-eqb}
+use Rattle.std.proofs.Common.{◌≡◌, sym, ap, ◌∙◌, Some, None, List, ℕ, suc, ◌+◌, ◌*◌, ◌≤◌, ◌<◌, add-one, arith, eqb, length, get_or, drop, drop_of_length-le, drop-cons, eqb-true, eq-eqb}
 use Rattle.texts.proofs.Choosing.{by-test, both_true}
 use Rattle.model.specs.Schema.{Schema, item_at, no_item, positions_from, first, next_under}
 use Rattle.model.proofs.Records.{by_less}

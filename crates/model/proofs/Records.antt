@@ -1,13 +1,7 @@
 -- Laws of the records: what a store of an entry changes, and what it leaves.
-use mathlib.Core.Path.{◌≡◌, refl, sym, ap, ◌∙◌}
-use mathlib.Core.List.{List, [], ◌∷◌, ◌++◌}
-use Prim.Native.Nat.{ℕ, zero, suc, ◌+◌, ◌*◌, ◌≤◌, ◌<◌}
-use native.Mathlib.Numerals.{add-one}
-use native.Mathlib.Omega.{arith}
-use lib.Dec.{ltb}
-use lib.ListN.{length, get_or, set, length-append, get_or-append}
-use lib.Seq.{sets, get_or-set_other, set-append_left, set_at, get_or_at}
-use borrow.Author.Tests.{ltb-true, ltb-false}
+use Rattle.std.proofs.Common.{◌≡◌, refl, sym, ap, ◌∙◌, List, [], ◌∷◌, ◌++◌, ℕ, zero, suc, ◌+◌, ◌*◌, ◌≤◌, ◌<◌, add-one, arith, ltb, length, get_or, set, length-append, get_or-set_other, ltb-true, ltb-false}
+use lib.ListN.{get_or-append}
+use lib.Seq.{sets, set-append_left, set_at, get_or_at}
 use Rattle.texts.proofs.Choosing.{by-test}
 use Rattle.texts.proofs.Stores.{get_or-sets-below, get_or-sets-above, get_or-sets-in}
 use Rattle.model.specs.Schema.{no_item}

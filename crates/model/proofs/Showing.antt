@@ -1,11 +1,6 @@
 -- Laws of the accessors of a view.
-use mathlib.Core.Path.{◌≡◌, sym, ap, ◌∙◌}
-use mathlib.Core.List.{List}
-use Prim.Native.Nat.{ℕ, ◌≤◌, ◌<◌}
-use lib.ListN.{length, drop, get_or-eq_default, length-take}
-use native.Mathlib.Omega.{arith}
-use lib.Dec.{eqb}
-use borrow.Author.Tests.{eq-eqb, ne_eqb}
+use Rattle.std.proofs.Common.{◌≡◌, sym, ap, ◌∙◌, List, ℕ, ◌≤◌, ◌<◌, length, drop, length-take, arith, eqb, eq-eqb, ne_eqb}
+use lib.ListN.{get_or-eq_default}
 use Rattle.texts.specs.Choice.{pick}
 use Rattle.texts.specs.Text.{piece}
 use Rattle.model.specs.Schema.{Item, Schema, no_item, item_at}

@@ -1,11 +1,6 @@
 -- Laws of the entries: the tests of a name, and the answer after them.
-use mathlib.Core.Path.{◌≡◌, refl, ap, ◌∙◌}
-use mathlib.Core.List.{List}
-use Prim.Native.Nat.{ℕ, ◌≤◌, ◌<◌}
-use lib.ListN.{length}
-use borrow.Author.Tests.{lt-ltb, le-ltb}
+use Rattle.std.proofs.Common.{◌≡◌, refl, ap, ◌∙◌, List, ℕ, ◌≤◌, ◌<◌, length, lt-ltb, le-ltb, Ok, Err, IsErrAnd}
 use Rattle.texts.specs.Scan.{scan, is_ascii}
-use Rattle.std.specs.Prelude.{Ok, Err, IsErrAnd}
 use Rattle.std.proofs.lemmas.Result.{err_from_is_err_and}
 use Rattle.refusals.specs.Figures.{Answer}
 use Rattle.refusals.specs.declared.Refusal.{Refusal}

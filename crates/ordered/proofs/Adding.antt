@@ -1,17 +1,8 @@
 -- The sorted names of the first items, and of one more.
-use mathlib.Core.Path.{◌≡◌, refl, sym, ap, ◌∙◌}
-use mathlib.Core.Bool.{Bool, true, false}
-use mathlib.Core.List.{List}
-use Prim.Native.Nat.{ℕ, ◌+◌, ◌-◌, ◌≤◌, ◌<◌}
-use native.Mathlib.Omega.{arith}
-use lib.Dec.{eqb}
-use lib.ListN.{length, get_or, set, length-set}
-use lib.Seq.{get_or-set_same, get_or-set_other}
-use borrow.Author.Tests.{eq-eqb, ne_eqb}
+use Rattle.std.proofs.Common.{◌≡◌, refl, sym, ap, ◌∙◌, Bool, true, false, List, ℕ, ◌+◌, ◌-◌, ◌≤◌, ◌<◌, arith, eqb, length, get_or, set, length-set, get_or-set_same, get_or-set_other, eq-eqb, ne_eqb, Result, Ok, Err}
 use Rattle.model.specs.Schema.{Schema, item_at, last_named, a_type, a_composite, an_enum}
 use Rattle.model.proofs.Records.{by_less}
 use Rattle.std.specs.declared.cmp.Ordering.TheVariants.{Less, Equal, Greater}
-use Rattle.std.specs.Prelude.{Result, Ok, Err}
 use Rattle.ordered.specs.Numbered.{declares, numbered, Added}
 use Rattle.ordered.specs.Ordered.{order, number_in, worth, name_at, Rising, Placed, Inserted, Ordered, Meeting}
 use Rattle.ordered.proofs.Comparing.{order-refl, greater-less}

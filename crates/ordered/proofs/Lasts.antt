@@ -1,13 +1,5 @@
 -- The last of the first n items that pass a test, and of the first n + 1.
-use mathlib.Core.Path.{◌≡◌}
-use mathlib.Core.Bool.{Bool, true, false}
-use Rattle.std.specs.Prelude.{Some}
-use mathlib.Core.List.{[], ◌∷◌, ◌++◌}
-use Prim.Native.Nat.{ℕ, ◌+◌, ◌<◌}
-use native.Mathlib.Numerals.{add-one}
-use native.Mathlib.Omega.{arith}
-use lib.ListN.{length, take}
-use lib.Seq.{take-suc, length-take-le}
+use Rattle.std.proofs.Common.{◌≡◌, Bool, true, false, Some, [], ◌∷◌, ◌++◌, ℕ, ◌+◌, ◌<◌, add-one, arith, length, take, take-suc, length-take-le}
 use Rattle.texts.specs.Choice.{pick}
 use Rattle.texts.proofs.Choosing.{by-test}
 use Rattle.model.specs.Schema.{Item, Schema, item_at, no_item, positions_from}

@@ -1,14 +1,7 @@
 -- What a name is declared as among the first items, and among one more.
-use mathlib.Core.Path.{◌≡◌, refl, ◌∙◌}
-use mathlib.Core.Bool.{true, false}
-use Rattle.std.specs.Prelude.{Option, Some, None}
-use mathlib.Core.List.{List}
-use Prim.Native.Nat.{ℕ, ◌+◌, ◌<◌}
-use native.Mathlib.Omega.{arith}
-use lib.Dec.{eqb}
-use lib.ListN.{length}
+use Rattle.std.proofs.Common.{◌≡◌, refl, ◌∙◌, true, false, Option, Some, None, List, ℕ, ◌+◌, ◌<◌, arith, eqb, length, eqb-true, ne_eqb}
 use lib.Seq.{take-length}
-use borrow.Author.Tests.{eqb-true, eqb-false, ne_eqb}
+use borrow.Author.Tests.{eqb-false}
 use Rattle.texts.specs.Choice.{pick}
 use Rattle.texts.specs.Text.{same}
 use Rattle.texts.proofs.Choosing.{by-test}

@@ -1,14 +1,9 @@
 -- Bisection of sorted names.
-use mathlib.Core.Path.{◌≡◌, sym, ap, ◌∙◌}
-use mathlib.Core.List.{List}
-use Prim.Native.Nat.{ℕ, ◌+◌, ◌≤◌, ◌<◌}
-use native.Mathlib.Omega.{arith}
-use lib.ListN.{get_or}
+use Rattle.std.proofs.Common.{◌≡◌, sym, ap, ◌∙◌, List, ℕ, ◌+◌, ◌≤◌, ◌<◌, arith, get_or, Ok, Err}
 use Rattle.model.proofs.Records.{by_less}
 use Rattle.model.specs.Schema.{Schema, item_at}
 use Rattle.std.specs.declared.cmp.Ordering.{Ordering}
 use Rattle.std.specs.declared.cmp.Ordering.TheVariants.{Less, Equal, Greater}
-use Rattle.std.specs.Prelude.{Ok, Err}
 use Rattle.ordered.specs.Ordered.{order, name_at, Rising, Placed}
 use Rattle.ordered.proofs.Numbering.{by_equal}
 use Rattle.ordered.proofs.Comparing.{order_same, order_trans, less-greater, greater-less}

@@ -1,11 +1,6 @@
 -- Laws of printing once more a text that stands in the slice.
-use mathlib.Core.Path.{◌≡◌, refl, sym, ap, ◌∙◌}
-use mathlib.Core.List.{List, ◌++◌}
-use Prim.Native.Nat.{ℕ, ◌+◌, ◌-◌, ◌≤◌, ◌<◌}
-use native.Mathlib.Omega.{arith}
-use lib.ListN.{length, get_or, set, take, drop, length-take}
-use lib.Seq.{sets, get_or-take, get_or-drop}
-use borrow.Author.Rules.{rules}
+use Rattle.std.proofs.Common.{◌≡◌, refl, sym, ap, ◌∙◌, List, ◌++◌, ℕ, ◌+◌, ◌-◌, ◌≤◌, ◌<◌, arith, length, get_or, set, take, drop, length-take, get_or-take, get_or-drop, rules}
+use lib.Seq.{sets}
 use Rattle.texts.specs.Text.{piece}
 use Rattle.texts.proofs.Pieces.{length-piece}
 use Rattle.texts.proofs.Stores.{get_or-sets-below, take-sets, piece-stored, piece-below}

@@ -1,12 +1,6 @@
 -- Laws of whole texts: one of which nothing fits is only counted, and one that fits is stored.
-use mathlib.Core.Path.{◌≡◌, refl, sym, ap, ◌∙◌}
-use mathlib.Core.List.{List, [], ◌∷◌, ◌++◌}
-use Prim.Native.Nat.{ℕ, zero, suc, ◌+◌, ◌-◌, ◌≤◌, ◌<◌, min}
-use native.Mathlib.Numerals.{add-one}
-use native.Mathlib.Omega.{arith}
-use lib.ListN.{length, get_or, set, take, drop, length-drop, take-append-drop}
-use lib.Seq.{sets, set_out, set-set, set_comm, take-suc, take-add, take_all, length-take-le}
-use borrow.Author.Tests.{eq-eqb, ne_eqb}
+use Rattle.std.proofs.Common.{◌≡◌, refl, sym, ap, ◌∙◌, List, [], ◌∷◌, ◌++◌, ℕ, zero, suc, ◌+◌, ◌-◌, ◌≤◌, ◌<◌, min, add-one, arith, length, get_or, set, take, drop, length-drop, take-append-drop, set-set, take-suc, take-add, take_all, length-take-le, eq-eqb, ne_eqb}
+use lib.Seq.{sets, set_out, set_comm}
 use Rattle.texts.specs.Text.{piece}
 use Rattle.words.proofs.Copying.{sets-append}
 use Rattle.printing.specs.Printed.{last, next, past, skipped, laid, Printed}

@@ -1,9 +1,5 @@
 -- Laws of texts printed one after the other.
-use mathlib.Core.Path.{◌≡◌, refl, ap, ◌∙◌}
-use mathlib.Core.List.{List, [], ◌∷◌, ◌++◌}
-use Prim.Native.Nat.{ℕ}
-use lib.ListN.{length, set, length-set}
-use mathlib.Core.Bool.{Bool, true, false}
+use Rattle.std.proofs.Common.{◌≡◌, refl, ap, ◌∙◌, List, [], ◌∷◌, ◌++◌, ℕ, length, set, length-set, Bool, true, false}
 use Rattle.texts.specs.Choice.{pick}
 use Rattle.printing.specs.Printed.{next, past, laid, Printed}
 

@@ -1,11 +1,6 @@
 -- Laws of texts written to an `Output` one after the other. With them `grind` proves chains of
 -- writes, of any length, and loops whose invariant is `Wrote l.initial.out l.out (up_to f l.i)`.
-use mathlib.Core.Path.{◌≡◌, refl, ap, ◌∙◌}
-use mathlib.Core.List.{List, [], ◌∷◌, ◌++◌, append_assoc, append-nil}
-use Prim.Native.Nat.{ℕ, ◌+◌, ◌<◌}
-use native.Mathlib.Numerals.{add-one}
-use lib.ListN.{length, take, get_or}
-use lib.Seq.{take-suc}
+use Rattle.std.proofs.Common.{◌≡◌, refl, ap, ◌∙◌, List, [], ◌∷◌, ◌++◌, append_assoc, append-nil, ℕ, ◌+◌, ◌<◌, add-one, length, take, get_or, take-suc}
 use Rattle.texts.specs.Lists.{each}
 use Rattle.printing.specs.Printed.{laid, past}
 use Rattle.printing.specs.Repeated.{up_to}

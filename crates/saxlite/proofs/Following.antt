@@ -1,15 +1,7 @@
 -- Laws of fuel: whatever stands at a position leads on within the document, so it never runs out.
-use Rattle.std.specs.Prelude.{Result, Option, Some, None, Ok, Err}
-use mathlib.Core.Path.{◌≡◌, refl, sym, ap, ◌∙◌}
-use mathlib.Core.Bool.{Bool, true, false}
-use mathlib.Core.List.{List}
-use Prim.Native.Nat.{ℕ, zero, suc, ◌+◌, ◌-◌, ◌≤◌, ◌<◌}
+use Rattle.std.proofs.Common.{Result, Option, Some, None, Ok, Err, ◌≡◌, refl, sym, ap, ◌∙◌, Bool, true, false, List, ℕ, zero, suc, ◌+◌, ◌-◌, ◌≤◌, ◌<◌, arith, add-one, eqb, leb, length, le-leb, leb-false}
 use Prim.Native.String.{String}
-use native.Mathlib.Omega.{arith}
-use native.Mathlib.Numerals.{add-one}
-use lib.Dec.{eqb, leb}
-use lib.ListN.{length}
-use borrow.Author.Tests.{lt-leb, le-leb, leb-false}
+use borrow.Author.Tests.{lt-leb}
 use Rattle.texts.specs.Choice.{pick}
 use Rattle.texts.specs.Text.{ascii, piece}
 use Rattle.texts.specs.Scan.{scan, until, is}

@@ -1,12 +1,5 @@
 -- Laws of the reader: what it yields at a cursor, and that it moves on.
-use Rattle.std.specs.Prelude.{Option, Some, None, Result, Ok, Err}
-use mathlib.Core.Path.{◌≡◌, refl, ap, ◌∙◌}
-use mathlib.Core.Bool.{false}
-use mathlib.Core.List.{List}
-use Prim.Native.Nat.{ℕ, ◌≤◌}
-use native.Mathlib.Omega.{arith}
-use lib.ListN.{length}
-use borrow.Author.Rules.{rules}
+use Rattle.std.proofs.Common.{Option, Some, None, Result, Ok, Err, ◌≡◌, refl, ap, ◌∙◌, false, List, ℕ, ◌≤◌, arith, length, rules}
 use Rattle.refusals.specs.declared.Refusal.{Refusal}
 use Rattle.saxlite.specs.Passing.{is_silent, Passed, PassedAll}
 use Rattle.saxlite.specs.Reader.{to_come, Yields}

@@ -1,15 +1,5 @@
 -- Laws of skipping markup that is no event; each premise is the result of a call or a test.
-use Rattle.std.specs.Prelude.{Option, Some, Result, Ok, Err}
-use mathlib.Core.Path.{◌≡◌, refl, sym, ap, ◌∙◌}
-use mathlib.Core.Bool.{Bool, true, false}
-use mathlib.Core.List.{List, [], ◌∷◌, ◌++◌}
-use Prim.Native.Nat.{ℕ, ◌+◌, ◌-◌, ◌≤◌, ◌<◌}
-use native.Mathlib.Omega.{arith}
-use lib.Dec.{eqb, ltb}
-use lib.ListN.{length, drop}
-use lib.Seq.{drop-drop}
-use borrow.Author.Rules.{rules}
-use borrow.Author.Tests.{eqb-true, ltb-true, ltb-false}
+use Rattle.std.proofs.Common.{Option, Some, Result, Ok, Err, ◌≡◌, refl, sym, ap, ◌∙◌, Bool, true, false, List, [], ◌∷◌, ◌++◌, ℕ, ◌+◌, ◌-◌, ◌≤◌, ◌<◌, arith, eqb, ltb, length, drop, drop-drop, rules, eqb-true, ltb-true, ltb-false}
 use Rattle.texts.specs.Choice.{◌or◌}
 use Rattle.texts.specs.Text.{ascii, starts_with}
 use Rattle.texts.proofs.Choosing.{by-test}

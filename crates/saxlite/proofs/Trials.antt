@@ -1,6 +1,5 @@
 -- The events of small documents, computed from the definitions.
-use mathlib.Core.Path.{◌≡◌, refl}
-use mathlib.Core.List.{List, [], ◌∷◌}
+use Rattle.std.proofs.Common.{◌≡◌, refl, List, [], ◌∷◌}
 use Rattle.texts.specs.Text.{ascii, same, starts_with}
 use Rattle.classes.specs.Class.{is_space, is_tag_name_end, is_attribute_name_end}
 use Rattle.refusals.specs.declared.Refusal.TheVariants.{OpenComment, NoTagName, NoAttributeName, NoEquals}

@@ -1,9 +1,5 @@
 -- Laws of reporting an answer as four numbers.
-use mathlib.Core.Path.{◌≡◌, ◌∙◌, ap, sym}
-use mathlib.Core.List.{List}
-use Prim.Native.Nat.{ℕ}
-use borrow.Author.Rules.{rules}
-use Rattle.std.specs.Prelude.{Err}
+use Rattle.std.proofs.Common.{◌≡◌, ◌∙◌, ap, sym, List, ℕ, rules, Err}
 use Rattle.refusals.specs.declared.Refusal.{Refusal}
 use Rattle.refusals.specs.Figures.{Answer, number_of, offset_of, place_of, number_in, offset_in, place_in, written_in}
 use Rattle.names.specs.Entry.{Tested, Answers}

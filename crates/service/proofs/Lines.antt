@@ -1,13 +1,5 @@
 -- Laws of a refusal's line: it is shorter than the program's output.
-use mathlib.Core.Path.{◌≡◌, refl, ap, ◌∙◌}
-use mathlib.Core.List.{List, [], ◌∷◌, ◌++◌}
-use Prim.Native.Nat.{ℕ, zero, suc, ◌+◌, ◌*◌, ◌/◌, ◌%◌, ◌≤◌, ◌<◌, ◌^◌}
-use native.Mathlib.Omega.{arith}
-use lib.Dec.{ltb}
-use lib.ListN.{length, take, drop, length-append}
-use lib.Seq.{take_at}
-use borrow.Author.Tests.{ltb-true, ltb-false, le-ltb}
-use Rattle.std.specs.Prelude.{Ok}
+use Rattle.std.proofs.Common.{◌≡◌, refl, ap, ◌∙◌, List, [], ◌∷◌, ◌++◌, ℕ, zero, suc, ◌+◌, ◌*◌, ◌/◌, ◌%◌, ◌≤◌, ◌<◌, ◌^◌, arith, ltb, length, take, drop, length-append, take_at, ltb-true, ltb-false, le-ltb, Ok}
 use Rattle.std.specs.Result.{result_unwrap_or}
 use Rattle.texts.specs.Text.{ascii, piece}
 use Rattle.texts.proofs.Choosing.{by-test}

@@ -1,15 +1,6 @@
 -- Laws of the beginning of a tag.
-use mathlib.Core.Path.{◌≡◌, refl, sym, ap, ◌∙◌}
-use mathlib.Core.Bool.{Bool, true, false}
-use mathlib.Core.List.{List, [], ◌∷◌, ◌++◌, append_assoc}
-use Prim.Native.Nat.{ℕ, suc, ◌+◌, ◌-◌, ◌≤◌, ◌<◌, ◌^◌}
-use native.Mathlib.Omega.{arith}
-use native.Mathlib.Nat.{add-zero}
-use lib.Dec.{T, lit<, leb→le}
-use lib.ListN.{length, take, drop, length-append}
-use lib.Seq.{take-append_seam, drop-append_seam, drop-drop}
-use mir.Val.{Fits}
-use mir.Syntax.{w64}
+use Rattle.std.proofs.Common.{◌≡◌, refl, sym, ap, ◌∙◌, Bool, true, false, List, [], ◌∷◌, ◌++◌, append_assoc, ℕ, suc, ◌+◌, ◌-◌, ◌≤◌, ◌<◌, ◌^◌, arith, add-zero, T, lit<, leb→le, length, take, drop, length-append, drop-drop, Fits, w64}
+use lib.Seq.{take-append_seam, drop-append_seam}
 use Rattle.texts.specs.Lists.{all}
 use Rattle.texts.specs.Text.{ascii, piece, same, starts_with}
 use Rattle.texts.specs.Scan.{count_while, scan, until}

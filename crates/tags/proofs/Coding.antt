@@ -1,16 +1,7 @@
 -- Laws of codes: which names matter in a tag, and what is noted of an attribute by its code.
 use Rattle.tags.specs.declared.tag.Ending.{Ending}
 use Rattle.texts.specs.declared.Range.{Range}
-use Rattle.std.specs.Prelude.{Some, None, Option, Result, Ok, Err}
-use mathlib.Core.Path.{◌≡◌, refl, sym, ap, ◌∙◌}
-use mathlib.Core.Bool.{Bool, true, false, not}
-use mathlib.Core.List.{List, [], ◌∷◌}
-use Prim.Native.Nat.{ℕ, suc, ◌+◌, ◌-◌, ◌<◌}
-use native.Mathlib.Nat.{zero-add}
-use native.Mathlib.Omega.{arith}
-use lib.Dec.{T, eqb, leb, leb→le}
-use lib.ListN.{length}
-use borrow.Author.Tests.{eq-eqb, ne_eqb, le-ltb}
+use Rattle.std.proofs.Common.{Some, None, Option, Result, Ok, Err, ◌≡◌, refl, sym, ap, ◌∙◌, Bool, true, false, not, List, [], ◌∷◌, ℕ, suc, ◌+◌, ◌-◌, ◌<◌, zero-add, arith, T, eqb, leb, leb→le, length, eq-eqb, ne_eqb, le-ltb}
 use Rattle.texts.specs.Choice.{pick}
 use Rattle.texts.specs.Lists.{all}
 use Rattle.texts.specs.Text.{ascii, piece, same}

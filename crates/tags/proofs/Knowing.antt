@@ -1,18 +1,8 @@
 -- Laws of known attributes: the fast path reads the part that the general way reads.
 use Rattle.refusals.specs.declared.Refusal.{Refusal}
-use Rattle.std.specs.Prelude.{Some, None, Result}
-use mathlib.Core.Path.{◌≡◌, refl, sym, ap, subst, ◌∙◌}
-use mathlib.Core.Bool.{Bool, true, false, not}
-use mathlib.Core.List.{List, [], ◌∷◌, ◌++◌, append_assoc}
-use Prim.Native.Nat.{ℕ, zero, suc, ◌+◌, ◌-◌, ◌≤◌, ◌<◌, ◌^◌}
-use native.Mathlib.Nat.{add-zero}
-use native.Mathlib.Omega.{arith}
-use lib.Dec.{T, eqb, ltb}
-use lib.ListN.{length, take, drop, length-append, take-append-drop}
-use lib.Seq.{drop-drop, take-append_seam, drop-append_seam}
-use mir.Val.{Fits}
-use mir.Syntax.{w64}
-use borrow.Author.Tests.{eqb-true, eqb-false}
+use Rattle.std.proofs.Common.{Some, None, Result, ◌≡◌, refl, sym, ap, subst, ◌∙◌, Bool, true, false, not, List, [], ◌∷◌, ◌++◌, append_assoc, ℕ, zero, suc, ◌+◌, ◌-◌, ◌≤◌, ◌<◌, ◌^◌, add-zero, arith, T, eqb, ltb, length, take, drop, length-append, take-append-drop, drop-drop, Fits, w64, eqb-true}
+use lib.Seq.{take-append_seam, drop-append_seam}
+use borrow.Author.Tests.{eqb-false}
 use Rattle.texts.specs.Choice.{◌and◌, ◌or◌}
 use Rattle.texts.specs.Lists.{all}
 use Rattle.texts.specs.Text.{ascii, piece, same, starts_with}

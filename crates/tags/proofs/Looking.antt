@@ -1,13 +1,7 @@
 -- Laws of the look-up: what the loop of `tag_noting` keeps of each name.
 use Rattle.tags.specs.declared.tag.Ending.{Ending}
 use Rattle.texts.specs.declared.Range.{Range}
-use Rattle.std.specs.Prelude.{Option, Some, None, Result, Ok, Err}
-use mathlib.Core.Path.{◌≡◌, refl, sym, ap, ◌∙◌}
-use mathlib.Core.Bool.{Bool, true, false}
-use mathlib.Core.List.{List}
-use Prim.Native.Nat.{ℕ, ◌+◌, ◌-◌}
-use native.Mathlib.Omega.{arith}
-use native.Mathlib.Numerals.{add-one}
+use Rattle.std.proofs.Common.{Option, Some, None, Result, Ok, Err, ◌≡◌, refl, sym, ap, ◌∙◌, Bool, true, false, List, ℕ, ◌+◌, ◌-◌, arith, add-one}
 use Rattle.texts.specs.Choice.{pick}
 use Rattle.texts.specs.Text.{piece, same}
 use Rattle.texts.proofs.Choosing.{by-test, pick_yes, pick_no}

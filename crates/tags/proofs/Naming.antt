@@ -1,16 +1,7 @@
 -- Laws of names.
-use mathlib.Core.Path.{◌≡◌, sym, ap}
-use mathlib.Core.Bool.{Bool, true, false}
-use mathlib.Core.List.{List, [], ◌∷◌}
-use Prim.Native.Nat.{ℕ, zero, suc, ◌+◌, ◌-◌, ◌≤◌, ◌<◌, ◌^◌}
+use Rattle.std.proofs.Common.{◌≡◌, sym, ap, Bool, true, false, List, [], ◌∷◌, ℕ, zero, suc, ◌+◌, ◌-◌, ◌≤◌, ◌<◌, ◌^◌, arith, ltb, length, take, drop, length-take, length-drop, take_all, drop-drop, Fits, w64, lt-ltb, le-ltb, ltb-true}
 use native.Mathlib.Nat.{sub-zero, zero-sub, suc-sub-suc}
-use native.Mathlib.Omega.{arith}
-use lib.Dec.{ltb}
-use lib.ListN.{length, take, drop, length-take, length-drop}
-use lib.Seq.{take_all, take-nil, drop-drop}
-use mir.Val.{Fits}
-use mir.Syntax.{w64}
-use borrow.Author.Tests.{lt-ltb, le-ltb, ltb-true}
+use lib.Seq.{take-nil}
 use Rattle.texts.specs.Text.{ascii, piece, same, starts_with}
 use Rattle.texts.specs.Scan.{scan, until, is}
 use Rattle.texts.proofs.Choosing.{by-test, pick_yes, pick_no}

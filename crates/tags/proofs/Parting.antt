@@ -1,13 +1,7 @@
 -- Laws of one part of a tag, case by case; each premise is the result of a call or a test.
 use Rattle.refusals.specs.declared.Refusal.{Refusal}
-use Rattle.std.specs.Prelude.{Result, Ok, Err}
-use mathlib.Core.Path.{◌≡◌}
-use mathlib.Core.Bool.{Bool, true, false}
-use mathlib.Core.List.{List}
-use Prim.Native.Nat.{ℕ, ◌+◌, ◌-◌, ◌≤◌, ◌<◌}
-use native.Mathlib.Omega.{arith}
-use lib.ListN.{length, drop, get_or}
-use borrow.Author.Tests.{eq-eqb, ne_eqb, lt-ltb, le-ltb, lt-leb, le-leb}
+use Rattle.std.proofs.Common.{Result, Ok, Err, ◌≡◌, Bool, true, false, List, ℕ, ◌+◌, ◌-◌, ◌≤◌, ◌<◌, arith, length, drop, get_or, eq-eqb, ne_eqb, lt-ltb, le-ltb, le-leb}
+use borrow.Author.Tests.{lt-leb}
 use Rattle.texts.specs.Text.{ascii, starts_with}
 use Rattle.texts.specs.Scan.{scan, until, is}
 use Rattle.texts.proofs.Scanning.{scan-start, byte-on, byte-stop}

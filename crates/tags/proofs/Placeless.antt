@@ -1,13 +1,6 @@
 -- Laws: the parts of a tag do not depend on its place, which only refusals hold.
 use Rattle.tags.specs.declared.tag.Ending.{Ending}
-use Rattle.std.specs.Prelude.{Result, Ok, Err}
-use mathlib.Core.Path.{◌≡◌, refl, ap, ◌∙◌}
-use mathlib.Core.Bool.{Bool, true, false}
-use mathlib.Core.List.{List}
-use Prim.Native.Nat.{ℕ, ◌+◌, ◌-◌}
-use native.Mathlib.Omega.{arith}
-use lib.Dec.{eqb, ltb, leb}
-use lib.ListN.{length}
+use Rattle.std.proofs.Common.{Result, Ok, Err, ◌≡◌, refl, ap, ◌∙◌, Bool, true, false, List, ℕ, ◌+◌, ◌-◌, arith, eqb, ltb, leb, length}
 use Rattle.texts.specs.Choice.{pick}
 use Rattle.texts.specs.Scan.{scan, until, is}
 use Rattle.classes.specs.Class.{is_space, is_attribute_name_end}

@@ -1,10 +1,5 @@
 -- Laws: the attributes of a tag do not depend on its place, which only refusals hold.
-use Rattle.std.specs.Prelude.{Result, Ok, Err}
-use mathlib.Core.Path.{◌≡◌, refl}
-use mathlib.Core.List.{List}
-use Prim.Native.Nat.{ℕ, zero, suc, ◌+◌}
-use lib.Dec.{eqb, ltb, leb}
-use lib.ListN.{length}
+use Rattle.std.proofs.Common.{Result, Ok, Err, ◌≡◌, refl, List, ℕ, zero, suc, ◌+◌, eqb, ltb, leb, length}
 use Rattle.texts.specs.Scan.{scan, until, is}
 use Rattle.texts.proofs.Choosing.{pick-both}
 use Rattle.classes.specs.Class.{is_space, is_attribute_name_end}

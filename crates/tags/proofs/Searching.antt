@@ -1,17 +1,5 @@
 -- Laws of searching: what stands at a position, what the loop of `find` keeps, where a find lies.
-use Rattle.std.specs.Prelude.{Some, None}
-use mathlib.Core.Path.{◌≡◌, refl, sym, ◌∙◌}
-use mathlib.Core.Bool.{Bool, true, false}
-use mathlib.Core.List.{List, [], ◌∷◌}
-use Prim.Native.Nat.{ℕ, ◌+◌, ◌≤◌, ◌<◌, ◌^◌, zero-le, suc-le-suc}
-use native.Mathlib.Omega.{arith}
-use native.Mathlib.Numerals.{add-one}
-use lib.Dec.{leb, ltb, T, leb→le, lit<}
-use lib.ListN.{length, drop, get_or, drop_of_length-le, length-drop}
-use lib.Seq.{drop-cons}
-use mir.Val.{Fits}
-use mir.Syntax.{w64}
-use borrow.Author.Tests.{eq-eqb}
+use Rattle.std.proofs.Common.{Some, None, ◌≡◌, refl, sym, ◌∙◌, Bool, true, false, List, [], ◌∷◌, ℕ, ◌+◌, ◌≤◌, ◌<◌, ◌^◌, zero-le, suc-le-suc, arith, add-one, leb, ltb, T, leb→le, lit<, length, drop, get_or, drop_of_length-le, length-drop, drop-cons, Fits, w64, eq-eqb}
 use Rattle.texts.specs.Text.{starts_with}
 use Rattle.texts.specs.Scan.{count_while, scan, until, is}
 use Rattle.texts.proofs.Choosing.{by-test}

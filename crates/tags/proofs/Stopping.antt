@@ -1,16 +1,6 @@
 -- Laws of a raw name that is scanned once, for its end and its first colon.
-use mathlib.Core.Path.{◌≡◌, refl, sym, ap, subst, ◌∙◌}
-use mathlib.Core.Bool.{Bool, true, false, not}
-use mathlib.Core.List.{List, [], ◌∷◌}
-use Prim.Native.Nat.{ℕ, zero, suc, ◌+◌, ◌-◌, ◌≤◌, ◌<◌, ◌^◌}
-use native.Mathlib.Nat.{zero-add, suc-add}
-use native.Mathlib.Omega.{arith}
-use lib.Dec.{T, eqb}
-use lib.ListN.{length, take, drop, get_or, length-take, length-drop}
-use lib.Seq.{drop-drop, get_or-drop}
-use mir.Val.{Fits}
-use mir.Syntax.{w64}
-use borrow.Author.Tests.{ne_eqb, not-false}
+use Rattle.std.proofs.Common.{◌≡◌, refl, sym, ap, subst, ◌∙◌, Bool, true, false, not, List, [], ◌∷◌, ℕ, zero, suc, ◌+◌, ◌-◌, ◌≤◌, ◌<◌, ◌^◌, zero-add, suc-add, arith, T, eqb, length, take, drop, get_or, length-take, length-drop, drop-drop, get_or-drop, Fits, w64, ne_eqb}
+use borrow.Author.Tests.{not-false}
 use Rattle.texts.specs.Choice.{◌or◌}
 use Rattle.texts.specs.Text.{piece}
 use Rattle.texts.specs.Scan.{count_while, scan, until, is}

@@ -1,10 +1,5 @@
 -- Laws of comparing the document with a known name, eight bytes at once.
-use mathlib.Core.Path.{◌≡◌, refl, sym, ◌∙◌}
-use mathlib.Core.Bool.{Bool, true}
-use mathlib.Core.List.{List}
-use Prim.Native.Nat.{ℕ, ◌<◌}
-use lib.Dec.{lit<, leb→le}
-use lib.ListN.{drop}
+use Rattle.std.proofs.Common.{◌≡◌, refl, sym, ◌∙◌, Bool, true, List, ℕ, ◌<◌, lit<, leb→le, drop}
 use Rattle.texts.specs.Text.{ascii, starts_with}
 use Rattle.words.specs.Word.{word_of}
 use Rattle.words.specs.Standing.{StandsShort, StandsLong}

@@ -1,9 +1,6 @@
 -- Look-ups in a small tag, computed from the definitions.
 use Rattle.texts.specs.declared.Range.{Range}
-use Rattle.std.specs.Prelude.{Option, Some, None}
-use mathlib.Core.Path.{◌≡◌, refl}
-use mathlib.Core.List.{List, [], ◌∷◌}
-use Prim.Native.Nat.{ℕ}
+use Rattle.std.proofs.Common.{Option, Some, None, ◌≡◌, refl, List, [], ◌∷◌, ℕ}
 use Rattle.texts.specs.Text.{ascii, same, starts_with}
 use Rattle.classes.specs.Class.{is_space, is_tag_name_end, is_attribute_name_end}
 use Rattle.tags.specs.Names.{prefix_length, is_xmlns}

@@ -1,9 +1,5 @@
 -- Laws of choice by a test.
-use mathlib.Core.Path.{◌≡◌, refl}
-use mathlib.Core.Bool.{Bool, true, false}
-use Prim.Native.Nat.{ℕ}
-use native.Mathlib.Omega.{arith}
-use lib.Dec.{T}
+use Rattle.std.proofs.Common.{◌≡◌, refl, Bool, true, false, ℕ, arith, T}
 use Rattle.texts.specs.Choice.{pick, ◌and◌}
 
 -- by cases of a test

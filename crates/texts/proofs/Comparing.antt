@@ -1,15 +1,6 @@
 -- Laws of comparing two texts: `same` and `starts_with`, and the library's comparisons of slices.
-use mathlib.Core.Path.{◌≡◌, refl, sym, ap, ◌∙◌}
-use mathlib.Core.Bool.{Bool, true, false, true≢false}
-use mathlib.Core.List.{List, [], ◌∷◌, ◌++◌}
-use Prim.Native.Nat.{ℕ, suc, ◌-◌, ◌≤◌, ◌<◌, zero-le, suc-le-suc}
-use native.Mathlib.Omega.{arith}
-use lib.Dec.{eqb}
+use Rattle.std.proofs.Common.{◌≡◌, refl, sym, ap, ◌∙◌, Bool, true, false, true≢false, List, [], ◌∷◌, ◌++◌, ℕ, suc, ◌-◌, ◌≤◌, ◌<◌, zero-le, suc-le-suc, arith, eqb, nat_eq, ◌&&◌, length, take, drop, length-drop, drop_of_length-le, take_all, eq-eqb, ne_eqb, eqb-true}
 use lib.Pointwise.{pointwise}
-use Rattle.std.specs.Prelude.{nat_eq, ◌&&◌}
-use lib.ListN.{length, take, drop, length-drop, drop_of_length-le}
-use lib.Seq.{take_all}
-use borrow.Author.Tests.{eq-eqb, ne_eqb, eqb-true}
 use Rattle.texts.specs.Choice.{◌and◌}
 use Rattle.texts.specs.Text.{piece, same, starts_with}
 use Rattle.texts.proofs.Choosing.{by-test}

@@ -1,10 +1,7 @@
 -- Laws of pieces of a text.
-use mathlib.Core.Path.{◌≡◌, sym}
-use mathlib.Core.List.{List, []}
-use Prim.Native.Nat.{ℕ, ◌+◌, ◌≤◌}
-use native.Mathlib.Omega.{arith}
-use lib.ListN.{length, take, drop, get_or, length-drop, drop_of_length-le, get_or-eq_default}
-use lib.Seq.{take_all, take-nil, length-take-le}
+use Rattle.std.proofs.Common.{◌≡◌, sym, List, [], ℕ, ◌+◌, ◌≤◌, arith, length, take, drop, get_or, length-drop, drop_of_length-le, take_all, length-take-le}
+use lib.ListN.{get_or-eq_default}
+use lib.Seq.{take-nil}
 use Rattle.texts.specs.Text.{piece}
 
 pub piece-none : (s : List ℕ) (a n : ℕ) → length s ≤ a → [] ≡ piece s a n

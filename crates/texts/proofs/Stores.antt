@@ -1,10 +1,7 @@
 -- Laws of runs of stores: what `sets` changes, and what it leaves.
-use mathlib.Core.Path.{◌≡◌, refl, sym, ap, ◌∙◌}
-use mathlib.Core.List.{List, [], ◌∷◌, ◌++◌, append_assoc}
-use Prim.Native.Nat.{ℕ, zero, suc, ◌+◌, ◌-◌, ◌≤◌, ◌<◌}
-use native.Mathlib.Omega.{arith}
-use lib.ListN.{length, take, drop, get_or, set, get_or-append}
-use lib.Seq.{sets, sets-eq, get_or-set_other, get_or-append-add, take-set-le, drop-set-lt, length-take-le, take-take, take-nil, drop-drop, take_at, drop_at}
+use Rattle.std.proofs.Common.{◌≡◌, refl, sym, ap, ◌∙◌, List, [], ◌∷◌, ◌++◌, append_assoc, ℕ, zero, suc, ◌+◌, ◌-◌, ◌≤◌, ◌<◌, arith, length, take, drop, get_or, set, get_or-set_other, get_or-append-add, drop-set-lt, length-take-le, take-take, drop-drop, take_at, drop_at}
+use lib.ListN.{get_or-append}
+use lib.Seq.{sets, sets-eq, take-set-le, take-nil}
 use Rattle.texts.specs.Text.{piece}
 
 pub get_or-sets-below : (vs l : List ℕ) (i j : ℕ) → j < i → get_or (sets l i vs) j 0 ≡ get_or l j 0

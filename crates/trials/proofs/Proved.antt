@@ -1,7 +1,6 @@
 -- Each trial holds by computation.
-use Rattle.std.proofs.Common.{◌≡◌, ◌∙◌, refl, ap, List, ℕ, ◌≤◌}
+use Rattle.std.proofs.Common.{◌≡◌, ◌∙◌, refl, ap, List, ℕ, ◌≤◌, false, ltb, Ok, Err}
 use Rattle.std.proofs.lemmas.Bool.{le-ltb}
-use Rattle.std.specs.Prelude.{false, ltb, Ok, Err}
 use Prim.Native.String.{String}
 use Rattle.texts.specs.Choice.{pick}
 use Rattle.refusals.specs.declared.Refusal.{Refusal}

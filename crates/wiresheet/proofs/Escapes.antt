@@ -1,11 +1,5 @@
 -- A text is determined by its quoted form: pairs of bytes below 128 are compared by computation.
-use mathlib.Core.Path.{◌≡◌, refl, subst}
-use mathlib.Core.Bool.{Bool, true, false}
-use mathlib.Core.List.{List, [], ◌∷◌}
-use Prim.Native.Nat.{ℕ, zero, suc, ◌<◌, ◌≤◌}
-use native.Mathlib.Omega.{arith}
-use lib.Dec.{T, eqb, ltb, ltb→lt}
-use borrow.Author.Tests.{ltb-true, ltb-false, eqb-true, ne_eqb, le-ltb}
+use Rattle.std.proofs.Common.{◌≡◌, refl, subst, Bool, true, false, List, [], ◌∷◌, ℕ, zero, suc, ◌<◌, ◌≤◌, arith, T, eqb, ltb, ltb→lt, ltb-true, ltb-false, eqb-true, ne_eqb, le-ltb}
 use Rattle.texts.specs.Choice.{◌or◌, ◌and◌}
 use Rattle.texts.specs.Text.{ascii}
 use Rattle.texts.specs.Lists.{Every}

@@ -1,12 +1,8 @@
 -- A line determines its kind, name and number: it determines the proto type, the option in brackets
 -- and the encoding in the comment, and these determine the kind.
-use mathlib.Core.Path.{◌≡◌, refl, ap, sym, ◌∙◌, subst}
-use mathlib.Core.Bool.{not}
-use mathlib.Core.List.{List, [], ◌∷◌, ◌++◌, append_assoc}
+use Rattle.std.proofs.Common.{◌≡◌, refl, ap, sym, ◌∙◌, subst, not, List, [], ◌∷◌, ◌++◌, append_assoc, ℕ, T, T_not, take}
 use mathlib.Core.Option.{Option, none, some}
-use Prim.Native.Nat.{ℕ}
-use lib.Dec.{T, T_not, not_T}
-use lib.ListN.{take}
+use lib.Dec.{not_T}
 use Rattle.texts.specs.Choice.{pick}
 use Rattle.texts.specs.Text.{ascii, same}
 use Rattle.texts.specs.Lists.{all, Every, among}

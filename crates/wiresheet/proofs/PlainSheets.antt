@@ -1,14 +1,6 @@
 -- The sheet of a plain schema has names that end where they should, and plain kinds.
-use mathlib.Core.Path.{◌≡◌, refl, ap, sym, ◌∙◌, subst}
-use mathlib.Core.Bool.{Bool, true, false, not}
-use mathlib.Core.List.{List, [], ◌∷◌, ◌++◌, map}
-use Rattle.std.specs.Prelude.{Option, Some, None, is_some}
-use Prim.Native.Nat.{ℕ, ◌+◌}
-use native.Mathlib.Nat.{add-zero}
-use lib.Dec.{T, eqb}
-use lib.ListN.{get_or, drop}
+use Rattle.std.proofs.Common.{◌≡◌, refl, ap, sym, ◌∙◌, subst, Bool, true, false, not, List, [], ◌∷◌, ◌++◌, map, Option, Some, None, is_some, ℕ, ◌+◌, add-zero, T, eqb, get_or, drop, get_or-drop, drop-drop}
 use borrow.Author.Tests.{not-false}
-use lib.Seq.{get_or-drop, drop-drop}
 use Rattle.texts.specs.Choice.{pick, ◌or◌, ◌and◌}
 use Rattle.texts.specs.Text.{ascii, same}
 use Rattle.texts.specs.Lists.{all, Every, among}

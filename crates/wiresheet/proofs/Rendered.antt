@@ -1,8 +1,6 @@
 -- A sheet with the names and kinds of a plain schema is determined by its rendering.
-use mathlib.Core.Path.{◌≡◌, refl, ap}
-use mathlib.Core.List.{List, [], ◌∷◌, ◌++◌, append_assoc, head-eq_of_cons-eq}
-use Prim.Native.Nat.{ℕ}
-use native.Mathlib.Omega.{arith}
+use Rattle.std.proofs.Common.{◌≡◌, refl, ap, List, [], ◌∷◌, ◌++◌, append_assoc, ℕ, arith}
+use mathlib.Core.List.{head-eq_of_cons-eq}
 use Rattle.texts.specs.Text.{ascii, same}
 use Rattle.texts.specs.Lists.{each, numbered, all, Every, among}
 use Rattle.conversions.specs.Conversions.{prefix_of}

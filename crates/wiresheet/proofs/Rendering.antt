@@ -1,10 +1,6 @@
 -- The source depends on the sheet alone: it is the sheet's own rendering.
-use mathlib.Core.Path.{◌≡◌, refl, ap}
-use mathlib.Core.List.{List, [], ◌∷◌, ◌++◌, map, append_assoc}
-use Prim.Native.Nat.{ℕ, ◌+◌, suc}
-use native.Mathlib.Nat.{add-zero}
-use native.Mathlib.Omega.{arith}
-use lib.ListN.{length, length-map}
+use Rattle.std.proofs.Common.{◌≡◌, refl, ap, List, [], ◌∷◌, ◌++◌, map, append_assoc, ℕ, ◌+◌, suc, add-zero, arith, length}
+use lib.ListN.{length-map}
 use Rattle.texts.specs.Text.{ascii}
 use Rattle.texts.specs.Lists.{each, numbered}
 use Rattle.texts.proofs.Choosing.{by-test}

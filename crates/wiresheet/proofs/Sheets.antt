@@ -1,8 +1,5 @@
 -- Laws of the sheet as lines: what is written is what the definition shows.
-use mathlib.Core.Path.{◌≡◌, refl, sym, ap, subst, ◌∙◌}
-use mathlib.Core.Bool.{Bool, true, false}
-use mathlib.Core.List.{List, [], ◌∷◌, ◌++◌, map, append_assoc}
-use Prim.Native.Nat.{ℕ}
+use Rattle.std.proofs.Common.{◌≡◌, refl, sym, ap, subst, ◌∙◌, Bool, true, false, List, [], ◌∷◌, ◌++◌, map, append_assoc, ℕ}
 use Rattle.texts.specs.Text.{ascii, same}
 use Rattle.texts.specs.Lists.{each}
 use Rattle.printing.specs.Decimal.{decimal}

@@ -1,9 +1,7 @@
 -- Texts that can be read in one way only: a combinator for each part that the source is printed of.
-use mathlib.Core.Path.{◌≡◌, refl, sym, ◌∙◌, subst}
-use mathlib.Core.Bool.{Bool, true, false, not}
-use mathlib.Core.List.{List, [], ◌∷◌, ◌++◌, append_assoc, append_cancel_left, head-eq_of_cons-eq, tail-eq_of_cons-eq}
-use Prim.Native.Nat.{ℕ, ◌+◌}
-use lib.Dec.{T, eqb, eqb_refl, T_not}
+use Rattle.std.proofs.Common.{◌≡◌, refl, sym, ◌∙◌, subst, Bool, true, false, not, List, [], ◌∷◌, ◌++◌, append_assoc, ℕ, ◌+◌, T, eqb, T_not}
+use mathlib.Core.List.{append_cancel_left, head-eq_of_cons-eq, tail-eq_of_cons-eq}
+use lib.Dec.{eqb_refl}
 use Rattle.texts.proofs.Choosing.{and_left, and_right}
 use Rattle.texts.specs.Lists.{each, numbered, all, Every}
 

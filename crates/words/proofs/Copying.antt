@@ -1,12 +1,6 @@
 -- Laws of copying byte by byte: what is copied so far, and one byte more.
-use mathlib.Core.Path.{◌≡◌, sym, ap, ◌∙◌}
-use mathlib.Core.List.{List, [], ◌∷◌, ◌++◌}
-use Prim.Native.Nat.{ℕ, suc, ◌+◌, ◌≤◌, ◌<◌}
-use native.Mathlib.Nat.{add-zero}
-use native.Mathlib.Numerals.{add-one}
-use native.Mathlib.Omega.{arith}
-use lib.ListN.{length, take, drop, get_or, set, length-drop}
-use lib.Seq.{sets, take-suc, take-suc-set, take_all, length-take-le, get_or-drop}
+use Rattle.std.proofs.Common.{◌≡◌, sym, ap, ◌∙◌, List, [], ◌∷◌, ◌++◌, ℕ, suc, ◌+◌, ◌≤◌, ◌<◌, add-zero, add-one, arith, length, take, drop, get_or, set, length-drop, take-suc, take-suc-set, take_all, length-take-le, get_or-drop}
+use lib.Seq.{sets}
 use Rattle.texts.specs.Text.{piece}
 
 pub sets-append : (d : List ℕ) (at : ℕ) (xs ys : List ℕ) → sets d at (xs ++ ys) ≡ sets (sets d at xs) (at + length xs) ys

@@ -1,18 +1,9 @@
 -- Laws of the number of a run of bytes: it determines the bytes.
-use mathlib.Core.Path.{◌≡◌, refl, sym, ap, ap₂, ◌∙◌}
-use mathlib.Core.Bool.{true}
-use mathlib.Core.List.{List, [], ◌∷◌}
-use Prim.Native.Nat.{ℕ, zero, suc, ◌+◌, ◌*◌, ◌%◌, ◌^◌, ◌≤◌, ◌<◌}
-use native.Mathlib.Nat.{zero-lt-suc, one-le-pow, pow-suc, mod-one, zero-mod}
-use native.Mathlib.Numerals.{add-one}
-use native.Mathlib.Omega.{arith}
+use Rattle.std.proofs.Common.{◌≡◌, refl, sym, ap, ap₂, ◌∙◌, true, List, [], ◌∷◌, ℕ, zero, suc, ◌+◌, ◌*◌, ◌%◌, ◌^◌, ◌≤◌, ◌<◌, zero-lt-suc, pow-suc, add-one, arith, T, eqb, ltb, lit<, length, take, drop, get_or, drop-cons, length-take-le, take_all, take-take, eq-eqb, ne_eqb, eqb-true}
+use native.Mathlib.Nat.{one-le-pow, mod-one, zero-mod}
 use lib.Arith.{digits_div, digits_mod, mod-mul}
-use lib.Dec.{T, eqb, ltb, lit<}
 use lib.Ieee.Fits.{and_l, and_r}
-use lib.ListN.{length, take, drop, get_or}
 use lib.Pow.{are_bytes}
-use lib.Seq.{drop-cons, length-take-le, take_all, take-take}
-use borrow.Author.Tests.{eq-eqb, ne_eqb, eqb-true}
 use Rattle.texts.specs.Lists.{Every}
 use Rattle.texts.specs.Text.{piece, starts_with}
 use Rattle.texts.proofs.Choosing.{by-test}

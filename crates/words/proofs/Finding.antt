@@ -1,18 +1,8 @@
 -- Laws of finding a byte among eight: the lowest mark gives the number of bytes before it.
-use mathlib.Core.Path.{◌≡◌, refl, sym, ap, ap₂, ◌∙◌}
-use mathlib.Core.Bool.{Bool, not}
-use mathlib.Core.List.{List, [], ◌∷◌, map}
-use Prim.Native.Nat.{ℕ, zero, suc, ◌+◌, ◌*◌, ◌/◌, ◌^◌, ◌≤◌, ◌<◌, zero-le}
-use native.Mathlib.Nat.{zero-lt-suc, mul-one, mul_assoc, pow-suc, mul-div_cancel, mul-mod_left}
-use native.Mathlib.Omega.{arith}
+use Rattle.std.proofs.Common.{◌≡◌, refl, sym, ap, ap₂, ◌∙◌, Bool, not, List, [], ◌∷◌, map, ℕ, zero, suc, ◌+◌, ◌*◌, ◌/◌, ◌^◌, ◌≤◌, ◌<◌, zero-le, zero-lt-suc, mul-one, mul_assoc, pow-suc, mul-div_cancel, arith, eqb, ltb, lit<, length, take, drop, length-drop, drop-drop, ltb-true, ltb-false, Fits, w64}
+use native.Mathlib.Nat.{mul-mod_left}
 use lib.Arith.{digits_mod}
 use lib.Count.{count_trailing_zeros, under, trailing_of_zero, trailing_le}
-use lib.Dec.{eqb, ltb, lit<}
-use lib.ListN.{length, take, drop, length-drop}
-use lib.Seq.{drop-drop}
-use borrow.Author.Tests.{ltb-true, ltb-false}
-use mir.Val.{Fits}
-use mir.Syntax.{w64}
 use Rattle.texts.specs.Text.{piece}
 use Rattle.texts.specs.Scan.{count_while, scan, until, is}
 use Rattle.texts.proofs.Choosing.{by-test, pick_yes, pick_no}

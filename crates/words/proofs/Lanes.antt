@@ -1,15 +1,7 @@
 -- Laws of words byte by byte: each operation of `marks` acts on a byte as on a lane of its own.
-use mathlib.Core.Path.{◌≡◌, refl, sym, ap, ap₂, ◌∙◌}
-use mathlib.Core.List.{List, [], ◌∷◌, map, map-id}
-use Prim.Native.Nat.{ℕ, zero, suc, ◌+◌, ◌-◌, ◌*◌, ◌^◌, ◌≤◌, ◌<◌}
-use native.Mathlib.Nat.{mul-zero, mul-one, mul-add, mul_assoc}
-use native.Mathlib.Omega.{arith}
+use Rattle.std.proofs.Common.{◌≡◌, refl, sym, ap, ap₂, ◌∙◌, List, [], ◌∷◌, map, map-id, ℕ, zero, suc, ◌+◌, ◌-◌, ◌*◌, ◌^◌, ◌≤◌, ◌<◌, mul-zero, mul-one, mul-add, mul_assoc, arith, eqb, ltb, length, Fits, w64, eqb-true, ltb-true, ltb-false}
 use lib.Bits.{bit_and, bit_or, bit_xor, and_block, or_block, xor_block, and_le_l, and_le_r, and_mask, and_high, or_lt, or_add_and, xor_lt, xor_self, xor_add_and}
-use lib.Dec.{eqb, ltb}
-use lib.ListN.{length}
-use mir.Val.{Fits}
-use mir.Syntax.{w64}
-use borrow.Author.Tests.{eqb-true, eqb-false, ltb-true, ltb-false}
+use borrow.Author.Tests.{eqb-false}
 use Rattle.texts.specs.Lists.{Every}
 use Rattle.texts.specs.Text.{piece}
 use Rattle.texts.proofs.Choosing.{by-test, pick_yes, pick_no}

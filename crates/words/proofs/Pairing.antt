@@ -1,17 +1,8 @@
 -- Laws of finding a short text at eight places, by what the marks of its bytes have in common.
-use mathlib.Core.Path.{◌≡◌, refl, sym, ap, ap₂, ◌∙◌}
-use mathlib.Core.Bool.{Bool, true, false}
-use mathlib.Core.List.{List, [], ◌∷◌, ◌++◌, map}
-use Prim.Native.Nat.{ℕ, zero, suc, ◌+◌, ◌-◌, ◌*◌, ◌/◌, ◌≤◌, ◌<◌}
-use native.Mathlib.Numerals.{add-one}
-use native.Mathlib.Omega.{arith}
+use Rattle.std.proofs.Common.{◌≡◌, refl, sym, ap, ap₂, ◌∙◌, Bool, true, false, List, [], ◌∷◌, ◌++◌, map, ℕ, zero, suc, ◌+◌, ◌-◌, ◌*◌, ◌/◌, ◌≤◌, ◌<◌, add-one, arith, eqb, ltb, lit<, length, take, drop, get_or, replicate, length-drop, drop-drop, take-suc, ltb-true, ltb-false}
 use lib.Bits.{bit_and, and_block}
 use lib.Count.{count_trailing_zeros, trailing_of_zero, trailing_le}
-use lib.Dec.{eqb, ltb, lit<}
-use lib.ListN.{length, take, drop, get_or, replicate, length-drop}
-use lib.Seq.{drop-drop, take-suc}
 use Rattle.std.proofs.lemmas.List.{length-take-le}
-use borrow.Author.Tests.{ltb-true, ltb-false}
 use Rattle.texts.specs.Choice.{pick, ◌and◌}
 use Rattle.texts.specs.Text.{starts_with}
 use Rattle.texts.proofs.Choosing.{by-test, pick_yes, pick_no}

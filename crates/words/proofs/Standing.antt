@@ -1,13 +1,6 @@
 -- Laws of comparing with a literal that is given by its numbers.
-use mathlib.Core.Path.{◌≡◌, sym, ap, ◌∙◌}
-use mathlib.Core.Bool.{Bool, false}
-use mathlib.Core.List.{List}
-use Prim.Native.Nat.{ℕ, ◌+◌, ◌<◌, ◌%◌}
-use native.Mathlib.Nat.{zero-lt-suc, one-le-pow}
-use lib.Dec.{eqb}
-use lib.ListN.{length, take, drop, take-append-drop}
-use lib.Seq.{drop-drop}
-use borrow.Author.Tests.{eq-eqb, ne_eqb}
+use Rattle.std.proofs.Common.{◌≡◌, sym, ap, ◌∙◌, Bool, false, List, ℕ, ◌+◌, ◌<◌, ◌%◌, zero-lt-suc, eqb, length, take, drop, take-append-drop, drop-drop, eq-eqb, ne_eqb}
+use native.Mathlib.Nat.{one-le-pow}
 use Rattle.texts.specs.Choice.{◌and◌}
 use Rattle.texts.specs.Text.{piece, starts_with}
 use Rattle.texts.proofs.Comparing.{starts-append}

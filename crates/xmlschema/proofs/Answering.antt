@@ -1,12 +1,5 @@
 -- Laws of the whole answer: 1, 2, 10, then what reading makes.
-use mathlib.Core.Path.{◌≡◌, refl}
-use mathlib.Core.List.{List}
-use mathlib.Core.Logic.{⊎_elim}
-use Prim.Native.Nat.{ℕ, ◌≤◌, ◌<◌}
-use native.Mathlib.Omega.{arith}
-use lib.ListN.{length}
-use Rattle.std.specs.Prelude.{Result, Err}
-use borrow.Author.Tests.{lt-ltb, le-ltb}
+use Rattle.std.proofs.Common.{◌≡◌, refl, List, ⊎_elim, ℕ, ◌≤◌, ◌<◌, arith, length, Result, Err, lt-ltb, le-ltb}
 use Rattle.texts.specs.Scan.{scan, is_ascii}
 use Rattle.refusals.specs.declared.Refusal.{Refusal}
 use Rattle.refusals.specs.declared.Refusal.TheVariants.{TooLong, NoWorkSpace, NotAscii}

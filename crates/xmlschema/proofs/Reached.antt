@@ -4,16 +4,10 @@
 -- and a validValue is open above the nearest open enum, the items hold a value of the current enum.
 -- It holds of the empty builder (`track-empty`), every event keeps it (`track`), and so it holds
 -- wherever events lead (`reached-tracked`).
-use mathlib.Core.Path.{◌≡◌, refl, sym, ap, ◌∙◌}
-use mathlib.Core.Bool.{Bool, true, false}
-use mathlib.Core.List.{List, [], ◌∷◌, ◌++◌}
-use Rattle.std.specs.Prelude.{Option, Some, None}
-use Prim.Native.Nat.{ℕ, zero, suc, ◌+◌, ◌<◌}
-use native.Mathlib.Omega.{arith}
-use lib.Dec.{leb, eqb}
-use lib.ListN.{length, get_or, set, length-set, length-append, get_or-append}
-use lib.Seq.{get_or_at, get_or-set_same, get_or-set_other}
-use borrow.Author.Tests.{eq-eqb, eqb-true, eqb-false}
+use Rattle.std.proofs.Common.{◌≡◌, refl, sym, ap, ◌∙◌, Bool, true, false, List, [], ◌∷◌, ◌++◌, Option, Some, None, ℕ, zero, suc, ◌+◌, ◌<◌, arith, leb, eqb, length, get_or, set, length-set, length-append, get_or-set_same, get_or-set_other, eq-eqb, eqb-true}
+use lib.ListN.{get_or-append}
+use lib.Seq.{get_or_at}
+use borrow.Author.Tests.{eqb-false}
 use Rattle.texts.specs.Choice.{pick, ◌and◌}
 use Rattle.texts.specs.Text.{ascii, same}
 use Rattle.texts.proofs.Choosing.{by-test}

@@ -1,13 +1,7 @@
 -- Laws of schemas in which no item has the form of an array: nothing is refused.
-use mathlib.Core.Path.{◌≡◌, refl, sym, ◌∙◌}
-use mathlib.Core.Bool.{Bool, true, false}
-use Rattle.std.specs.Prelude.{Option, Some, None}
-use mathlib.Core.List.{List, [], ◌∷◌}
-use Prim.Native.Nat.{ℕ, ◌+◌, ◌≤◌, ◌<◌}
-use native.Mathlib.Omega.{arith}
-use lib.Dec.{eqb}
-use lib.ListN.{length, get_or-eq_default}
-use borrow.Author.Tests.{eqb-true, eqb-false}
+use Rattle.std.proofs.Common.{◌≡◌, refl, sym, ◌∙◌, Bool, true, false, Option, Some, None, List, [], ◌∷◌, ℕ, ◌+◌, ◌≤◌, ◌<◌, arith, eqb, length, eqb-true, Ok}
+use lib.ListN.{get_or-eq_default}
+use borrow.Author.Tests.{eqb-false}
 use Rattle.texts.specs.Lists.{any, among}
 use Rattle.texts.proofs.Choosing.{by-test}
 use Rattle.model.proofs.Records.{by_less}
@@ -16,7 +10,6 @@ use Rattle.xmltoproto.specs.Types.{form_of, built_in, built_ins, is_array, is_de
 use Rattle.xmltoproto.specs.Composites.{is_printed}
 use Rattle.xmltoproto.specs.Arrays.{first_from, refused_composite, is_array_type, holds_array, refused_message, array_refusal}
 use Rattle.xmltoproto.specs.Refusing.{refusing, Arrayless}
-use Rattle.std.specs.Prelude.{Ok}
 
 -- ---- a test that holds of nothing
 

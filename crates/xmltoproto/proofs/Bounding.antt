@@ -1,12 +1,5 @@
 -- The source is no longer than its header and what each item adds at most.
-use mathlib.Core.Path.{◌≡◌}
-use mathlib.Core.Bool.{Bool, true}
-use mathlib.Core.List.{List, [], ◌++◌}
-use Prim.Native.Nat.{ℕ, zero, suc, ◌+◌, ◌≤◌, ◌<◌}
-use native.Mathlib.Omega.{arith}
-use lib.Dec.{eqb}
-use lib.ListN.{length, length-append}
-use borrow.Author.Tests.{eqb-true}
+use Rattle.std.proofs.Common.{◌≡◌, Bool, true, List, [], ◌++◌, ℕ, zero, suc, ◌+◌, ◌≤◌, ◌<◌, arith, eqb, length, length-append, eqb-true}
 use Rattle.texts.specs.Choice.{pick, ◌and◌}
 use Rattle.texts.specs.Text.{ascii}
 use Rattle.texts.specs.Lists.{is_empty, each, numbered}

@@ -1,19 +1,11 @@
 -- What the code counts covers what each item adds to the source.
-use mathlib.Core.Path.{◌≡◌, refl, sym, ap, ◌∙◌}
-use mathlib.Core.List.{List}
-use Prim.Native.Nat.{ℕ, zero, suc, ◌+◌, ◌*◌, ◌≤◌, ◌<◌, ◌^◌}
-use native.Mathlib.Omega.{arith}
-use native.Mathlib.Numerals.{add-one}
-use lib.ListN.{length}
-use borrow.Author.Rules.{rules}
-use borrow.Author.Tests.{ne_eqb}
+use Rattle.std.proofs.Common.{◌≡◌, refl, sym, ap, ◌∙◌, List, ℕ, zero, suc, ◌+◌, ◌*◌, ◌≤◌, ◌<◌, ◌^◌, arith, add-one, length, rules, ne_eqb, Option, Some, None}
 use Rattle.texts.specs.Choice.{pick}
 use Rattle.printing.specs.Decimal.{decimal}
 use Rattle.printing.proofs.Decimals.{decimal-one}
 use Rattle.index.specs.Declarations.{declaration_of}
 use Rattle.index.specs.declared.seen.Declaration.{Declaration}
 use Rattle.index.specs.declared.seen.Declaration.TheVariants.{Named, Typed}
-use Rattle.std.specs.Prelude.{Option, Some, None}
 use Rattle.model.specs.Schema.{Item, Schema, item_at}
 use Rattle.xmltoproto.specs.Types.{form_of, built_in}
 use Rattle.xmltoproto.specs.Source.{source}

@@ -1,13 +1,10 @@
 -- Laws of numbers of one, two and three digits.
-use mathlib.Core.List.{[], ◌∷◌}
-use Prim.Native.Nat.{ℕ, ◌+◌, ◌/◌, ◌%◌, ◌≤◌, ◌<◌}
-use native.Mathlib.Omega.{arith}
+use Rattle.std.proofs.Common.{[], ◌∷◌, ℕ, ◌+◌, ◌/◌, ◌%◌, ◌≤◌, ◌<◌, arith, rules}
 use Rattle.printing.specs.Decimal.{decimal}
 use Rattle.printing.specs.Written.{Wrote}
 use Rattle.printing.specs.declared.Output.{Output}
 use Rattle.printing.proofs.Decimals.{decimal-one, decimal-more}
 use Rattle.printing.proofs.Writing.{◌▹◌}
-use borrow.Author.Rules.{rules}
 
 module _ {o : Output} {o₁ : Output} {o₂ : Output} (n : ℕ) where
   pub two_digits : 10 ≤ n → n < 100 → Wrote o o₁ ((48 + n / 10) ∷ []) → Wrote o₁ o₂ ((48 + n % 10) ∷ []) → Wrote o o₂ (decimal n)

@@ -1,15 +1,6 @@
 -- Laws of the generator's answer; d is the answer about arrays.
-use mathlib.Core.Path.{◌≡◌, refl, sym, ap, ◌∙◌}
-use mathlib.Core.Bool.{Bool, true, false}
-use Rattle.std.specs.Prelude.{Option, None, Some}
-use mathlib.Core.List.{List, []}
-use Prim.Native.Nat.{ℕ, ◌≤◌, ◌<◌, ◌^◌}
-use native.Mathlib.Omega.{arith}
-use lib.Dec.{eqb, leb}
-use lib.ListN.{length}
-use borrow.Author.Tests.{le-leb, leb-true, leb-false}
+use Rattle.std.proofs.Common.{◌≡◌, refl, sym, ap, ◌∙◌, Bool, true, false, Option, None, Some, List, [], ℕ, ◌≤◌, ◌<◌, ◌^◌, arith, eqb, leb, length, le-leb, leb-true, leb-false, Ok, Err, IsErrAnd}
 use Rattle.texts.proofs.Choosing.{by-test}
-use Rattle.std.specs.Prelude.{Ok, Err, IsErrAnd}
 use Rattle.std.proofs.lemmas.Result.{err_from_is_err_and}
 use Rattle.refusals.specs.Figures.{Answer}
 use Rattle.refusals.specs.declared.Refusal.{Refusal}

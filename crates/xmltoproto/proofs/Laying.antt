@@ -1,7 +1,5 @@
 -- Laws of a line: the comment that names an encoding, the option with the end, and the whole.
-use mathlib.Core.Path.{◌≡◌}
-use mathlib.Core.List.{List, ◌++◌, append_assoc}
-use Prim.Native.Nat.{ℕ}
+use Rattle.std.proofs.Common.{◌≡◌, List, ◌++◌, append_assoc, ℕ}
 use Rattle.texts.specs.Text.{ascii}
 use Rattle.printing.specs.Decimal.{decimal}
 use Rattle.printing.specs.Written.{Wrote}

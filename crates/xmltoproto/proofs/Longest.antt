@@ -1,12 +1,5 @@
 -- How long the lines of the source are at most.
-use mathlib.Core.Path.{◌≡◌, refl}
-use mathlib.Core.Bool.{Bool, true, false}
-use mathlib.Core.List.{List, [], ◌∷◌}
-use Prim.Native.Nat.{ℕ, ◌+◌, ◌≤◌, ◌<◌}
-use native.Mathlib.Omega.{arith}
-use lib.Dec.{ltb}
-use lib.ListN.{length, length-append}
-use borrow.Author.Tests.{ltb-false}
+use Rattle.std.proofs.Common.{◌≡◌, refl, Bool, true, false, List, [], ◌∷◌, ℕ, ◌+◌, ◌≤◌, ◌<◌, arith, ltb, length, length-append, ltb-false, Option, Some, None}
 use Rattle.texts.specs.Choice.{pick}
 use Rattle.texts.specs.Text.{ascii}
 use Rattle.texts.specs.Trim.{trimmed_front, trimmed_back, trimmed}
@@ -18,7 +11,6 @@ use Rattle.conversions.specs.Conversions.{camel_to_snake}
 use Rattle.index.specs.Declarations.{declaration_of}
 use Rattle.index.specs.declared.seen.Declaration.{Declaration}
 use Rattle.index.specs.declared.seen.Declaration.TheVariants.{Named, Typed}
-use Rattle.std.specs.Prelude.{Option, Some, None}
 use Rattle.model.specs.Schema.{Item, Schema, item_at}
 use Rattle.xmltoproto.specs.Types.{Form, Proto, form_of, built_ins, built_in, is_char, chars, is_raw, as_named, of_length, note_on, narrow, as_primitive, proto_of, proto_by}
 use Rattle.xmltoproto.specs.Source.{value_text, note_line, bracketed, line, member_text, ref_text, field_text}

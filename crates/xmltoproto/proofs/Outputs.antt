@@ -1,8 +1,5 @@
 -- Laws of outputs: a text written to an output is one printed into its slice, and back.
-use mathlib.Core.Path.{◌≡◌, refl, sym, ap, ◌∙◌}
-use mathlib.Core.List.{List, []}
-use Prim.Native.Nat.{ℕ, ◌≤◌, ◌<◌, ◌^◌}
-use lib.ListN.{length}
+use Rattle.std.proofs.Common.{◌≡◌, refl, sym, ap, ◌∙◌, List, [], ℕ, ◌≤◌, ◌<◌, ◌^◌, length}
 use Rattle.printing.specs.Printed.{past, laid, Printed}
 use Rattle.printing.specs.Written.{written, moved, Wrote}
 use Rattle.printing.specs.declared.Output.{Output}

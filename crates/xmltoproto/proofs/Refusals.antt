@@ -1,10 +1,5 @@
 -- Laws of the array refusals.
-use mathlib.Core.Path.{◌≡◌, refl, sym, ap, ◌∙◌}
-use mathlib.Core.Bool.{Bool, true, false}
-use Rattle.std.specs.Prelude.{Option, Some, None}
-use mathlib.Core.List.{List, []}
-use Prim.Native.Nat.{ℕ, ◌≤◌}
-use borrow.Author.Tests.{le-ltb}
+use Rattle.std.proofs.Common.{◌≡◌, refl, sym, ap, ◌∙◌, Bool, true, false, Option, Some, None, List, [], ℕ, ◌≤◌, le-ltb, Ok, Err}
 use Rattle.refusals.specs.declared.Refusal.TheVariants.{ArrayInComposite, ArrayInMessage}
 use Rattle.texts.specs.Lists.{any}
 use Rattle.model.specs.Schema.{Item, Schema, item_at, all_of, under, a_member, a_composite, a_message, a_group, a_field}
@@ -15,7 +10,6 @@ use Rattle.xmltoproto.specs.Shapes.{form, meaning_in}
 use Rattle.xmltoproto.specs.Refusing.{refusing}
 use Rattle.xmltoproto.specs.declared.types.Sense.{Sense}
 use Rattle.xmltoproto.specs.declared.types.Sense.TheVariants as sense
-use Rattle.std.specs.Prelude.{Ok, Err}
 
 -- ---- one type
 

@@ -1,10 +1,5 @@
 -- Examples: arrays, a small schema's source, the empty document's length, a line of each kind.
-use mathlib.Core.Path.{◌≡◌, refl}
-use mathlib.Core.Bool.{true, false}
-use mathlib.Core.List.{List, [], ◌∷◌}
-use Rattle.std.specs.Prelude.{None, Some}
-use Prim.Native.Nat.{ℕ}
-use lib.ListN.{length}
+use Rattle.std.proofs.Common.{◌≡◌, refl, true, false, List, [], ◌∷◌, None, Some, ℕ, length}
 use Rattle.texts.specs.Text.{ascii, same, starts_with}
 use Rattle.texts.specs.Trim.{is_blank, trimmed_front, trimmed_back, trimmed}
 use Rattle.texts.specs.Lists.{each, numbered, any, among}

@@ -1,10 +1,5 @@
 -- Laws of how a type prints and of what a type name stands for.
-use mathlib.Core.Path.{◌≡◌, refl, sym, ap, ◌∙◌}
-use mathlib.Core.Bool.{Bool, true, false, not}
-use mathlib.Core.List.{List, [], ◌∷◌}
-use Rattle.std.specs.Prelude.{Option, Some, None, is_some}
-use Prim.Native.Nat.{ℕ, ◌≤◌, ◌<◌}
-use borrow.Author.Tests.{lt-ltb, le-ltb}
+use Rattle.std.proofs.Common.{◌≡◌, refl, sym, ap, ◌∙◌, Bool, true, false, not, List, [], ◌∷◌, Option, Some, None, is_some, ℕ, ◌≤◌, ◌<◌, lt-ltb, le-ltb}
 use Rattle.texts.specs.Choice.{pick, ◌or◌}
 use Rattle.texts.specs.Text.{ascii, same}
 use Rattle.texts.specs.Lists.{among}

@@ -1,7 +1,4 @@
-use mathlib.Core.Path.{◌≡◌}
-use mathlib.Core.Bool.{true}
-use Prim.Native.Nat.{◌+◌}
-use lib.ListN.{drop}
+use Rattle.std.proofs.Common.{◌≡◌, true, ◌+◌, drop}
 use Rattle.charsets.specs.Charset.{cleaned}
 use Rattle.charsets.proofs.is_punctuation_eight.Given as goal
 

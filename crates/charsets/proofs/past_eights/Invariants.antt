@@ -1,5 +1,4 @@
-use Prim.Native.Nat.{◌-◌}
-use lib.ListN.{length}
+use Rattle.std.proofs.Common.{◌-◌, length}
 use Rattle.charsets.specs.Letters.{Passed}
 use Rattle.charsets.proofs.past_eights.Given as goal
 

@@ -1,5 +1,4 @@
-use Prim.Native.Nat.{◌-◌}
-use lib.ListN.{length}
+use Rattle.std.proofs.Common.{◌-◌, length}
 use Rattle.entities.specs.Copying.{PlainTo}
 use Rattle.entities.proofs.copy_plain.Given as goal
 

@@ -1,5 +1,4 @@
-use Prim.Native.Nat.{◌-◌}
-use lib.ListN.{length}
+use Rattle.std.proofs.Common.{◌-◌, length}
 use Rattle.entities.proofs.Decoding.{Decoding}
 use Rattle.entities.proofs.decode_each.Given as goal
 

@@ -1,5 +1,4 @@
-use Prim.Native.Nat.{◌-◌}
-use lib.ListN.{length}
+use Rattle.std.proofs.Common.{◌-◌, length}
 use Rattle.escaping.proofs.Runs.{Runs}
 use Rattle.escaping.proofs.write_runs.Given as goal
 

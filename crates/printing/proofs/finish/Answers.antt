@@ -1,5 +1,4 @@
-use native.Mathlib.Omega.{arith}
-use mathlib.Core.Path.{refl}
+use Rattle.std.proofs.Common.{arith, refl}
 use Rattle.printing.specs.Output.{output_after}
 use Rattle.printing.proofs.Finishing.{no_room, wrote, wrote-output}
 use Rattle.printing.proofs.finish.Goals as goal

@@ -1,8 +1,4 @@
-use Prim.Native.Nat.{◌<◌, ◌≤◌}
-use native.Mathlib.Numerals.{add-one}
-use native.Mathlib.Omega.{arith}
-use lib.ListN.{length}
-use lib.Seq.{take-suc, take_all}
+use Rattle.std.proofs.Common.{◌<◌, ◌≤◌, add-one, arith, length, take-suc, take_all}
 use Rattle.printing.proofs.Sequencing.{blank, ◌▸◌}
 use Rattle.printing.proofs.put_each.Goals as goal
 

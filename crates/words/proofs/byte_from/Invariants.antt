@@ -1,6 +1,4 @@
-use mathlib.Core.Path.{◌≡◌}
-use Prim.Native.Nat.{◌+◌, ◌-◌}
-use lib.ListN.{length}
+use Rattle.std.proofs.Common.{◌≡◌, ◌+◌, ◌-◌, length}
 use Rattle.texts.specs.Scan.{until, is}
 use Rattle.texts.proofs.Scanning.{Scanning}
 use Rattle.words.proofs.byte_from.Given as goal

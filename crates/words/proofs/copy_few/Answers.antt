@@ -1,6 +1,4 @@
-use mathlib.Core.Path.{◌≡◌, ◌∙◌}
-use lib.ListN.{length-set}
-use native.Mathlib.Omega.{arith}
+use Rattle.std.proofs.Common.{◌≡◌, ◌∙◌, length-set, arith}
 use Rattle.words.proofs.Copying.{read-more, written-more, written-all}
 use Rattle.words.proofs.copy_few.Goals as goal
 

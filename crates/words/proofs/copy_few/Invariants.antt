@@ -1,5 +1,4 @@
-use mathlib.Core.Path.{◌≡◌}
-use lib.ListN.{length, take}
+use Rattle.std.proofs.Common.{◌≡◌, length, take}
 use lib.Seq.{sets}
 use Rattle.texts.specs.Text.{piece}
 use Rattle.words.proofs.copy_few.Given as goal

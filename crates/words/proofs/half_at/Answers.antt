@@ -1,5 +1,4 @@
-use Prim.Native.Nat.{◌+◌}
-use native.Mathlib.Omega.{arith}
+use Rattle.std.proofs.Common.{◌+◌, arith}
 use Rattle.words.proofs.Digits.{half-read}
 use Rattle.words.proofs.half_at.Goals as goal
 

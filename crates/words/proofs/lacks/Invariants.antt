@@ -1,6 +1,4 @@
-use mathlib.Core.Path.{◌≡◌}
-use mathlib.Core.Bool.{true}
-use Prim.Native.Nat.{◌+◌}
+use Rattle.std.proofs.Common.{◌≡◌, true, ◌+◌}
 use Rattle.texts.specs.Scan.{scan, until, is}
 use Rattle.words.proofs.lacks.Given as goal
 

@@ -1,5 +1,4 @@
-use Prim.Native.Nat.{◌-◌}
-use lib.ListN.{length}
+use Rattle.std.proofs.Common.{◌-◌, length}
 use Rattle.words.specs.Standing.{Lacks}
 use Rattle.words.proofs.text_from.Given as goal
 

@@ -1,5 +1,4 @@
-use Prim.Native.Nat.{◌+◌}
-use native.Mathlib.Omega.{arith}
+use Rattle.std.proofs.Common.{◌+◌, arith}
 use Rattle.words.proofs.Digits.{word_read}
 use Rattle.words.proofs.word_at.Goals as goal
 

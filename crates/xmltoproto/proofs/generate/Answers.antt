@@ -1,5 +1,4 @@
-use native.Mathlib.Omega.{arith}
-use borrow.Author.Rules.{rules}
+use Rattle.std.proofs.Common.{arith, rules}
 use Rattle.index.proofs.Building.{blank-least, blank-few, blank-some, blank-all}
 use Rattle.xmltoproto.proofs.generate.Goals as goal
 

@@ -1,6 +1,4 @@
-use mathlib.Core.Path.{refl}
-use Prim.Native.Nat.{◌+◌}
-use native.Mathlib.Omega.{arith}
+use Rattle.std.proofs.Common.{refl, ◌+◌, arith}
 use Rattle.std.proofs.lemmas.List.{get_or_past}
 use Rattle.classes.specs.Class.{is_lower}
 use Rattle.conversions.proofs.convert.precedes_lower.Goals as goal

@@ -1,5 +1,4 @@
-use Prim.Native.Nat.{◌-◌}
-use lib.ListN.{length}
+use Rattle.std.proofs.Common.{◌-◌, length}
 use Rattle.saxlite.specs.Passing.{Passed}
 use Rattle.saxlite.proofs.passing.past_silent.Given as goal
 

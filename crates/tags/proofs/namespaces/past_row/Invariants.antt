@@ -1,5 +1,4 @@
-use Prim.Native.Nat.{◌-◌}
-use lib.ListN.{length}
+use Rattle.std.proofs.Common.{◌-◌, length}
 use Rattle.tags.specs.Dropping.{Unchanged}
 use Rattle.tags.proofs.namespaces.past_row.Given as goal
 

@@ -1,5 +1,4 @@
-use Prim.Native.Nat.{◌-◌}
-use lib.ListN.{length}
+use Rattle.std.proofs.Common.{◌-◌, length}
 use Rattle.tags.specs.Noting.{found_at}
 use Rattle.tags.proofs.Looking.{Looking}
 use Rattle.tags.proofs.tag.attribute.Given as goal

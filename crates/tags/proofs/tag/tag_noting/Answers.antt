@@ -1,7 +1,5 @@
 -- `search` closes these goals with the rule set named here; `using(..)` with that set does not.
-use mathlib.Core.Path.{refl, sym, ◌∙◌, ap}
-use native.Mathlib.Omega.{arith}
-use Rattle.std.specs.Prelude.{Ok}
+use Rattle.std.proofs.Common.{refl, sym, ◌∙◌, ap, arith, Ok}
 use Rattle.tags.proofs.Coding.{quick-less, quick-on, all-on}
 use Rattle.tags.proofs.Declaring.{declares-more}
 use Rattle.tags.proofs.Dropping.{going-past, all-past}

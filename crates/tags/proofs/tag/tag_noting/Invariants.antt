@@ -1,5 +1,4 @@
-use Prim.Native.Nat.{◌-◌}
-use lib.ListN.{length}
+use Rattle.std.proofs.Common.{◌-◌, length}
 use Rattle.tags.specs.Known.{keys_by, CodesOf, Apart}
 use Rattle.tags.proofs.Tagging.{Going}
 use Rattle.tags.proofs.Coding.{LookingAll}

@@ -1,5 +1,4 @@
-use mathlib.Core.Path.{◌≡◌}
-use Prim.Native.Nat.{◌+◌}
+use Rattle.std.proofs.Common.{◌≡◌, ◌+◌}
 use Rattle.texts.specs.Scan.{scan}
 use Rattle.texts.proofs.scan.all_pass.Given as goal
 

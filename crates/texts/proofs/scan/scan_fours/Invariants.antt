@@ -1,5 +1,4 @@
-use Prim.Native.Nat.{◌-◌}
-use lib.ListN.{length}
+use Rattle.std.proofs.Common.{◌-◌, length}
 use Rattle.texts.proofs.Scanning.{Scanning}
 use Rattle.texts.proofs.scan.scan_fours.Given as goal
 

@@ -1,5 +1,4 @@
-use mathlib.Core.Path.{ap}
-use borrow.Author.Rules.{rules}
+use Rattle.std.proofs.Common.{ap, rules}
 use Rattle.builder.specs.declared.work.Work.{Work}
 use Rattle.builder.proofs.Adding.{same-trans}
 use Rattle.xmlschema.proofs.Driving.{drive-broken, drive-refused, drive-on, drive-lent}

@@ -1,5 +1,4 @@
-use mathlib.Core.Path.{refl}
-use native.Mathlib.Omega.{arith}
+use Rattle.std.proofs.Common.{refl, arith}
 use Rattle.xmltoproto.proofs.Refusals.{array-absent}
 use Rattle.xmltoproto.proofs.Arrayless.{lacking-on, lacking-all}
 use Rattle.xmltoproto.proofs.arrays.has_arrays.Goals.{then-given+else-is_member_array, else-given}

@@ -1,7 +1,5 @@
 -- `search` closes these goals with the set named here, but not through a `tactic` attribute.
-use Prim.Native.Nat.{◌<◌, ◌^◌}
-use lib.ListN.{length}
-use native.Mathlib.Omega.{arith}
+use Rattle.std.proofs.Common.{◌<◌, ◌^◌, length, arith}
 use Rattle.xmltoproto.proofs.Covering.{summing_start, bounds}
 use Rattle.xmltoproto.proofs.bound.source_most.Goals as goal
 

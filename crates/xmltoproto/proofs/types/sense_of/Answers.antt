@@ -1,7 +1,5 @@
-use mathlib.Core.Path.{◌≡◌}
-use Rattle.std.specs.Prelude.{Some}
+use Rattle.std.proofs.Common.{◌≡◌, Some, refl}
 use Rattle.index.specs.declared.seen.Declaration.TheVariants.{Named, Typed}
-use mathlib.Core.Path.{refl}
 use Rattle.xmltoproto.proofs.Typing.{sense-declared, sense-typed, sense-built-in, sense-unknown}
 use Rattle.xmltoproto.proofs.types.sense_of.Goals as goal
 
