@@ -56,32 +56,32 @@ number_in a key = number_of (a (ascii key))
 -- ---- a builder, or a schema, with one part changed
 
 abbrev pub with_stack : List (List ℕ) → Builder → Builder
-with_stack x b = record { stack = x; collected = b.collected; collecting = b.collecting; current = b.current; schema = b.schema }
+with_stack x b = record b { stack = x }
 
 -- text is collected or not, and the collected text
 abbrev pub with_text : Bool → List ℕ → Builder → Builder
-with_text f x b = record { stack = b.stack; collected = x; collecting = f; current = b.current; schema = b.schema }
+with_text f x b = record b { collected = x; collecting = f }
 
 abbrev pub with_current : Currents → Builder → Builder
-with_current x b = record { stack = b.stack; collected = b.collected; collecting = b.collecting; current = x; schema = b.schema }
+with_current x b = record b { current = x }
 
 abbrev pub with_schema : Schema → Builder → Builder
-with_schema x b = record { stack = b.stack; collected = b.collected; collecting = b.collecting; current = b.current; schema = x }
+with_schema x b = record b { schema = x }
 
 abbrev pub now_composite : Option ℕ → Builder → Builder
-now_composite x b = with_current (record { composite = x; enum = b.current.enum; message = b.current.message; group = b.current.group }) b
+now_composite x b = with_current (record b.current { composite = x }) b
 
 abbrev pub now_enum : Option ℕ → Builder → Builder
-now_enum x b = with_current (record { composite = b.current.composite; enum = x; message = b.current.message; group = b.current.group }) b
+now_enum x b = with_current (record b.current { enum = x }) b
 
 abbrev pub now_message : Option ℕ → Builder → Builder
-now_message x b = with_current (record { composite = b.current.composite; enum = b.current.enum; message = x; group = b.current.group }) b
+now_message x b = with_current (record b.current { message = x }) b
 
 abbrev pub now_group : Option ℕ → Builder → Builder
-now_group x b = with_current (record { composite = b.current.composite; enum = b.current.enum; message = b.current.message; group = x }) b
+now_group x b = with_current (record b.current { group = x }) b
 
 abbrev pub with_items : List Item → Schema → Schema
-with_items x s = record { package_name = s.package_name; id = s.id; version = s.version; items = x }
+with_items x s = record s { items = x }
 
 -- ---- items
 
@@ -129,7 +129,7 @@ plain_item kind owner name second n =
 unfoldable pub open_schema : ℕ → Attributes → Builder → Outcome
 open_schema place a b =
     with_number place (number_in a "id") (λ id. with_number place (number_in a "version") (λ version.
-    on (with_schema (record { package_name = text_in a "package"; id = id; version = version; items = b.schema.items }) b)))
+    on (with_schema (record b.schema { package_name = text_in a "package"; id = id; version = version }) b)))
 
 -- a member of the current composite, dropped if none is current
 abbrev pub member_to : Limits → ℕ → Attributes → ℕ → Option ℕ → Builder → Outcome
@@ -235,7 +235,7 @@ opened l place name a b =
 
 -- an item with another second text
 abbrev pub with_second : List ℕ → Item → Item
-with_second v it = record { kind = it.kind; owner = it.owner; name = it.name; second = v; number = it.number; given = it.given; encoding = it.encoding }
+with_second v it = record it { second = v }
 
 -- the value v given to the item at a position, if there is one
 abbrev pub given_to : Option ℕ → List ℕ → Schema → Schema

@@ -71,7 +71,7 @@ first =
 
 -- a state with a name pushed
 abbrev pub deeper : State → State
-deeper s = record { place = record { depth = s.place.depth + 1; count = s.place.count; low = s.place.low; high = s.place.high; start = s.place.start }; current = s.current; head = s.head }
+deeper s = record s { place = record s.place { depth = s.place.depth + 1 } }
 
 -- the records with its position and length
 abbrev pub pushed : List ℕ → ℕ → ℕ → ℕ → List ℕ
@@ -79,19 +79,19 @@ pushed rec d from n = set (set rec (stack_at d) from) (stack_at d + 1) n
 
 -- and a state with a name popped
 abbrev pub higher : State → State
-higher s = record { place = record { depth = s.place.depth - 1; count = s.place.count; low = s.place.low; high = s.place.high; start = s.place.start }; current = s.current; head = s.head }
+higher s = record s { place = record s.place { depth = s.place.depth - 1 } }
 
 -- the same document and text, with other records
 abbrev pub over : Work → List ℕ → Work
-over w rec = record { limits = w.limits; doc = w.doc; records = record w.records { now = rec }; text = w.text }
+over w rec = record w { records = record w.records { now = rec } }
 
 -- the same document and records, with another text
 abbrev pub texted : Work → List ℕ → Work
-texted w t = record { limits = w.limits; doc = w.doc; records = w.records; text = record w.text { now = t } }
+texted w t = record w { text = record w.text { now = t } }
 
 -- an entry with a range of the text as its second text
 abbrev pub valued : Range → Entry → Entry
-valued r e = record { kind = e.kind; owner = e.owner; name = e.name; nlen = e.nlen; second = r.from; slen = r.len; number = e.number; given = e.given; encoding = e.encoding; elen = e.elen }
+valued r e = record e { second = r.from; slen = r.len }
 
 -- the records with a second text given to the item at a position, if there is one
 abbrev pub given_at : Option ℕ → Range → List ℕ → List ℕ
