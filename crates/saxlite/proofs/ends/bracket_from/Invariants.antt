@@ -1,6 +1,6 @@
 use Prim.Native.Nat.{◌-◌}
 use Rattle.saxlite.proofs.Finding.{Nearby}
-use Rattle.saxlite.proofs.passing.bracket_from.Given as goal
+use Rattle.saxlite.proofs.ends.bracket_from.Given as goal
 
 abbrev pub invariant-loop-i : goal.invariant-loop-i
 invariant-loop-i g l = Nearby l.doc l.at l.stop l.i

@@ -1,6 +1,6 @@
 use Prim.Native.Nat.{◌-◌}
 use Rattle.saxlite.proofs.Finding.{Nearing}
-use Rattle.saxlite.proofs.passing.markup_end.Given as goal
+use Rattle.saxlite.proofs.ends.markup_end.Given as goal
 
 abbrev pub invariant-loop-i : goal.invariant-loop-i
 invariant-loop-i g l = Nearing g.E.MarkupEnd.needle l.doc l.from l.stop l.i
