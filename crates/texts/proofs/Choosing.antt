@@ -7,10 +7,10 @@ pub by-test {ℓ} : {X : Type ℓ} (b : Bool) → (b ≡ true → X) → (b ≡ 
 by-test true f g = f refl
 by-test false f g = g refl
 
-pub pick_yes {ℓ} : {A : Type ℓ} (b : Bool) (p q : A) → b ≡ true → pick b p q ≡ p
+pub pick_yes : {A : Type 0} (b : Bool) (p q : A) → b ≡ true → pick b p q ≡ p
 pick_yes b p q t = rw (t, pick)
 
-pub pick_no {ℓ} : {A : Type ℓ} (b : Bool) (p q : A) → b ≡ false → pick b p q ≡ q
+pub pick_no : {A : Type 0} (b : Bool) (p q : A) → b ≡ false → pick b p q ≡ q
 pick_no b p q t = rw (t, pick)
 
 -- what holds of both answers holds of the one picked

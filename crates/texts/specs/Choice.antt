@@ -1,19 +1,16 @@
--- Choice by a computed test, and the connectives of tests: vocabulary for all rules.
-use Rattle.std.specs.Prelude.{Bool, true, false}
+-- Choice by a computed test, and the connectives of tests: the library's, under short names.
+use Rattle.std.specs.Prelude.{Bool, if◌then◌else◌, ◌||◌, ◌&&◌}
 
 -- a if the test holds, else b
-abbrev pub pick {ℓ} : {A : Type ℓ} → Bool → A → A → A
-pick true a b = a
-pick false a b = b
+abbrev pub pick : {A : Type 0} → Bool → A → A → A
+pick t a b = if t then a else b
 
 -- either test holds
 infixr 30 ◌or◌
 abbrev pub ◌or◌ : Bool → Bool → Bool
-true or b = true
-false or b = b
+s or t = s || t
 
 -- both tests hold
 infixr 40 ◌and◌
 abbrev pub ◌and◌ : Bool → Bool → Bool
-true and b = b
-false and b = false
+s and t = s && t
