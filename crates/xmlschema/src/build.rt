@@ -2,12 +2,9 @@
 #![tactic(auto, using(crate::proofs::Laws::driving, crate::proofs::Laws::stepping, crate::proofs::Laws::answering))]
 
 ghost use Rattle.std.specs.Prelude.{◌≡◌, ◌≤◌, length};
-ghost use Rattle.saxlite.specs.Reader.{event_in};
-ghost use Rattle.saxlite.specs.Moving.{takes, Inside, NotedIn};
-ghost use Rattle.builder.specs.Layout.{builder_in, Ready, After};
-ghost use Rattle.xmlschema.specs.Whole.{step as step_of, reading};
-ghost use Rattle.xmlschema.specs.Driving.{with_state};
+ghost use Rattle.xmlschema.specs.Whole.{reading};
 ghost use Rattle.xmlschema.specs.Read.{shown, ReadInto};
+ghost use Rattle.xmlschema.specs.Driving.{with_state, Takes, Stepped};
 
 use builder::state::{Limits, State};
 use builder::work::{Tag, Work};
@@ -31,8 +28,8 @@ const MIN_TEXT: usize = 65536;
 
 /// What one event makes of the builder's state, by value. Refused with 30 or 32 to 35.
 fn step_value(s: State, w: &mut Work<'_, '_>, told: Told) -> Result<State, Refusal>
-    requires { Ready w.old s (takes told.event) × Inside w.old.doc.now told.event × NotedIn w.old.doc.now told.event told.noted }
-    ensures { After (step_of w.old.limits told.place (event_in w.old.doc.now told.event) (builder_in w.old s)) w.old s (takes told.event) w.new result }
+    requires { Takes w.old s told }
+    ensures { Stepped w.old s told w.new result }
 {
     let place = told.place;
     match told.event {
@@ -59,8 +56,8 @@ fn step_value(s: State, w: &mut Work<'_, '_>, told: Told) -> Result<State, Refus
 
 /// The builder takes one event and updates its own state.
 fn step(s: &mut State, w: &mut Work<'_, '_>, told: Told) -> Result<(), Refusal>
-    requires { Ready w.old s.old (takes told.event) × Inside w.old.doc.now told.event × NotedIn w.old.doc.now told.event told.noted }
-    ensures { After (step_of w.old.limits told.place (event_in w.old.doc.now told.event) (builder_in w.old s.old)) w.old s.old (takes told.event) w.new (with_state s.new result) }
+    requires { Takes w.old s.old told }
+    ensures { Stepped w.old s.old told w.new (with_state s.new result) }
 {
     *s = step_value(*s, w, told)?;
     Ok(())
