@@ -91,4 +91,4 @@ module _ {doc : List ℕ} {at : ℕ} {name : List ℕ} {i : ℕ} {found : Option
 
   pub looking-bad : {refusal : Refusal} → p ≡ Err refusal → found ≡ attribute_at doc at name
   unfolding last_of
-  looking-bad f = rw (tag-bad doc i 0 (any-bad doc i place 0 (sym e ∙ f))) at inv.rest
+  looking-bad f = rw (tag-bad doc i 0 (any-bad doc i place 0 (sym e ∙ f)).bad) at inv.rest

@@ -10,7 +10,7 @@ use Rattle.texts.proofs.Comparing.{same-equal}
 use Rattle.tags.specs.Names.{is_xmlns}
 use Rattle.tags.specs.Attributes.{tag_part_at, Attribute, Tag, with_part, no_tag, tag_within, tag_at, later, last_of, attribute_at, raw_length, raw_lengths}
 use Rattle.tags.proofs.Looking.{later-absent}
-use Rattle.tags.proofs.Placing.{attributes-alike}
+use Rattle.tags.proofs.Placeless.{attributes-alike}
 use Rattle.tags.proofs.Tagging.{by_part, part-inside, within-part, within_end, within-bad}
 
 -- ---- one behind the other, from `at` to `next`
