@@ -72,10 +72,6 @@ keys_by «Type» = type_keys
 keys_by Enum = enum_keys
 keys_by Other = field_keys
 
--- the kinds by number
-abbrev pub kind_by : ℕ → TagKind
-kind_by n = pick (eqb n 1) Schema (pick (eqb n 2) «Type» (pick (eqb n 3) Enum Other))
-
 -- the test p holds of 1 to n
 abbrev pub up_to : ℕ → (ℕ → Bool) → Bool
 up_to zero p = true

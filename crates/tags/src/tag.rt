@@ -7,7 +7,7 @@ ghost use Rattle.texts.specs.Text.{piece};
 ghost use Rattle.tags.specs.Names.{is_xmlns};
 ghost use Rattle.tags.specs.Attributes.{quoted_at, value_at, attribute_part_at, tag_part_at, tag_at, attribute_at};
 ghost use Rattle.tags.specs.Noting.{Keys, no_notes, found_at, noted_of, NotedWith, NotedBy, keys_of};
-ghost use Rattle.tags.specs.Known.{known_name, kind_by, keys_by, CodesOf, Apart, QuickAt, NamedAs, Declares, NotedMore};
+ghost use Rattle.tags.specs.Known.{known_name, keys_by, CodesOf, Apart, QuickAt, NamedAs, Declares, NotedMore};
 
 use crate::known::{codes_of, known_at};
 use crate::namespaces::past_declarations;
@@ -38,25 +38,12 @@ pub struct Ending {
 }
 
 /// Tags by the attribute names that matter in them (`keys_by`, specs/Known.antt).
-#[derive(Clone, Copy, PartialEq, Eq)]
+#[derive(Clone, Copy)]
 pub enum TagKind {
     Schema,
     Type,
     Enum,
     Other,
-}
-
-impl From<usize> for TagKind {
-    ghost from_gives = { λ number kind. kind ≡ kind_by number };
-
-    fn from(number: usize) -> TagKind {
-        match number {
-            1 => TagKind::Schema,
-            2 => TagKind::Type,
-            3 => TagKind::Enum,
-            _ => TagKind::Other,
-        }
-    }
 }
 
 /// What was noted under four names: for each, 1 + the position of the raw value's first byte, or 0
