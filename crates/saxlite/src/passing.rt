@@ -11,8 +11,8 @@ ghost use Rattle.words.specs.Standing.{ShortText};
 ghost use Rattle.saxlite.specs.Passing.{Passed, PassedSome, PassedAll, is_silent, Stands, FoundAt, FirstAt, EndsAt, EndPassed};
 
 use refusals::Refusal;
-use tags::scan::{byte_from, find};
-use words::{half_at, stands_short, text_from};
+use tags::scan::find;
+use words::{byte_from, half_at, stands_short, text_from};
 
 /// Where `needle` first stands from `from` on, or the document's length.
 fn found(doc: &[u8], from: usize, needle: &[u8]) -> usize

@@ -12,9 +12,10 @@ ghost use Rattle.tags.specs.Known.{known_name, keys_by, CodesOf, Apart, QuickAt,
 use crate::known::{codes_of, known_at};
 use crate::namespaces::past_declarations;
 use crate::noting::{RawAttribute, is_declaration, noted_by, noted_one};
-use crate::scan::{attribute_name_end, byte_from, skip_space};
+use crate::scan::{attribute_name_end, skip_space};
 use refusals::Refusal;
 use texts::Range;
+use words::byte_from;
 
 /// One part of a tag: an attribute, with the ranges of its raw name and raw value and the position
 /// behind it, or the tag's end. Neither is an error: a refusal is the `Err` around it.
