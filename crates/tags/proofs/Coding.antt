@@ -1,5 +1,5 @@
 -- Laws of codes: which names matter in a tag, and what is noted of an attribute by its code.
-use Rattle.tags.specs.declared.tag.Ending.{Ending}
+use Rattle.tags.specs.declared.part.Ending.{Ending}
 use Rattle.texts.specs.declared.Range.{Range}
 use Rattle.std.proofs.Common.{Some, None, Option, Result, Ok, Err, ◌≡◌, refl, sym, ap, ◌∙◌, Bool, true, false, not, List, [], ◌∷◌, ℕ, suc, ◌+◌, ◌-◌, ◌<◌, zero-add, arith, T, eqb, leb, leb→le, length, eq-eqb, ne_eqb, le-ltb}
 use Rattle.texts.specs.Choice.{pick}
@@ -10,9 +10,9 @@ use Rattle.texts.proofs.Choosing.{by-test, and_left, and_right}
 use Rattle.texts.proofs.Scanning.{count_yes}
 use Rattle.classes.specs.Class.{is_space, is_tag_name_end, is_attribute_name_end}
 use Rattle.tags.specs.declared.known.Codes.{Codes}
-use Rattle.tags.specs.declared.tag.TagPart.{TagPart}
-use Rattle.tags.specs.declared.tag.TagPart.TheVariants.{Attribute as Part, TagEnd}
-use Rattle.tags.specs.declared.tag.Quick.{Quick}
+use Rattle.tags.specs.declared.part.TagPart.{TagPart}
+use Rattle.tags.specs.declared.part.TagPart.TheVariants.{Attribute as Part, TagEnd}
+use Rattle.tags.specs.declared.part.Quick.{Quick}
 use Rattle.tags.specs.declared.tag.Notes.{Notes}
 use Rattle.refusals.specs.declared.Refusal.{Refusal}
 use Rattle.tags.specs.declared.tag.TagKind.{TagKind}

@@ -13,7 +13,7 @@ use Rattle.words.proofs.Digits.{front-is}
 use Rattle.texts.proofs.Scanning.{count_yes, count_no}
 use Rattle.classes.specs.Class.{is_space, is_tag_name_end, is_attribute_name_end}
 use Rattle.tags.specs.declared.known.Known.{Known}
-use Rattle.tags.specs.declared.tag.TagPart.{TagPart}
+use Rattle.tags.specs.declared.part.TagPart.{TagPart}
 use Rattle.tags.specs.Names.{is_xmlns}
 use Rattle.tags.specs.Attributes.{quoted_at, tag_part_at}
 use Rattle.tags.specs.Known.{known_name, IsKnown, up_to, Named, QuickAt}

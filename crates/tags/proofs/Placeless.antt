@@ -4,9 +4,9 @@ use Rattle.texts.specs.Scan.{scan, until, is}
 use Rattle.texts.proofs.Choosing.{pick-both}
 use Rattle.classes.specs.Class.{is_space, is_attribute_name_end}
 use Rattle.refusals.specs.declared.Refusal.{Refusal}
-use Rattle.tags.specs.declared.tag.Ending.{Ending}
-use Rattle.tags.specs.declared.tag.TagPart.{TagPart}
-use Rattle.tags.specs.declared.tag.TagPart.TheVariants.{Attribute as Part, TagEnd}
+use Rattle.tags.specs.declared.part.Ending.{Ending}
+use Rattle.tags.specs.declared.part.TagPart.{TagPart}
+use Rattle.tags.specs.declared.part.TagPart.TheVariants.{Attribute as Part, TagEnd}
 use Rattle.tags.specs.Find.{stands}
 use Rattle.tags.specs.Attributes.{quoted_at, value_at, attribute_part_at, tag_part_at, Tag, with_part, no_tag, tag_within}
 use Rattle.tags.proofs.Tagging.{by_part, within-part, within_end, within-bad}

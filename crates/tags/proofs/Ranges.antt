@@ -1,5 +1,5 @@
 -- Laws of ranges: a tag's attributes lie one behind the other, and their values do not overlap.
-use Rattle.tags.specs.declared.tag.Ending.{Ending}
+use Rattle.tags.specs.declared.part.Ending.{Ending}
 use Rattle.refusals.specs.declared.Refusal.{Refusal}
 use Rattle.texts.specs.declared.Range.{Range}
 use Rattle.std.proofs.Common.{Result, Option, Some, None, Ok, Err, ◌≡◌, refl, sym, ◌∙◌, Bool, true, false, not, List, [], ◌∷◌, ℕ, zero, suc, ◌+◌, ◌≤◌, ◌<◌, arith, T, length}
