@@ -1,11 +1,11 @@
 -- Laws of the beginning of a tag.
-use Rattle.std.proofs.Common.{◌≡◌, refl, sym, ap, ◌∙◌, Bool, true, false, List, [], ◌∷◌, ◌++◌, append_assoc, ℕ, suc, ◌+◌, ◌-◌, ◌≤◌, ◌<◌, ◌^◌, arith, add-zero, T, lit<, leb→le, length, take, drop, length-append, drop-drop, Fits, w64}
+use Rattle.std.proofs.Common.{◌≡◌, refl, sym, ap, ◌∙◌, Bool, true, false, List, [], ◌∷◌, ◌++◌, append_assoc, ℕ, ◌+◌, ◌-◌, ◌≤◌, ◌<◌, ◌^◌, arith, add-zero, T, lit<, leb→le, length, take, drop, length-append, drop-drop, Fits, w64}
 use lib.Seq.{take-append_seam, drop-append_seam}
 use Rattle.texts.specs.Lists.{all}
 use Rattle.texts.specs.Text.{ascii, piece, same, starts_with}
 use Rattle.texts.specs.Scan.{count_while, scan, until}
-use Rattle.texts.proofs.Choosing.{is_true, and_left, and_right}
-use Rattle.texts.proofs.Scanning.{count_yes, count_no, scan-from}
+use Rattle.texts.proofs.Choosing.{is_true}
+use Rattle.texts.proofs.Scanning.{count_no, scan-from}
 use Rattle.classes.specs.Class.{is_space, is_tag_name_end}
 use Rattle.words.specs.Word.{word_of}
 use Rattle.words.specs.Standing.{StandsShort, StandsLong}
@@ -20,7 +20,7 @@ use Rattle.tags.specs.Known.{keys_by}
 use Rattle.tags.specs.Beginning.{raw_name, tagged_text, Says, Opens, KnownShort, KnownLong, BeginsAt}
 use Rattle.tags.proofs.Searching.{stands-within}
 use Rattle.tags.proofs.Naming.{prefix-within, lost-within, lost-fits, local-range}
-use Rattle.tags.proofs.Knowing.{up-each, starts-split}
+use Rattle.tags.proofs.Knowing.{up-each, starts-split, count-to}
 
 -- ---- known raw names, compared as words
 
@@ -112,17 +112,11 @@ begin-schema behind doc at e t v = record { stands = sym (ap (λ (w : List ℕ).
 
 -- ---- such a raw name is the one that the general way reads
 
--- bytes that pass, up to one that fails
-count-to : (p : ℕ → Bool) (n : List ℕ) (b : ℕ) (r : List ℕ) → T (all p n) → p b ≡ false → count_while p (n ++ b ∷ r) ≡ length n
-unfolding all
-count-to p [] b r t f = count_no p b r f
-count-to p (x ∷ n) b r t f = count_yes p x (n ++ b ∷ r) (is_true (p x) (and_left (p x) (all p n) t)) ∙ ap suc (count-to p n b r (and_right (p x) (all p n) t) f)
-
 raw-plain : (code : ℕ) → 0 < code → code < 12 → T (all (until is_tag_name_end) (raw_name code))
 unfolding is_tag_name_end is_space all
 raw-plain code h l = up-each 11 (λ k. all (until is_tag_name_end) (raw_name k)) tt code h (omega arith)
 
-module _ (behind : ℕ) (e : until is_tag_name_end behind ≡ false) (doc : List ℕ) (name : ℕ) {k : Opening} (b : Opens behind doc name k) where
+module _ (doc : List ℕ) (name : ℕ) {behind : ℕ} {k : Opening} (b : Opens behind doc name k) (e : until is_tag_name_end behind ≡ false) where
   abbrev n : List ℕ
   n = raw_name k.code
 
@@ -141,7 +135,7 @@ module _ (behind : ℕ) (e : until is_tag_name_end behind ≡ false) (doc : List
   named = rw b.says.long (ap (take (length n)) split ∙ take-append_seam n _)
 
   ends : name + k.len ≡ scan (until is_tag_name_end) doc name
-  ends = rw b.says.long (ap (λ c. name + c) (sym (ap (count_while (until is_tag_name_end)) split ∙ count-to (until is_tag_name_end) n behind _ (raw-plain k.code b.says.above b.says.below) e)))
+  ends = rw b.says.long (ap (λ c. name + c) (sym (ap (count_while (until is_tag_name_end)) split ∙ count-to (until is_tag_name_end) (until is_tag_name_end) (λ x u. is_true _ u) n (behind ∷ rest) (raw-plain k.code b.says.above b.says.below) (count_no (until is_tag_name_end) behind rest e))))
 
   follows : drop (name + k.len) doc ≡ behind ∷ rest
   follows = rw b.says.long (sym (drop-drop (length n) name doc) ∙ ap (drop (length n)) split ∙ drop-append_seam n (behind ∷ rest))
@@ -152,36 +146,28 @@ module _ (behind : ℕ) (e : until is_tag_name_end behind ≡ false) (doc : List
   short : k.lost ≤ k.len
   short = omega (arith, prefix-within n, b.says.prefix, b.says.long)
 
-  begins : BeginsAt doc name (record { end = name + k.len; lost = k.lost; kind = k.kind })
-  begins =
+  pub begin-fits : length doc < 2 ^ 64 → Fits w64 (name + k.len)
+  begin-fits l = omega (arith, within)
+
+  pub known-begins : BeginsAt doc name (record { end = name + k.len; lost = k.lost; kind = k.kind })
+  known-begins =
       let z : name + k.len - name ≡ k.len = omega arith in
       let q : piece doc (name + k.lost) (k.len - k.lost) ≡ local_name n = rw lost-is (local-range doc name k.len) ∙ ap local_name named in
       record { ends = ends; lost = rw z lost-is; kind = rw (z, q) b.says.matter }
 
 -- a space behind it, or '>' where the tag has no attributes
-module _ (doc : List ℕ) (name : ℕ) {k : Opening} (b : Opens 32 doc name k) where
-  pub begin-fits : length doc < 2 ^ 64 → Fits w64 (name + k.len)
-  unfolding is_tag_name_end is_space
-  begin-fits l = omega (arith, within 32 refl doc name b)
+pub space-ends : until is_tag_name_end 32 ≡ false
+unfolding is_tag_name_end is_space
+space-ends = refl
 
-  pub known-begins : BeginsAt doc name (record { end = name + k.len; lost = k.lost; kind = k.kind })
-  unfolding is_tag_name_end is_space
-  known-begins = begins 32 refl doc name b
-
-module _ (doc : List ℕ) (name : ℕ) {k : Opening} (b : Opens 62 doc name k) where
-  pub bare-fits : length doc < 2 ^ 64 → Fits w64 (name + k.len)
-  unfolding is_tag_name_end is_space
-  bare-fits l = omega (arith, within 62 refl doc name b)
-
-  pub bare-begins : BeginsAt doc name (record { end = name + k.len; lost = k.lost; kind = k.kind })
-  unfolding is_tag_name_end is_space
-  bare-begins = begins 62 refl doc name b
+pub bracket-ends : until is_tag_name_end 62 ≡ false
+unfolding is_tag_name_end is_space
+bracket-ends = refl
 
 -- the close tag at `at`
 module _ (doc : List ℕ) (at : ℕ) {k : Opening} (b : Opens 62 doc (at + 2) k) where
   pub closing-within : at + 2 + k.len + 1 ≤ length doc
-  unfolding is_tag_name_end is_space
-  closing-within = within 62 refl doc (at + 2) b
+  closing-within = within doc (at + 2) b bracket-ends
 
   pub closing-fits : length doc < 2 ^ 64 → Fits w64 (at + 2 + k.len)
   closing-fits l = omega (arith, closing-within)
@@ -190,28 +176,25 @@ module _ (doc : List ℕ) (at : ℕ) {k : Opening} (b : Opens 62 doc (at + 2) k)
   closing-next-fits l = omega (arith, closing-within)
 
   pub closing-lost : k.lost ≤ k.len
-  unfolding is_tag_name_end is_space
-  closing-lost = short 62 refl doc (at + 2) b
+  closing-lost = short doc (at + 2) b bracket-ends
 
   pub closing-local-fits : length doc < 2 ^ 64 → Fits w64 (at + 2 + k.lost)
   closing-local-fits l = omega (arith, closing-within, closing-lost)
 
   -- where the name ends, '>' is due, and stands
   pub closing-ends : at + 2 + k.len ≡ scan (until is_tag_name_end) doc (at + 2)
-  unfolding is_tag_name_end is_space
-  closing-ends = ends 62 refl doc (at + 2) b
+  closing-ends = ends doc (at + 2) b bracket-ends
 
   pub closing-due : at + 2 + k.len ≡ scan is_space doc (at + 2 + k.len)
-  unfolding is_tag_name_end is_space
-  closing-due = sym (ap (λ c. at + 2 + k.len + c) (ap (count_while is_space) (follows 62 refl doc (at + 2) b) ∙ count_no is_space 62 (rest 62 refl doc (at + 2) b) refl) ∙ add-zero _)
+  unfolding is_space
+  closing-due = sym (ap (λ c. at + 2 + k.len + c) (ap (count_while is_space) (follows doc (at + 2) b bracket-ends) ∙ count_no is_space 62 (rest doc (at + 2) b bracket-ends) refl) ∙ add-zero _)
 
   pub closing-stands : true ≡ starts_with (ascii ">") (drop (at + 2 + k.len) doc)
-  unfolding is_tag_name_end is_space starts_with
-  closing-stands = rw (follows 62 refl doc (at + 2) b) refl
+  unfolding starts_with
+  closing-stands = rw (follows doc (at + 2) b bracket-ends) refl
 
   pub closing-prefix : k.lost ≡ prefix_length (piece doc (at + 2) k.len)
-  unfolding is_tag_name_end is_space
-  closing-prefix = lost-is 62 refl doc (at + 2) b
+  closing-prefix = lost-is doc (at + 2) b bracket-ends
 
 pub plain-begins :
     (doc : List ℕ) (name : ℕ) {end : ℕ} → end ≡ scan (until is_tag_name_end) doc name → {lost : ℕ} → lost ≡ prefix_length (piece doc name (end - name)) →
