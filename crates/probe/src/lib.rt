@@ -18,8 +18,9 @@ use printing::Output;
 use refusals::Refusal;
 use saxlite::event::Event;
 use saxlite::reader::Reader;
+use tags::part::{TagPart, tag_part};
 use tags::scan::{is_xmlns, prefix_len};
-use tags::tag::{TagPart, attribute, tag_part};
+use tags::tag::attribute;
 use texts::{Range, part};
 
 const TEXT: u8 = 0x80;

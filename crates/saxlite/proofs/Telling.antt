@@ -7,7 +7,7 @@ use Rattle.texts.proofs.Scanning.{scan-from}
 use Rattle.classes.specs.Class.{is_space, is_tag_name_end}
 use Rattle.refusals.specs.declared.Refusal.{Refusal}
 use Rattle.refusals.specs.declared.Refusal.TheVariants.{NoCloseTagEnd, NoTagName}
-use Rattle.tags.specs.declared.tag.Ending.{Ending}
+use Rattle.tags.specs.declared.part.Ending.{Ending}
 use Rattle.tags.specs.declared.tag.Whole.{Whole}
 use Rattle.tags.specs.declared.beginning.Opening.{Opening}
 use Rattle.tags.specs.declared.beginning.Beginning.{Beginning}

@@ -8,7 +8,7 @@ use Rattle.entities.specs.Entities.{decoded}
 use Rattle.classes.specs.Class.{is_space, is_tag_name_end}
 use Rattle.refusals.specs.declared.Refusal.{Refusal}
 use Rattle.refusals.specs.declared.Refusal.TheVariants.{OpenComment, OpenInstruction, OpenDeclaration, NoCloseTagEnd, NoTagName}
-use Rattle.tags.specs.declared.tag.Ending.{Ending}
+use Rattle.tags.specs.declared.part.Ending.{Ending}
 use Rattle.tags.specs.Find.{stands, find_from}
 use Rattle.tags.specs.Names.{local_name}
 use Rattle.tags.specs.Attributes.{tag_at}

@@ -4,7 +4,7 @@ use Rattle.texts.specs.Choice.{pick}
 use Rattle.texts.specs.Text.{piece}
 use Rattle.refusals.specs.declared.Refusal.{Refusal}
 use Rattle.tags.specs.declared.tag.Notes.{Notes}
-use Rattle.tags.specs.declared.tag.Ending.{Ending}
+use Rattle.tags.specs.declared.part.Ending.{Ending}
 use Rattle.tags.specs.Attributes.{tag_at}
 use Rattle.tags.specs.Noting.{keys_of, no_notes, NotedBy}
 use Rattle.saxlite.specs.Event.{Events, done, broken}

@@ -10,8 +10,8 @@ ghost use Rattle.texts.specs.Text.{ascii};
 ghost use Rattle.words.specs.Standing.{ShortText};
 ghost use Rattle.saxlite.specs.Passing.{Stands, FoundAt, FirstAt, EndsAt};
 
-use tags::scan::{byte_from, find};
-use words::{stands_short, text_from};
+use tags::scan::find;
+use words::{byte_from, stands_short, text_from};
 
 /// Where `needle` first stands from `from` on, or the document's length.
 fn found(doc: &[u8], from: usize, needle: &[u8]) -> usize

@@ -11,8 +11,10 @@ ghost use Rattle.saxlite.specs.Passing.{is_silent};
 use crate::event::{Cursor, Event, Owed, Read, Told};
 use refusals::Refusal;
 use tags::beginning::{begin_at, closing_at};
-use tags::scan::{byte_from, prefix_len, skip_space, tag_name_end};
-use tags::tag::{Ending, tag_noting};
+use tags::part::Ending;
+use tags::scan::{prefix_len, skip_space, tag_name_end};
+use tags::tag::tag_noting;
+use words::byte_from;
 
 /// The text at `at`, up to the next '<' or the document's end.
 fn read_text(doc: &[u8], at: usize) -> Result<Read, Refusal>

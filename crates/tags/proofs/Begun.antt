@@ -1,26 +1,27 @@
 -- Laws of the beginning of a tag.
-use Rattle.std.proofs.Common.{◌≡◌, refl, sym, ap, ◌∙◌, Bool, true, false, List, [], ◌∷◌, ◌++◌, append_assoc, ℕ, suc, ◌+◌, ◌-◌, ◌≤◌, ◌<◌, ◌^◌, arith, add-zero, T, lit<, leb→le, length, take, drop, length-append, drop-drop, Fits, w64}
+use Rattle.std.proofs.Common.{◌≡◌, refl, sym, ap, ◌∙◌, Bool, true, false, List, [], ◌∷◌, ◌++◌, append_assoc, ℕ, ◌+◌, ◌-◌, ◌≤◌, ◌<◌, ◌^◌, arith, add-zero, T, lit<, leb→le, length, take, drop, length-append, drop-drop, Fits, w64, eqb, eqb-true, leb}
 use lib.Seq.{take-append_seam, drop-append_seam}
 use Rattle.texts.specs.Lists.{all}
 use Rattle.texts.specs.Text.{ascii, piece, same, starts_with}
 use Rattle.texts.specs.Scan.{count_while, scan, until}
 use Rattle.texts.proofs.Choosing.{is_true, and_left, and_right}
-use Rattle.texts.proofs.Scanning.{count_yes, count_no, scan-from}
+use Rattle.texts.proofs.Scanning.{count_no, scan-from}
 use Rattle.classes.specs.Class.{is_space, is_tag_name_end}
-use Rattle.words.specs.Word.{word_of}
 use Rattle.words.specs.Standing.{StandsShort, StandsLong}
 use Rattle.words.proofs.Standing.{power-some}
 use Rattle.tags.specs.declared.beginning.Opening.{Opening}
 use Rattle.tags.specs.declared.beginning.Beginning.{Beginning}
 use Rattle.tags.specs.declared.tag.TagKind.{TagKind}
-use Rattle.tags.specs.declared.tag.TagKind.TheVariants.{Schema, «Type», Enum, Other}
+use Rattle.tags.specs.declared.tag.TagKind.TheVariants.{Schema, Other}
 use Rattle.tags.specs.Names.{prefix_length, local_name}
 use Rattle.tags.specs.Noting.{keys_of}
 use Rattle.tags.specs.Known.{keys_by}
 use Rattle.tags.specs.Beginning.{raw_name, tagged_text, Says, Opens, KnownShort, KnownLong, BeginsAt}
 use Rattle.tags.proofs.Searching.{stands-within}
 use Rattle.tags.proofs.Naming.{prefix-within, lost-within, lost-fits, local-range}
-use Rattle.tags.proofs.Knowing.{up-each, starts-split}
+use Rattle.tags.proofs.Knowing.{up-each, starts-split, count-to}
+use Rattle.tags.proofs.Telling.{short-fits, long-fits, short-text, long-text}
+use Rattle.texts.specs.Choice.{◌and◌}
 
 -- ---- known raw names, compared as words
 
@@ -37,70 +38,28 @@ begin-short-power t = power-some t.text
 pub begin-long-power : {behind code len lost front modulus back : ℕ} → KnownLong behind code len lost front modulus back → 0 < modulus
 begin-long-power t = power-some t.text.rest
 
-pub begin-field : KnownShort 32 1 Other 5 281474976710656 35615687403878
-unfolding word_of keys_of prefix_length same
-begin-field = record { says = record { above = lit< tt; below = lit< tt; long = refl; prefix = refl; matter = refl }; text = record { few = leb→le 6 8 tt; power = refl; number = refl; bytes = tt } }
+-- what a raw name says, which a computation tests but for the names that matter
+abbrev says-so : ℕ → ℕ → ℕ → Bool
+says-so code len lost = leb 1 code and leb (code + 1) 12 and eqb len (length (raw_name code)) and eqb lost (prefix_length (raw_name code))
 
-pub begin-type : KnownShort 32 2 «Type» 4 1099511627776 139140823412
-unfolding word_of keys_of prefix_length same
-begin-type = record { says = record { above = lit< tt; below = lit< tt; long = refl; prefix = refl; matter = refl }; text = record { few = leb→le 5 8 tt; power = refl; number = refl; bytes = tt } }
+says : (code : ℕ) (kind : TagKind) (len lost : ℕ) → T (says-so code len lost) → keys_by kind ≡ keys_of (local_name (raw_name code)) → Says code kind len lost
+says code kind len lost t k =
+    let long = eqb len (length (raw_name code)) in
+    let u = and_right (leb 1 code) _ t in
+    let v = and_right (leb (code + 1) 12) _ u in
+    record {
+      above = leb→le 1 code (and_left (leb 1 code) _ t);
+      below = omega (arith, leb→le (code + 1) 12 (and_left (leb (code + 1) 12) _ u));
+      long = eqb-true len _ (is_true long (and_left long _ v));
+      prefix = eqb-true lost _ (is_true _ (and_right long _ v));
+      matter = k;
+    }
 
-pub begin-enum : KnownShort 32 3 Enum 4 1099511627776 139275365989
-unfolding word_of keys_of prefix_length same
-begin-enum = record { says = record { above = lit< tt; below = lit< tt; long = refl; prefix = refl; matter = refl }; text = record { few = leb→le 5 8 tt; power = refl; number = refl; bytes = tt } }
+pub opens-short : {behind code : ℕ} {kind : TagKind} {len modulus front : ℕ} → T (says-so code len 0) → keys_by kind ≡ keys_of (local_name (raw_name code)) → T (short-fits (tagged_text behind code) modulus front) → KnownShort behind code kind len modulus front
+opens-short {behind} {code} {kind} {len} t k f = record { says = says code kind len 0 t k; text = short-text (tagged_text behind code) _ _ f }
 
-pub begin-group : KnownShort 32 4 Other 5 281474976710656 35667378664039
-unfolding word_of keys_of prefix_length same
-begin-group = record { says = record { above = lit< tt; below = lit< tt; long = refl; prefix = refl; matter = refl }; text = record { few = leb→le 6 8 tt; power = refl; number = refl; bytes = tt } }
-
-pub begin-ref : KnownShort 32 5 Other 3 4294967296 543581554
-unfolding word_of keys_of prefix_length same
-begin-ref = record { says = record { above = lit< tt; below = lit< tt; long = refl; prefix = refl; matter = refl }; text = record { few = leb→le 4 8 tt; power = refl; number = refl; bytes = tt } }
-
-pub begin-value : KnownLong 32 6 10 0 7809618218102579574 16777216 2123125
-unfolding word_of keys_of prefix_length same
-begin-value = record { says = record { above = lit< tt; below = lit< tt; long = refl; prefix = refl; matter = refl }; text = record { eight = refl; number = refl; bytes = tt; rest = record { few = leb→le 3 8 tt; power = refl; number = refl; bytes = tt } } }
-
-pub begin-composite : KnownLong 32 7 9 0 8388362703419043683 65536 8293
-unfolding word_of keys_of prefix_length same
-begin-composite = record { says = record { above = lit< tt; below = lit< tt; long = refl; prefix = refl; matter = refl }; text = record { eight = refl; number = refl; bytes = tt; rest = record { few = leb→le 2 8 tt; power = refl; number = refl; bytes = tt } } }
-
-pub begin-prefixed : KnownLong 32 8 11 4 8319104456489001587 4294967296 543516513
-unfolding word_of keys_of prefix_length same
-begin-prefixed = record { says = record { above = lit< tt; below = lit< tt; long = refl; prefix = refl; matter = refl }; text = record { eight = refl; number = refl; bytes = tt; rest = record { few = leb→le 4 8 tt; power = refl; number = refl; bytes = tt } } }
-
-pub begin-message : KnownLong 32 9 7 0 2334385650107901293 1 0
-unfolding word_of keys_of prefix_length same
-begin-message = record { says = record { above = lit< tt; below = lit< tt; long = refl; prefix = refl; matter = refl }; text = record { eight = refl; number = refl; bytes = tt; rest = record { few = leb→le 0 8 tt; power = refl; number = refl; bytes = tt } } }
-
--- what such a name says is the same where '>' stands behind it
-pub close-enum : KnownShort 62 3 Enum 4 1099511627776 268124384869
-unfolding word_of
-close-enum = record { says = begin-enum.says; text = record { few = leb→le 5 8 tt; power = refl; number = refl; bytes = tt } }
-
-pub close-group : KnownShort 62 4 Other 5 281474976710656 68652727497319
-unfolding word_of
-close-group = record { says = begin-group.says; text = record { few = leb→le 6 8 tt; power = refl; number = refl; bytes = tt } }
-
-pub close-value : KnownLong 62 6 10 0 7809618218102579574 16777216 4089205
-unfolding word_of
-close-value = record { says = begin-value.says; text = record { eight = refl; number = refl; bytes = tt; rest = record { few = leb→le 3 8 tt; power = refl; number = refl; bytes = tt } } }
-
-pub close-composite : KnownLong 62 7 9 0 8388362703419043683 65536 15973
-unfolding word_of
-close-composite = record { says = begin-composite.says; text = record { eight = refl; number = refl; bytes = tt; rest = record { few = leb→le 2 8 tt; power = refl; number = refl; bytes = tt } } }
-
-pub close-prefixed : KnownLong 62 8 11 4 8319104456489001587 4294967296 1046832993
-unfolding word_of
-close-prefixed = record { says = begin-prefixed.says; text = record { eight = refl; number = refl; bytes = tt; rest = record { few = leb→le 4 8 tt; power = refl; number = refl; bytes = tt } } }
-
-pub close-message : KnownLong 62 9 7 0 4496113471245739373 1 0
-unfolding word_of
-close-message = record { says = begin-message.says; text = record { eight = refl; number = refl; bytes = tt; rest = record { few = leb→le 0 8 tt; power = refl; number = refl; bytes = tt } } }
-
-pub close-types : KnownShort 62 10 Other 5 281474976710656 68665344031092
-unfolding word_of keys_of prefix_length same
-close-types = record { says = record { above = lit< tt; below = lit< tt; long = refl; prefix = refl; matter = refl }; text = record { few = leb→le 6 8 tt; power = refl; number = refl; bytes = tt } }
+pub opens-long : {behind code len lost front modulus back : ℕ} → T (says-so code len lost) → keys_by Other ≡ keys_of (local_name (raw_name code)) → T (long-fits (tagged_text behind code) front modulus back) → KnownLong behind code len lost front modulus back
+opens-long {behind} {code} {len} {lost} t k f = record { says = says code Other len lost t k; text = long-text (tagged_text behind code) _ _ _ f }
 
 -- the longest one, compared as it stands
 says-schema : Says 11 Schema 17 4
@@ -112,17 +71,11 @@ begin-schema behind doc at e t v = record { stands = sym (ap (λ (w : List ℕ).
 
 -- ---- such a raw name is the one that the general way reads
 
--- bytes that pass, up to one that fails
-count-to : (p : ℕ → Bool) (n : List ℕ) (b : ℕ) (r : List ℕ) → T (all p n) → p b ≡ false → count_while p (n ++ b ∷ r) ≡ length n
-unfolding all
-count-to p [] b r t f = count_no p b r f
-count-to p (x ∷ n) b r t f = count_yes p x (n ++ b ∷ r) (is_true (p x) (and_left (p x) (all p n) t)) ∙ ap suc (count-to p n b r (and_right (p x) (all p n) t) f)
-
 raw-plain : (code : ℕ) → 0 < code → code < 12 → T (all (until is_tag_name_end) (raw_name code))
 unfolding is_tag_name_end is_space all
 raw-plain code h l = up-each 11 (λ k. all (until is_tag_name_end) (raw_name k)) tt code h (omega arith)
 
-module _ (behind : ℕ) (e : until is_tag_name_end behind ≡ false) (doc : List ℕ) (name : ℕ) {k : Opening} (b : Opens behind doc name k) where
+module _ (doc : List ℕ) (name : ℕ) {behind : ℕ} {k : Opening} (b : Opens behind doc name k) (e : until is_tag_name_end behind ≡ false) where
   abbrev n : List ℕ
   n = raw_name k.code
 
@@ -141,7 +94,7 @@ module _ (behind : ℕ) (e : until is_tag_name_end behind ≡ false) (doc : List
   named = rw b.says.long (ap (take (length n)) split ∙ take-append_seam n _)
 
   ends : name + k.len ≡ scan (until is_tag_name_end) doc name
-  ends = rw b.says.long (ap (λ c. name + c) (sym (ap (count_while (until is_tag_name_end)) split ∙ count-to (until is_tag_name_end) n behind _ (raw-plain k.code b.says.above b.says.below) e)))
+  ends = rw b.says.long (ap (λ c. name + c) (sym (ap (count_while (until is_tag_name_end)) split ∙ count-to (until is_tag_name_end) (until is_tag_name_end) (λ x u. is_true _ u) n (behind ∷ rest) (raw-plain k.code b.says.above b.says.below) (count_no (until is_tag_name_end) behind rest e))))
 
   follows : drop (name + k.len) doc ≡ behind ∷ rest
   follows = rw b.says.long (sym (drop-drop (length n) name doc) ∙ ap (drop (length n)) split ∙ drop-append_seam n (behind ∷ rest))
@@ -152,36 +105,28 @@ module _ (behind : ℕ) (e : until is_tag_name_end behind ≡ false) (doc : List
   short : k.lost ≤ k.len
   short = omega (arith, prefix-within n, b.says.prefix, b.says.long)
 
-  begins : BeginsAt doc name (record { end = name + k.len; lost = k.lost; kind = k.kind })
-  begins =
+  pub begin-fits : length doc < 2 ^ 64 → Fits w64 (name + k.len)
+  begin-fits l = omega (arith, within)
+
+  pub known-begins : BeginsAt doc name (record { end = name + k.len; lost = k.lost; kind = k.kind })
+  known-begins =
       let z : name + k.len - name ≡ k.len = omega arith in
       let q : piece doc (name + k.lost) (k.len - k.lost) ≡ local_name n = rw lost-is (local-range doc name k.len) ∙ ap local_name named in
       record { ends = ends; lost = rw z lost-is; kind = rw (z, q) b.says.matter }
 
 -- a space behind it, or '>' where the tag has no attributes
-module _ (doc : List ℕ) (name : ℕ) {k : Opening} (b : Opens 32 doc name k) where
-  pub begin-fits : length doc < 2 ^ 64 → Fits w64 (name + k.len)
-  unfolding is_tag_name_end is_space
-  begin-fits l = omega (arith, within 32 refl doc name b)
+pub space-ends : until is_tag_name_end 32 ≡ false
+unfolding is_tag_name_end is_space
+space-ends = refl
 
-  pub known-begins : BeginsAt doc name (record { end = name + k.len; lost = k.lost; kind = k.kind })
-  unfolding is_tag_name_end is_space
-  known-begins = begins 32 refl doc name b
-
-module _ (doc : List ℕ) (name : ℕ) {k : Opening} (b : Opens 62 doc name k) where
-  pub bare-fits : length doc < 2 ^ 64 → Fits w64 (name + k.len)
-  unfolding is_tag_name_end is_space
-  bare-fits l = omega (arith, within 62 refl doc name b)
-
-  pub bare-begins : BeginsAt doc name (record { end = name + k.len; lost = k.lost; kind = k.kind })
-  unfolding is_tag_name_end is_space
-  bare-begins = begins 62 refl doc name b
+pub bracket-ends : until is_tag_name_end 62 ≡ false
+unfolding is_tag_name_end is_space
+bracket-ends = refl
 
 -- the close tag at `at`
 module _ (doc : List ℕ) (at : ℕ) {k : Opening} (b : Opens 62 doc (at + 2) k) where
   pub closing-within : at + 2 + k.len + 1 ≤ length doc
-  unfolding is_tag_name_end is_space
-  closing-within = within 62 refl doc (at + 2) b
+  closing-within = within doc (at + 2) b bracket-ends
 
   pub closing-fits : length doc < 2 ^ 64 → Fits w64 (at + 2 + k.len)
   closing-fits l = omega (arith, closing-within)
@@ -190,28 +135,25 @@ module _ (doc : List ℕ) (at : ℕ) {k : Opening} (b : Opens 62 doc (at + 2) k)
   closing-next-fits l = omega (arith, closing-within)
 
   pub closing-lost : k.lost ≤ k.len
-  unfolding is_tag_name_end is_space
-  closing-lost = short 62 refl doc (at + 2) b
+  closing-lost = short doc (at + 2) b bracket-ends
 
   pub closing-local-fits : length doc < 2 ^ 64 → Fits w64 (at + 2 + k.lost)
   closing-local-fits l = omega (arith, closing-within, closing-lost)
 
   -- where the name ends, '>' is due, and stands
   pub closing-ends : at + 2 + k.len ≡ scan (until is_tag_name_end) doc (at + 2)
-  unfolding is_tag_name_end is_space
-  closing-ends = ends 62 refl doc (at + 2) b
+  closing-ends = ends doc (at + 2) b bracket-ends
 
   pub closing-due : at + 2 + k.len ≡ scan is_space doc (at + 2 + k.len)
-  unfolding is_tag_name_end is_space
-  closing-due = sym (ap (λ c. at + 2 + k.len + c) (ap (count_while is_space) (follows 62 refl doc (at + 2) b) ∙ count_no is_space 62 (rest 62 refl doc (at + 2) b) refl) ∙ add-zero _)
+  unfolding is_space
+  closing-due = sym (ap (λ c. at + 2 + k.len + c) (ap (count_while is_space) (follows doc (at + 2) b bracket-ends) ∙ count_no is_space 62 (rest doc (at + 2) b bracket-ends) refl) ∙ add-zero _)
 
   pub closing-stands : true ≡ starts_with (ascii ">") (drop (at + 2 + k.len) doc)
-  unfolding is_tag_name_end is_space starts_with
-  closing-stands = rw (follows 62 refl doc (at + 2) b) refl
+  unfolding starts_with
+  closing-stands = rw (follows doc (at + 2) b bracket-ends) refl
 
   pub closing-prefix : k.lost ≡ prefix_length (piece doc (at + 2) k.len)
-  unfolding is_tag_name_end is_space
-  closing-prefix = lost-is 62 refl doc (at + 2) b
+  closing-prefix = lost-is doc (at + 2) b bracket-ends
 
 pub plain-begins :
     (doc : List ℕ) (name : ℕ) {end : ℕ} → end ≡ scan (until is_tag_name_end) doc name → {lost : ℕ} → lost ≡ prefix_length (piece doc name (end - name)) →

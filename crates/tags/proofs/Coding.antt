@@ -1,18 +1,17 @@
 -- Laws of codes: which names matter in a tag, and what is noted of an attribute by its code.
-use Rattle.tags.specs.declared.tag.Ending.{Ending}
+use Rattle.tags.specs.declared.part.Ending.{Ending}
 use Rattle.texts.specs.declared.Range.{Range}
-use Rattle.std.proofs.Common.{Some, None, Option, Result, Ok, Err, ◌≡◌, refl, sym, ap, ◌∙◌, Bool, true, false, not, List, [], ◌∷◌, ℕ, suc, ◌+◌, ◌-◌, ◌<◌, zero-add, arith, T, eqb, leb, leb→le, length, eq-eqb, ne_eqb, le-ltb}
+use Rattle.std.proofs.Common.{Some, None, Option, Result, Ok, Err, ◌≡◌, refl, sym, ap, ◌∙◌, Bool, true, false, not, List, [], ◌∷◌, ℕ, ◌+◌, ◌-◌, ◌<◌, zero-add, arith, T, eqb, leb, leb→le, length, eq-eqb, ne_eqb, le-ltb, append-nil}
 use Rattle.texts.specs.Choice.{pick}
 use Rattle.texts.specs.Lists.{all}
 use Rattle.texts.specs.Text.{ascii, piece, same}
 use Rattle.texts.specs.Scan.{count_while, scan, until, is}
 use Rattle.texts.proofs.Choosing.{by-test, and_left, and_right}
-use Rattle.texts.proofs.Scanning.{count_yes}
 use Rattle.classes.specs.Class.{is_space, is_tag_name_end, is_attribute_name_end}
 use Rattle.tags.specs.declared.known.Codes.{Codes}
-use Rattle.tags.specs.declared.tag.TagPart.{TagPart}
-use Rattle.tags.specs.declared.tag.TagPart.TheVariants.{Attribute as Part, TagEnd}
-use Rattle.tags.specs.declared.tag.Quick.{Quick}
+use Rattle.tags.specs.declared.part.TagPart.{TagPart}
+use Rattle.tags.specs.declared.part.TagPart.TheVariants.{Attribute as Part, TagEnd}
+use Rattle.tags.specs.declared.part.Quick.{Quick}
 use Rattle.tags.specs.declared.tag.Notes.{Notes}
 use Rattle.refusals.specs.declared.Refusal.{Refusal}
 use Rattle.tags.specs.declared.tag.TagKind.{TagKind}
@@ -23,7 +22,7 @@ use Rattle.tags.specs.Noting.{Keys, no_notes, found_at, value_if_named, keys_of,
 use Rattle.tags.specs.Known.{known_name, keys_by, codes, CodesOf, Apart, QuickAt, NamedAs, Declares, NotedMore}
 use Rattle.tags.proofs.Tagging.{Going, part-less, part-value, going_on, going_end, going-bad}
 use Rattle.tags.proofs.Looking.{found-value, Looking, looking-start, looking-on, looking-end, looking-bad}
-use Rattle.tags.proofs.Knowing.{up-each, goes, plain_name, known-plain, goes-all, goes_other}
+use Rattle.tags.proofs.Knowing.{up-each, count-to, goes, plain_name, known-plain, goes-all, goes_other}
 
 -- ---- the codes of the names that matter
 
@@ -76,11 +75,8 @@ codes_same key c k t h l = agrees (eqb k c) (same (known_name k) key) (up-each 1
     agrees false false u = refl
 
 colon-count : (n : List ℕ) → T (all goes n) → count_while (until (is 58)) n ≡ length n
-unfolding all is_attribute_name_end is_tag_name_end is_space
-colon-count [] t = refl
-colon-count (b ∷ n) t =
-    let p : until (is 58) b ≡ true = ap not (goes_other b (and_left (goes b) (all goes n) t) 58 refl) in
-    count_yes (until (is 58)) b n p ∙ ap suc (colon-count n (and_right (goes b) (all goes n) t))
+unfolding is_attribute_name_end is_tag_name_end is_space
+colon-count n t = ap (count_while (until (is 58))) (sym (append-nil n)) ∙ count-to (until (is 58)) goes (λ b u. ap not (goes_other b u 58 refl)) n [] t refl
 
 plain_local : (n : List ℕ) → T (plain_name n) → local_name n ≡ n
 unfolding prefix_length

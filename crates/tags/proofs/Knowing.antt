@@ -13,7 +13,7 @@ use Rattle.words.proofs.Digits.{front-is}
 use Rattle.texts.proofs.Scanning.{count_yes, count_no}
 use Rattle.classes.specs.Class.{is_space, is_tag_name_end, is_attribute_name_end}
 use Rattle.tags.specs.declared.known.Known.{Known}
-use Rattle.tags.specs.declared.tag.TagPart.{TagPart}
+use Rattle.tags.specs.declared.part.TagPart.{TagPart}
 use Rattle.tags.specs.Names.{is_xmlns}
 use Rattle.tags.specs.Attributes.{quoted_at, tag_part_at}
 use Rattle.tags.specs.Known.{known_name, IsKnown, up_to, Named, QuickAt}
@@ -57,13 +57,15 @@ module _ (b : ℕ) (t : T (goes b)) where
 
 -- ---- the part that begins with such a name
 
--- bytes that go, up to one that ends the name
+-- bytes that pass, up to one that does not
+pub count-to : (p q : ℕ → Bool) → ((b : ℕ) → T (q b) → p b ≡ true) → (n s : List ℕ) → T (all q n) → count_while p s ≡ 0 → count_while p (n ++ s) ≡ length n
+unfolding all
+count-to p q f [] s t z = z
+count-to p q f (b ∷ n) s t z = count_yes p b (n ++ s) (f b (and_left (q b) (all q n) t)) ∙ ap suc (count-to p q f n s (and_right (q b) (all q n) t) z)
+
 goes-count : (n r : List ℕ) → T (all goes n) → count_while (until is_attribute_name_end) (n ++ 61 ∷ r) ≡ length n
-unfolding all is_attribute_name_end is_tag_name_end is_space
-goes-count [] r t = refl
-goes-count (b ∷ n) r t =
-    let p : until is_attribute_name_end b ≡ true = ap not (goes-not b (and_left (goes b) (all goes n) t)) in
-    count_yes (until is_attribute_name_end) b (n ++ 61 ∷ r) p ∙ ap suc (goes-count n r (and_right (goes b) (all goes n) t))
+unfolding is_attribute_name_end is_tag_name_end is_space
+goes-count n r t = count-to (until is_attribute_name_end) goes (λ b u. ap not (goes-not b u)) n (61 ∷ r) t (count_no (until is_attribute_name_end) 61 r refl)
 
 pub goes-all : (n : List ℕ) → T (plain_name n) → T (all goes n)
 unfolding all

@@ -6,7 +6,6 @@ pub mod Tagging
 mod Placeless
 mod Looking
 mod Stopping
-mod Placing
 pub mod Ranges
 mod Knowing
 mod Telling

@@ -1,13 +1,13 @@
 -- Laws of the look-up: what the loop of `tag_noting` keeps of each name.
-use Rattle.tags.specs.declared.tag.Ending.{Ending}
+use Rattle.tags.specs.declared.part.Ending.{Ending}
 use Rattle.texts.specs.declared.Range.{Range}
 use Rattle.std.proofs.Common.{Option, Some, None, Result, Ok, Err, ◌≡◌, refl, sym, ap, ◌∙◌, Bool, true, false, List, ℕ, ◌+◌, ◌-◌, arith, add-one}
 use Rattle.texts.specs.Choice.{pick}
 use Rattle.texts.specs.Text.{piece, same}
 use Rattle.texts.proofs.Choosing.{by-test, pick_yes, pick_no}
 use Rattle.refusals.specs.declared.Refusal.{Refusal}
-use Rattle.tags.specs.declared.tag.TagPart.{TagPart}
-use Rattle.tags.specs.declared.tag.TagPart.TheVariants.{Attribute as Part, TagEnd}
+use Rattle.tags.specs.declared.part.TagPart.{TagPart}
+use Rattle.tags.specs.declared.part.TagPart.TheVariants.{Attribute as Part, TagEnd}
 use Rattle.tags.specs.declared.tag.Notes.{Notes}
 use Rattle.tags.specs.Names.{prefix_length, is_xmlns}
 use Rattle.tags.specs.Attributes.{tag_part_at, Tag, with_part, tag_at, later, last_of, attribute_at}
@@ -91,4 +91,4 @@ module _ {doc : List ℕ} {at : ℕ} {name : List ℕ} {i : ℕ} {found : Option
 
   pub looking-bad : {refusal : Refusal} → p ≡ Err refusal → found ≡ attribute_at doc at name
   unfolding last_of
-  looking-bad f = rw (tag-bad doc i 0 (any-bad doc i place 0 (sym e ∙ f))) at inv.rest
+  looking-bad f = rw (tag-bad doc i 0 (any-bad doc i place 0 (sym e ∙ f)).bad) at inv.rest

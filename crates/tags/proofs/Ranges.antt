@@ -1,5 +1,5 @@
 -- Laws of ranges: a tag's attributes lie one behind the other, and their values do not overlap.
-use Rattle.tags.specs.declared.tag.Ending.{Ending}
+use Rattle.tags.specs.declared.part.Ending.{Ending}
 use Rattle.refusals.specs.declared.Refusal.{Refusal}
 use Rattle.texts.specs.declared.Range.{Range}
 use Rattle.std.proofs.Common.{Result, Option, Some, None, Ok, Err, ◌≡◌, refl, sym, ◌∙◌, Bool, true, false, not, List, [], ◌∷◌, ℕ, zero, suc, ◌+◌, ◌≤◌, ◌<◌, arith, T, length}
@@ -10,7 +10,7 @@ use Rattle.texts.proofs.Comparing.{same-equal}
 use Rattle.tags.specs.Names.{is_xmlns}
 use Rattle.tags.specs.Attributes.{tag_part_at, Attribute, Tag, with_part, no_tag, tag_within, tag_at, later, last_of, attribute_at, raw_length, raw_lengths}
 use Rattle.tags.proofs.Looking.{later-absent}
-use Rattle.tags.proofs.Placing.{attributes-alike}
+use Rattle.tags.proofs.Placeless.{attributes-alike}
 use Rattle.tags.proofs.Tagging.{by_part, part-inside, within-part, within_end, within-bad}
 
 -- ---- one behind the other, from `at` to `next`

@@ -1,13 +1,13 @@
 -- Laws of a whole tag: where its parts lie, that the fuel is enough, and where the tag ends.
-use Rattle.tags.specs.declared.tag.Ending.{Ending}
+use Rattle.tags.specs.declared.part.Ending.{Ending}
 use Rattle.std.proofs.Common.{Result, Ok, Err, ◌≡◌, refl, sym, ap, ◌∙◌, true, List, [], ℕ, zero, suc, ◌+◌, ◌-◌, ◌≤◌, ◌<◌, arith, add-one, T, eqb, ltb, leb, length, ltb-true}
 use Rattle.texts.specs.Text.{ascii}
 use Rattle.texts.specs.Scan.{scan, until, is}
 use Rattle.texts.proofs.Choosing.{pick-by}
 use Rattle.classes.specs.Class.{is_space, is_attribute_name_end}
 use Rattle.refusals.specs.declared.Refusal.{Refusal}
-use Rattle.tags.specs.declared.tag.TagPart.{TagPart}
-use Rattle.tags.specs.declared.tag.TagPart.TheVariants.{Attribute as Part, TagEnd}
+use Rattle.tags.specs.declared.part.TagPart.{TagPart}
+use Rattle.tags.specs.declared.part.TagPart.TheVariants.{Attribute as Part, TagEnd}
 use Rattle.tags.specs.Find.{stands}
 use Rattle.tags.specs.Attributes.{quoted_at, value_at, attribute_part_at, tag_part_at, Tag, no_tag, with_part, tag_within, tag_at}
 use Rattle.tags.proofs.Searching.{stands-within}

@@ -1,10 +1,13 @@
 -- Laws of comparing the document with a known name, eight bytes at once.
-use Rattle.std.proofs.Common.{◌≡◌, refl, sym, ◌∙◌, Bool, true, List, ℕ, ◌<◌, lit<, leb→le, drop}
+use Rattle.std.proofs.Common.{◌≡◌, refl, sym, ◌∙◌, Bool, true, List, ℕ, ◌<◌, ◌+◌, ◌^◌, arith, T, eqb, eqb-true, leb, length, lit<, leb→le, take, drop}
+use Rattle.std.proofs.Math.Pow.{are_bytes}
+use Rattle.texts.specs.Choice.{◌and◌}
+use Rattle.texts.proofs.Choosing.{is_true, and_left, and_right}
 use Rattle.texts.specs.Text.{ascii, starts_with}
 use Rattle.words.specs.Word.{word_of}
-use Rattle.words.specs.Standing.{StandsShort, StandsLong}
+use Rattle.words.specs.Standing.{ShortText, LongText, StandsShort, StandsLong}
 use Rattle.words.proofs.Standing.{power-some}
-use Rattle.tags.specs.Known.{known_text, IsKnown, ToldShort, ToldLong, ToldText}
+use Rattle.tags.specs.Known.{known_name, known_text, IsKnown, ToldShort, ToldLong, ToldText}
 
 -- ---- the comparison with one name
 
@@ -24,65 +27,67 @@ told-encoding = record { above = lit< tt; below = lit< tt; ahead = refl; text = 
 pub told-semanticversion : ToldText 17 18 (ascii "semanticVersion=\"")
 told-semanticversion = record { above = lit< tt; below = lit< tt; ahead = refl; text = refl }
 
-pub told-name : ToldShort 1 7 281474976710656 37647090016622
-unfolding word_of
-told-name = record { above = lit< tt; below = lit< tt; ahead = refl; text = record { few = leb→le 6 8 tt; power = refl; number = refl; bytes = tt } }
+-- ---- a known text by its numbers, which a computation tests
 
-pub told-id : ToldShort 2 5 4294967296 574448745
-unfolding word_of
-told-id = record { above = lit< tt; below = lit< tt; ahead = refl; text = record { few = leb→le 4 8 tt; power = refl; number = refl; bytes = tt } }
+-- the numbers are those of the text
+abbrev pub short-fits : List ℕ → ℕ → ℕ → Bool
+short-fits text modulus front = leb (length text) 8 and eqb modulus (256 ^ length text) and eqb front (word_of text) and are_bytes text
 
-pub told-type : ToldShort 3 7 281474976710656 37647090219380
-unfolding word_of
-told-type = record { above = lit< tt; below = lit< tt; ahead = refl; text = record { few = leb→le 6 8 tt; power = refl; number = refl; bytes = tt } }
+abbrev pub long-fits : List ℕ → ℕ → ℕ → ℕ → Bool
+long-fits text front modulus back = eqb (length (take 8 text)) 8 and eqb front (word_of (take 8 text)) and are_bytes (take 8 text) and short-fits (drop 8 text) modulus back
 
-pub told-length : ToldLong 4 9 2467243020029683052 1 0
-unfolding word_of
-told-length = record { above = lit< tt; below = lit< tt; ahead = refl; text = record { eight = refl; number = refl; bytes = tt; rest = record { few = leb→le 0 8 tt; power = refl; number = refl; bytes = tt } } }
+pub short-text : (text : List ℕ) (modulus front : ℕ) → T (short-fits text modulus front) → ShortText text modulus front
+short-text text modulus front t =
+    let few = leb (length text) 8 in
+    let power = eqb modulus (256 ^ length text) in
+    let number = eqb front (word_of text) in
+    let u = and_right few _ t in
+    let v = and_right power _ u in
+    record {
+      few = leb→le (length text) 8 (and_left few _ t);
+      power = eqb-true modulus _ (is_true power (and_left power _ u));
+      number = eqb-true front _ (is_true number (and_left number _ v));
+      bytes = and_right number _ v;
+    }
 
-pub told-primitivetype : ToldLong 5 16 8532478965186130544 72057594037927936 9637655096153189
-unfolding word_of
-told-primitivetype = record { above = lit< tt; below = lit< tt; ahead = refl; text = record { eight = refl; number = refl; bytes = tt; rest = record { few = leb→le 7 8 tt; power = refl; number = refl; bytes = tt } } }
+pub long-text : (text : List ℕ) (front modulus back : ℕ) → T (long-fits text front modulus back) → LongText text front modulus back
+long-text text front modulus back t =
+    let eight = eqb (length (take 8 text)) 8 in
+    let number = eqb front (word_of (take 8 text)) in
+    let bytes = are_bytes (take 8 text) in
+    let u = and_right eight _ t in
+    let v = and_right number _ u in
+    record {
+      eight = eqb-true _ 8 (is_true eight (and_left eight _ t));
+      number = eqb-true front _ (is_true number (and_left number _ u));
+      bytes = and_left bytes _ v;
+      rest = short-text (drop 8 text) modulus back (and_right bytes _ v);
+    }
 
-pub told-encodingtype : ToldLong 6 15 7453010313431182949 281474976710656 37647090219348
-unfolding word_of
-told-encodingtype = record { above = lit< tt; below = lit< tt; ahead = refl; text = record { eight = refl; number = refl; bytes = tt; rest = record { few = leb→le 6 8 tt; power = refl; number = refl; bytes = tt } } }
+-- the code is one, and the skip is its name's
+abbrev known-code : ℕ → ℕ → Bool
+known-code code skip = leb 1 code and leb (code + 1) 18 and eqb skip (length (known_name code) + 3)
 
-pub told-description : ToldLong 10 14 8390322045806929252 1099511627776 147059535721
-unfolding word_of
-told-description = record { above = lit< tt; below = lit< tt; ahead = refl; text = record { eight = refl; number = refl; bytes = tt; rest = record { few = leb→le 5 8 tt; power = refl; number = refl; bytes = tt } } }
+module _ (code skip : ℕ) (t : T (known-code code skip)) where
+  above : 0 < code
+  above = leb→le 1 code (and_left (leb 1 code) _ t)
 
-pub told-semantictype : ToldLong 11 15 7163384699739268467 281474976710656 37647090219348
-unfolding word_of
-told-semantictype = record { above = lit< tt; below = lit< tt; ahead = refl; text = record { eight = refl; number = refl; bytes = tt; rest = record { few = leb→le 6 8 tt; power = refl; number = refl; bytes = tt } } }
+  below : code < 18
+  below = omega (arith, leb→le (code + 1) 18 (and_left (leb (code + 1) 18) _ (and_right (leb 1 code) _ t)))
 
-pub told-offset : ToldLong 12 9 2467256149945509487 1 0
-unfolding word_of
-told-offset = record { above = lit< tt; below = lit< tt; ahead = refl; text = record { eight = refl; number = refl; bytes = tt; rest = record { few = leb→le 0 8 tt; power = refl; number = refl; bytes = tt } } }
+  ahead : skip ≡ length (known_name code) + 3
+  ahead = eqb-true skip _ (is_true _ (and_right (leb (code + 1) 18) _ (and_right (leb 1 code) _ t)))
 
-pub told-blocklength : ToldLong 13 14 7954848340933307490 1099511627776 147059143783
-unfolding word_of
-told-blocklength = record { above = lit< tt; below = lit< tt; ahead = refl; text = record { eight = refl; number = refl; bytes = tt; rest = record { few = leb→le 5 8 tt; power = refl; number = refl; bytes = tt } } }
+module _ {code skip : ℕ} where
+  pub told-short : {modulus front : ℕ} → T (known-code code skip and short-fits (known_text code) modulus front) → ToldShort code skip modulus front
+  told-short t =
+      let c = and_left (known-code code skip) _ t in
+      record { above = above code skip c; below = below code skip c; ahead = ahead code skip c; text = short-text (known_text code) _ _ (and_right (known-code code skip) _ t) }
 
-pub told-presence : ToldLong 14 11 7305804402531857008 65536 8765
-unfolding word_of
-told-presence = record { above = lit< tt; below = lit< tt; ahead = refl; text = record { eight = refl; number = refl; bytes = tt; rest = record { few = leb→le 2 8 tt; power = refl; number = refl; bytes = tt } } }
-
-pub told-sinceversion : ToldLong 15 15 8243089686431426931 281474976710656 37647241144691
-unfolding word_of
-told-sinceversion = record { above = lit< tt; below = lit< tt; ahead = refl; text = record { eight = refl; number = refl; bytes = tt; rest = record { few = leb→le 6 8 tt; power = refl; number = refl; bytes = tt } } }
-
-pub told-version : ToldLong 8 10 4426597982450902390 256 34
-unfolding word_of
-told-version = record { above = lit< tt; below = lit< tt; ahead = refl; text = record { eight = refl; number = refl; bytes = tt; rest = record { few = leb→le 1 8 tt; power = refl; number = refl; bytes = tt } } }
-
-pub told-package : ToldLong 9 10 4424055877072544112 256 34
-unfolding word_of
-told-package = record { above = lit< tt; below = lit< tt; ahead = refl; text = record { eight = refl; number = refl; bytes = tt; rest = record { few = leb→le 1 8 tt; power = refl; number = refl; bytes = tt } } }
-
-pub told-byteorder : ToldLong 16 12 7306090180831902050 16777216 2243954
-unfolding word_of
-told-byteorder = record { above = lit< tt; below = lit< tt; ahead = refl; text = record { eight = refl; number = refl; bytes = tt; rest = record { few = leb→le 3 8 tt; power = refl; number = refl; bytes = tt } } }
+  pub told-long : {front modulus back : ℕ} → T (known-code code skip and long-fits (known_text code) front modulus back) → ToldLong code skip front modulus back
+  told-long t =
+      let c = and_left (known-code code skip) _ t in
+      record { above = above code skip c; below = below code skip c; ahead = ahead code skip c; text = long-text (known_text code) _ _ _ (and_right (known-code code skip) _ t) }
 
 -- a power of 256 is not 0
 module _ {code skip modulus : ℕ} where

@@ -7,9 +7,9 @@ use Rattle.classes.specs.Class.{is_space, is_attribute_name_end}
 use Rattle.texts.specs.declared.Range.{Range}
 use Rattle.refusals.specs.declared.Refusal.{Refusal}
 use Rattle.refusals.specs.declared.Refusal.TheVariants.{OpenTag, NoAttributeName, NoEquals, NoQuote, OpenValue}
-use Rattle.tags.specs.declared.tag.TagPart.{TagPart}
-use Rattle.tags.specs.declared.tag.TagPart.TheVariants.{Attribute as Part, TagEnd}
-use Rattle.tags.specs.declared.tag.Ending.{Ending}
+use Rattle.tags.specs.declared.part.TagPart.{TagPart}
+use Rattle.tags.specs.declared.part.TagPart.TheVariants.{Attribute as Part, TagEnd}
+use Rattle.tags.specs.declared.part.Ending.{Ending}
 use Rattle.tags.specs.Find.{stands}
 use Rattle.tags.specs.Names.{local_name, is_xmlns}
 

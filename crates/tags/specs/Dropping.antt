@@ -1,8 +1,8 @@
 -- Attributes that declare a namespace are dropped: a tag is the same without them. Internal.
 use Rattle.std.specs.Prelude.{◌≡◌, List, ℕ, ◌≤◌, ◌<◌, length, Result, Ok, Err}
 use Rattle.refusals.specs.declared.Refusal.{Refusal}
-use Rattle.tags.specs.declared.tag.TagPart.{TagPart}
-use Rattle.tags.specs.declared.tag.TagPart.TheVariants.{Attribute as Part, TagEnd}
+use Rattle.tags.specs.declared.part.TagPart.{TagPart}
+use Rattle.tags.specs.declared.part.TagPart.TheVariants.{Attribute as Part, TagEnd}
 use Rattle.tags.specs.Attributes.{tag_at}
 
 -- where an attribute ends; `at` for any other part

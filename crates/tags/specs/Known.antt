@@ -6,9 +6,9 @@ use Rattle.refusals.specs.declared.Refusal.{Refusal}
 use Rattle.words.specs.Standing.{ShortText, LongText}
 use Rattle.tags.specs.declared.known.Known.{Known}
 use Rattle.tags.specs.declared.known.Codes.{Codes}
-use Rattle.tags.specs.declared.tag.TagPart.{TagPart}
-use Rattle.tags.specs.declared.tag.TagPart.TheVariants.{Attribute as Part, TagEnd}
-use Rattle.tags.specs.declared.tag.Quick.{Quick}
+use Rattle.tags.specs.declared.part.TagPart.{TagPart}
+use Rattle.tags.specs.declared.part.TagPart.TheVariants.{Attribute as Part, TagEnd}
+use Rattle.tags.specs.declared.part.Quick.{Quick}
 use Rattle.tags.specs.declared.tag.TagKind.{TagKind}
 use Rattle.tags.specs.declared.tag.TagKind.TheVariants.{Schema, «Type», Enum, Other}
 use Rattle.tags.specs.declared.tag.Notes.{Notes}
@@ -71,10 +71,6 @@ keys_by Schema = schema_keys
 keys_by «Type» = type_keys
 keys_by Enum = enum_keys
 keys_by Other = field_keys
-
--- the kinds by number
-abbrev pub kind_by : ℕ → TagKind
-kind_by n = pick (eqb n 1) Schema (pick (eqb n 2) «Type» (pick (eqb n 3) Enum Other))
 
 -- the test p holds of 1 to n
 abbrev pub up_to : ℕ → (ℕ → Bool) → Bool

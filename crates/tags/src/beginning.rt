@@ -3,7 +3,7 @@
 //! comparing one or two words of eight bytes finds it. Any other raw name is scanned.
 //!
 //! As in `known`, a text to compare is given by integers, and callers test for sixteen bytes.
-#![tactic(auto, using(crate::proofs::Laws::beginning))]
+#![tactic(auto, unfolding(words::specs::Word::word_of, crate::specs::Noting::keys_of, crate::specs::Names::prefix_length, texts::specs::Text::same), using(crate::proofs::Laws::beginning))]
 
 ghost use Rattle.std.specs.Prelude.{◌≡◌, ◌+◌, ◌≤◌, length};
 ghost use Rattle.tags.specs.Beginning.{tagged_text, KnownBeginning, KnownShort, KnownLong, BeginsAt};

@@ -6,7 +6,7 @@
 //! `back` those behind them, and `modulus` is 256 to the number of bytes in the last of the two.
 //! They are parameters, not a struct: constants at each call. The caller tests once, for all names,
 //! that sixteen bytes are there.
-#![tactic(auto, using(crate::proofs::Laws::telling))]
+#![tactic(auto, unfolding(words::specs::Word::word_of), using(crate::proofs::Laws::telling))]
 
 ghost use Rattle.std.specs.Prelude.{◌≡◌, ◌+◌, ◌≤◌, length};
 ghost use Rattle.tags.specs.Known.{KnownAt, keys_by, CodesOf, Apart, ToldShort, ToldLong, ToldText};

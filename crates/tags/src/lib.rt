@@ -1,6 +1,6 @@
 //! Tags of a document, by position: names, attributes, and a whole tag up to its end.
 //!
-//! `tag::tag_part` reads one part of a tag: an attribute, the tag's end, or a refusal (16 to 20).
+//! `part::tag_part` reads one part of a tag: an attribute, the tag's end, or a refusal (16 to 20).
 //! `tag::attribute` looks one name up, and `tag::tag_noting` reads a tag to its end and notes the
 //! values that its element looks up. `scan` skips spaces and names and searches. `known` and
 //! `beginning` are the fast paths: they find names that nearly every schema has by comparing eight
@@ -19,5 +19,6 @@ pub mod beginning;
 mod known;
 mod namespaces;
 mod noting;
+pub mod part;
 pub mod scan;
 pub mod tag;

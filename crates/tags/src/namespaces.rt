@@ -6,7 +6,8 @@ ghost use Rattle.std.specs.Prelude.{◌≡◌, ℕ, ◌≤◌, length};
 ghost use Rattle.tags.specs.Attributes.{quoted_at, value_at};
 ghost use Rattle.tags.specs.Dropping.{Unchanged, next_of};
 
-use crate::scan::{attribute_name_end, byte_from, is_xmlns_at, skip_space};
+use crate::scan::{attribute_name_end, is_xmlns_at, skip_space};
+use words::byte_from;
 
 /// The position past the value that starts at `from`, behind the next `quote`; `at` if there is
 /// none. An empty value and one of a single byte need no search.

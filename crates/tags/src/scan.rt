@@ -4,7 +4,7 @@
 
 ghost use Rattle.std.specs.Prelude.{◌≡◌, ◌-◌, ◌≤◌, length};
 ghost use Rattle.texts.specs.Text.{piece};
-ghost use Rattle.texts.specs.Scan.{scan, until, is};
+ghost use Rattle.texts.specs.Scan.{scan, until};
 ghost use Rattle.classes.specs.Table.{is_name_stop};
 ghost use Rattle.classes.specs.Class.{is_space, is_tag_name_end, is_attribute_name_end};
 ghost use Rattle.tags.specs.Find.{find_from};
@@ -12,7 +12,7 @@ ghost use Rattle.tags.specs.Names.{prefix_length, is_xmlns};
 
 use classes::{is_attribute_name_end, is_name_stop, is_space, is_tag_name_end};
 use texts::scan::{ByteTest, scan_eights, scan_fours};
-use words::stands_short;
+use words::{byte_from, stands_short};
 
 /// Passes spaces.
 #[derive(Clone, Copy)]
@@ -140,13 +140,6 @@ pub fn attribute_name_end(doc: &[u8], at: usize) -> usize
         return scan_eights(doc, at + 5, &AttributeNames);
     }
     scan_eights(doc, at, &AttributeNames)
-}
-
-/// Where the first `b` from `at` on stands, or the document's length.
-pub fn byte_from(doc: &[u8], at: usize, b: u8) -> usize
-    ensures { result ≡ scan (until (is b)) doc.now at }
-{
-    words::byte_from(doc, at, b)
 }
 
 /// The first position from `from` on where `needle` stands; `None` if there is none.

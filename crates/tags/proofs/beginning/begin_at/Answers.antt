@@ -1,8 +1,8 @@
-use Rattle.tags.proofs.Begun.{known-begins, bare-begins}
+use Rattle.tags.proofs.Begun.{space-ends, bracket-ends, known-begins}
 use Rattle.tags.proofs.beginning.begin_at.Goals as goal
 
 pub returns-in-Some : goal.returns-in-Some
-returns-in-Some c = known-begins c.args.doc.now c.args.name c.in-Some.ensures
+returns-in-Some c = known-begins c.args.doc.now c.args.name c.in-Some.ensures space-ends
 
 pub returns-in-Some-opening_short : goal.returns-in-Some-opening_short
-returns-in-Some-opening_short c = bare-begins c.args.doc.now c.args.name c.in-Some-opening_short.ensures
+returns-in-Some-opening_short c = known-begins c.args.doc.now c.args.name c.in-Some-opening_short.ensures bracket-ends

@@ -1,6 +1,6 @@
 -- `search` closes these goals with the rule set named here; `using(..)` with that set does not.
 use Rattle.tags.proofs.Laws.{laws}
-use Rattle.tags.proofs.tag.value_part.Goals as goal
+use Rattle.tags.proofs.part.value_part.Goals as goal
 
 pub overflow_add-at : goal.overflow_add-at
 overflow_add-at c = search laws

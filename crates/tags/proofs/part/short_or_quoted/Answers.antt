@@ -1,6 +1,6 @@
 use borrow.Author.Rules.{rules}
 use Rattle.tags.proofs.Parting.{quoted-empty, quoted-single}
-use Rattle.tags.proofs.tag.short_or_quoted.Goals as goal
+use Rattle.tags.proofs.part.short_or_quoted.Goals as goal
 
 pub returns-then-doc-at : goal.returns-then-doc-at
 returns-then-doc-at c = search (quoted-empty, rules)

@@ -2,7 +2,7 @@
 use Prim.Native.Nat.{◌+◌}
 use Rattle.tags.specs.Known.{IsKnown}
 use Rattle.tags.proofs.Laws.{laws}
-use Rattle.tags.proofs.tag.quick_part.Goals as goal
+use Rattle.tags.proofs.part.quick_part.Goals as goal
 
 pub overflow_add-i : goal.overflow_add-i
 overflow_add-i c = search laws
