@@ -18,7 +18,6 @@ mod enums;
 mod line;
 mod messages;
 pub mod source;
-mod typed;
 pub mod types;
 mod walk;
 

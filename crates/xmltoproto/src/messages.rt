@@ -10,8 +10,7 @@ ghost use Rattle.xmltoproto.specs.Types.{built_ins, built_in, as_named, proto_of
 ghost use Rattle.xmltoproto.specs.Source.{line, field_text, group_text, message_text};
 ghost use Rattle.xmltoproto.specs.Parts.{indent_of, group_head};
 
-use crate::line::write_line;
-use crate::typed::write_typed;
+use crate::line::{write_line, write_typed};
 use crate::types::{Shape, shape_of};
 use crate::walk::{ItemText, write_under};
 use conversions::convert::{write_singular, write_snake};
