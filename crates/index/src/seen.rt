@@ -9,7 +9,7 @@ ghost use Rattle.index.specs.Index.{code};
 ghost use Rattle.index.specs.Declarations.{declaration_of, number_of};
 ghost use Rattle.index.specs.declared.seen.Declaration.{Declaration};
 
-use crate::{CHAIN, EACH, FIRST, MOST, build};
+use crate::{CHAIN, EACH, FIRST, ITEMS_1024, LAST_KIND, build};
 use model::search::{OfKind, Walk};
 use model::view::View;
 use model::{COMPOSITE, ENUM, FIELD, TYPE};
@@ -251,7 +251,7 @@ impl<'a> Index<'a> {
         ensures { result ≡ code (next_under kind owner from self.now) }
     {
         let n = self.view.count();
-        if MOST < n || 9 < kind || n <= owner {
+        if ITEMS_1024 < n || LAST_KIND < kind || n <= owner {
             return self.searched(kind, owner, from);
         }
         if from == 0 {
@@ -308,7 +308,7 @@ impl<'a> Index<'a> {
         ensures { result ≡ declaration_of self.now (item_at self.now i).second }
     {
         if self.kind(i) == FIELD {
-            if self.count() <= MOST {
+            if self.count() <= ITEMS_1024 {
                 return self.field_declared(i);
             }
         }

@@ -14,7 +14,7 @@ use crate::line::{write_line, write_typed};
 use crate::types::{Shape, shape_of};
 use crate::walk::{ItemText, write_under};
 use conversions::convert::{write_singular, write_snake};
-use index::MOST;
+use index::ITEMS_1024;
 use index::seen::{Declaration, Index};
 use model::{FIELD, GROUP};
 use printing::Output;
@@ -55,7 +55,7 @@ fn write_field(out: &mut Output<'_>, s: &Index<'_>, deep: bool, i: u32)
     let name = s.name(i);
     let number = s.number(i);
     if s.kind(i) == FIELD {
-        if s.count() <= MOST {
+        if s.count() <= ITEMS_1024 {
             // By the number: a `Declaration` would be stored and loaded again, and the branch would
             // wait for that (store forwarding).
             let known = s.field_number(i);

@@ -5,11 +5,11 @@ use Rattle.xmltoproto.proofs.generate.Goals as goal
 pub generate_with-requires : goal.generate_with-requires
 generate_with-requires c = (search (blank-least, rules), omega arith)
 
-pub generate_with-requires-then-n-le-FEW : goal.generate_with-requires-then-n-le-FEW
-generate_with-requires-then-n-le-FEW c = (search (blank-few, rules), omega arith)
+pub generate_with-requires-then-n-le-ITEMS_128 : goal.generate_with-requires-then-n-le-ITEMS_128
+generate_with-requires-then-n-le-ITEMS_128 c = (search (blank-few, rules), omega arith)
 
-pub generate_with-requires-then-n-le-SOME : goal.generate_with-requires-then-n-le-SOME
-generate_with-requires-then-n-le-SOME c = (search (blank-some, rules), omega arith)
+pub generate_with-requires-then-n-le-ITEMS_384 : goal.generate_with-requires-then-n-le-ITEMS_384
+generate_with-requires-then-n-le-ITEMS_384 c = (search (blank-some, rules), omega arith)
 
 pub generate_with-requires-2 : goal.generate_with-requires-2
 generate_with-requires-2 c = (blank-all _, omega arith)
