@@ -21,17 +21,12 @@ zeros n k = by_less k n (λ l. get_or-replicate n k 0 0 l) (λ l. let e = length
 mask_low : (n : ℕ) → mask_of n ≤ 1023
 mask_low n = by_less 128 n (λ h. let e = mask-many h in omega arith) (λ h. let e = mask-few h in omega arith)
 
-pub blank-least : (s : Schema) {n : ℕ} → n ≡ length s.items → n ≤ 16 → Blank s (replicate 320 0)
-blank-least s {n} e h = record { long = λ _. let q = mask-few {n = length s.items} (omega arith) in let z = length-replicate {A = ℕ} 320 0 in omega arith; zero = zeros 320 }
+module _ (s : Schema) (size : ℕ) where
+  pub blank-few : length s.items ≤ 128 → 12 * length s.items + 127 < size → Blank s (replicate size 0)
+  blank-few h fits = record { long = λ _. let q = mask-few {n = length s.items} h in let z = length-replicate {A = ℕ} size 0 in omega arith; zero = zeros size }
 
-pub blank-few : (s : Schema) {n : ℕ} → n ≡ length s.items → n ≤ 128 → Blank s (replicate 1664 0)
-blank-few s {n} e h = record { long = λ _. let q = mask-few {n = length s.items} (omega arith) in let z = length-replicate {A = ℕ} 1664 0 in omega arith; zero = zeros 1664 }
-
-pub blank-some : (s : Schema) {n : ℕ} → n ≡ length s.items → n ≤ 384 → Blank s (replicate 5632 0)
-blank-some s e h = record { long = λ _. let q = mask_low (length s.items) in let z = length-replicate {A = ℕ} 5632 0 in omega arith; zero = zeros 5632 }
-
-pub blank-all : (s : Schema) → Blank s (replicate 13312 0)
-blank-all s = record { long = λ most. let q = mask_low (length s.items) in let z = length-replicate {A = ℕ} 13312 0 in omega arith; zero = zeros 13312 }
+  pub blank : (length s.items ≤ 1024 → 12 * length s.items + 1023 < size) → Blank s (replicate size 0)
+  blank fits = record { long = λ most. let f = fits most in let q = mask_low (length s.items) in let z = length-replicate {A = ℕ} size 0 in omega arith; zero = zeros size }
 
 -- ---- names
 

@@ -3,9 +3,9 @@ use Rattle.std.proofs.Common.{◌≡◌, refl, sym, ap, ◌∙◌, Bool, true, f
 use Rattle.texts.proofs.Choosing.{by-test, both_true, is_true}
 use Rattle.model.specs.Schema.{Item, Schema, item_at, positions_from, last}
 use Rattle.model.proofs.Records.{by_less}
+use Rattle.model.proofs.Searching.{last-yes, last-no}
 use Rattle.ordered.specs.Numbered.{declares}
 use Rattle.ordered.specs.Ordered.{last_by}
-use Rattle.ordered.proofs.Lasts.{last-yes, last-no}
 use Rattle.ordered.proofs.Numbering.{by_equal}
 use Rattle.index.specs.Blank.{mask_of}
 use Rattle.index.specs.Index.{code, fronted, place, hashed, last_hashed, Chained}

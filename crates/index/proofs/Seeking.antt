@@ -9,8 +9,7 @@ use Rattle.model.specs.Schema.{Item, Schema, item_at, last_named, a_type, a_comp
 use Rattle.model.proofs.Searching.{named_so}
 use Rattle.ordered.specs.Numbered.{declares}
 use Rattle.ordered.specs.Ordered.{last_by}
-use Rattle.ordered.proofs.Lasts.{last_step}
-use Rattle.ordered.proofs.Numbering.{by_kind}
+use Rattle.ordered.proofs.Numbering.{by_kind, last_step}
 use Rattle.index.specs.Declarations.{declared_by, declaration_of, number_of}
 use Rattle.index.specs.Index.{kept_by, code, place, HeadOf, hashed, last_hashed, Chained}
 use Rattle.index.proofs.Chaining.{none_passes, some-passes, code-none, code-some, hashed-as}

@@ -21,7 +21,7 @@ pub mod source;
 pub mod types;
 mod walk;
 
-ghost use Rattle.std.specs.Prelude.{◌≡◌, ◌≤◌, leb, length, replicate};
+ghost use Rattle.std.specs.Prelude.{◌≡◌, ◌<◌, ◌^◌, leb, length, replicate};
 ghost use Rattle.printing.specs.Printed.{Printed, past};
 ghost use Rattle.index.specs.Blank.{Blank};
 ghost use Rattle.xmltoproto.specs.Source.{source};
@@ -77,7 +77,7 @@ fn generate_in(s: &Index<'_>, out: &mut [u8]) -> Result<usize, Refusal>
 
 /// `generate` with an index of `N` numbers.
 fn generate_with<const N: usize>(schema: View<'_>, out: &mut [u8]) -> Result<usize, Refusal>
-    requires { Blank schema (replicate N 0) × (N ≤ 13312) }
+    requires { Blank schema (replicate N 0) × (N < 2 ^ 32) }
     ensures { Generated schema.entry out.old out.new result }
 {
     let mut links = [0u16; N];
