@@ -4,7 +4,7 @@ ghost use Rattle.std.specs.Iterator.{YieldsFirst, item_count};
 ghost use Rattle.texts.specs.Choice.{◌and◌, pick};
 ghost use Rattle.model.specs.Schema.{item_at, all_of, under, next_under, a_field};
 ghost use Rattle.model.specs.Search.{ahead};
-ghost use Rattle.index.specs.Blank.{Blank};
+ghost use Rattle.index.specs.Blank.{Blank, kinds};
 ghost use Rattle.index.specs.Index.{code};
 ghost use Rattle.index.specs.Declarations.{declaration_of, number_of};
 ghost use Rattle.index.specs.declared.seen.Declaration.{Declaration};
@@ -218,7 +218,7 @@ impl<'a> Index<'a> {
     /// `child_number` for `from` above 0. As a rule item `from - 1` is of this kind and owner, and
     /// its link is the answer; otherwise the model searches.
     fn next_child(&self, kind: u32, owner: u32, from: u32) -> u32
-        requires { (length self.now.items ≤ 1024) × (kind < 10) × (owner < length self.now.items) × (0 < from) }
+        requires { (length self.now.items ≤ 1024) × (kind < kinds) × (owner < length self.now.items) × (0 < from) }
         ensures { result ≡ code (next_under kind owner from self.now) }
     {
         let v = &self.view;
