@@ -2,11 +2,11 @@
 use Rattle.std.proofs.Common.{◌≡◌, refl, sym, ap, ◌∙◌, Bool, true, false, List, Option, Some, None, ℕ, ◌+◌, ◌*◌, ◌-◌, ◌≤◌, ◌<◌, arith, length, get_or, set, length-set, replicate, get_or-set_same, get_or-set_other}
 use lib.ListN.{length-replicate, get_or-replicate, get_or-eq_default}
 use Rattle.model.proofs.Records.{by_less}
-use Rattle.model.specs.Schema.{Schema, item_at, last_named, a_type, a_composite, an_enum}
+use Rattle.model.specs.Schema.{Schema, item_at, last_named, a_type, a_composite, an_enum, a_field}
 use Rattle.texts.specs.Choice.{pick}
 use Rattle.ordered.specs.Numbered.{declares, numbered}
 use Rattle.index.specs.Declarations.{declared_by, declaration_of, number_of}
-use Rattle.index.specs.Blank.{mask_of, Blank}
+use Rattle.index.specs.Blank.{kinds, per_item, mask_of, Blank}
 use Rattle.index.specs.Index.{fronted, place, HeadOf, Chained, Naming, Settling, Indexed}
 use Rattle.index.proofs.Fronting.{fronted-length, fronted-other}
 use Rattle.index.proofs.Linking.{linked-start, linked_on, linked-off, linked-frame}
@@ -21,22 +21,17 @@ zeros n k = by_less k n (λ l. get_or-replicate n k 0 0 l) (λ l. let e = length
 mask_low : (n : ℕ) → mask_of n ≤ 1023
 mask_low n = by_less 128 n (λ h. let e = mask-many h in omega arith) (λ h. let e = mask-few h in omega arith)
 
-pub blank-least : (s : Schema) {n : ℕ} → n ≡ length s.items → n ≤ 16 → Blank s (replicate 320 0)
-blank-least s {n} e h = record { long = λ _. let q = mask-few {n = length s.items} (omega arith) in let z = length-replicate {A = ℕ} 320 0 in omega arith; zero = zeros 320 }
+module _ (s : Schema) (size : ℕ) where
+  pub blank-few : length s.items ≤ 128 → per_item * length s.items + 127 < size → Blank s (replicate size 0)
+  blank-few h fits = record { long = λ _. let q = mask-few {n = length s.items} h in let z = length-replicate {A = ℕ} size 0 in omega arith; zero = zeros size }
 
-pub blank-few : (s : Schema) {n : ℕ} → n ≡ length s.items → n ≤ 128 → Blank s (replicate 1664 0)
-blank-few s {n} e h = record { long = λ _. let q = mask-few {n = length s.items} (omega arith) in let z = length-replicate {A = ℕ} 1664 0 in omega arith; zero = zeros 1664 }
-
-pub blank-some : (s : Schema) {n : ℕ} → n ≡ length s.items → n ≤ 384 → Blank s (replicate 5632 0)
-blank-some s e h = record { long = λ _. let q = mask_low (length s.items) in let z = length-replicate {A = ℕ} 5632 0 in omega arith; zero = zeros 5632 }
-
-pub blank-all : (s : Schema) → Blank s (replicate 13312 0)
-blank-all s = record { long = λ most. let q = mask_low (length s.items) in let z = length-replicate {A = ℕ} 13312 0 in omega arith; zero = zeros 13312 }
+  pub blank : (length s.items ≤ 1024 → per_item * length s.items + 1023 < size) → Blank s (replicate size 0)
+  blank fits = record { long = λ most. let f = fits most in let q = mask_low (length s.items) in let z = length-replicate {A = ℕ} size 0 in omega arith; zero = zeros size }
 
 -- ---- names
 
 pub naming-start : (s : Schema) (ix : List ℕ) → Blank s ix → length s.items ≤ 1024 → Naming s 0 ix
-naming-start s ix b most = record { long = b.long most; zero = λ k o _ _. b.zero (12 * o + 2 + k); chained = chained-start s ix b.zero }
+naming-start s ix b most = record { long = b.long most; zero = λ k o _ _. b.zero (per_item * o + 2 + k); chained = chained-start s ix b.zero }
 
 pub naming-end : (s : Schema) (ix : List ℕ) {i n : ℕ} → Naming s i ix → i ≤ n → n ≡ length s.items → n ≤ i → Naming s (length s.items) ix
 naming-end s ix {i} {n} c a e b = let q : i ≡ length s.items = omega arith in rw q at c
@@ -48,14 +43,14 @@ module _ (s : Schema) (i : ℕ) {k : ℕ} (f : k ≡ (item_at s i).kind) (ix : L
   pub name-off : b ≡ false → Naming s (i + 1) ix
   name-off g = record { long = c.long; zero = c.zero; chained = chained-off s ix i c.chained h (told ∙ g) }
 
-  pub name-on : b ≡ true → {w : List ℕ} → w ≡ (item_at s i).name → {p : ℕ} → HeadOf s w p → {ix' : List ℕ} → ix' ≡ fronted ix p (12 * i + 1) i → Naming s (i + 1) ix'
+  pub name-on : b ≡ true → {w : List ℕ} → w ≡ (item_at s i).name → {p : ℕ} → HeadOf s w p → {ix' : List ℕ} → ix' ≡ fronted ix p (per_item * i + 1) i → Naming s (i + 1) ix'
   name-on t {w} n {p} ep {ix'} q =
-      let z : p ≡ 12 * length s.items + place s (item_at s i).name = ep.is ∙ ap (λ x. 12 * length s.items + place s x) n in
+      let z : p ≡ per_item * length s.items + place s (item_at s i).name = ep.is ∙ ap (λ x. per_item * length s.items + place s x) n in
       let low = rw n at ep.low in
       let on = chained-on s ix i c.chained h c.long (told ∙ t) low in
       record {
-        long = rw (q, fronted-length ix p (12 * i + 1) i) c.long;
-        zero = λ k o hk ho. rw q (fronted-other ix p (12 * i + 1) i (12 * o + 2 + k) (λ x. omega arith) (λ x. omega arith) ∙ c.zero k o hk ho);
+        long = rw (q, fronted-length ix p (per_item * i + 1) i) c.long;
+        zero = λ k o hk ho. rw q (fronted-other ix p (per_item * i + 1) i (per_item * o + 2 + k) (λ x. omega arith) (λ x. omega arith) ∙ c.zero k o hk ho);
         chained = rw (q, z) on;
       }
 
@@ -87,29 +82,29 @@ pub settling-chained : (s : Schema) (ix : List ℕ) {l r : ℕ} → Settling s l
 settling-chained s ix c = c.chained
 
 module _ (s : Schema) (i : ℕ) {kind : ℕ} (fk : kind ≡ (item_at s i).kind) (ix : List ℕ) (l : Settling s (i + 1) i ix) (h : i < length s.items) where
-  off : ((item_at s i).kind < 10 → (item_at s i).owner < length s.items → ⊥) → Settling s i i ix
+  off : ((item_at s i).kind < kinds → (item_at s i).owner < length s.items → ⊥) → Settling s i i ix
   off n = record { long = l.long; linked = linked-off s ix i l.linked h n; chained = l.chained; resolved = l.resolved }
 
-  pub link-kind : 9 < kind → Settling s i i ix
+  pub link-kind : a_field < kind → Settling s i i ix
   link-kind g = off (λ a b. omega arith)
 
   pub link-owner : {owner : ℕ} → owner ≡ (item_at s i).owner → {c : ℕ} → c ≡ length s.items → c ≤ owner → Settling s i i ix
   link-owner fo ec g = off (λ a b. omega arith)
 
-  pub link_on : {owner : ℕ} → owner ≡ (item_at s i).owner → length s.items ≤ 1024 → kind ≤ 9 → {c : ℕ} → c ≡ length s.items → owner < c → {ix' : List ℕ} → ix' ≡ fronted ix (12 * owner + 2 + kind) (12 * i) i → Settling s i i ix'
+  pub link_on : {owner : ℕ} → owner ≡ (item_at s i).owner → length s.items ≤ 1024 → kind ≤ a_field → {c : ℕ} → c ≡ length s.items → owner < c → {ix' : List ℕ} → ix' ≡ fronted ix (per_item * owner + 2 + kind) (per_item * i) i → Settling s i i ix'
   link_on {owner} fo most hk ec ho {ix'} q =
       let big = l.long in
       let on = linked_on s ix i l.linked h (omega arith) most (omega arith) (omega arith) in
-      let r : ix' ≡ fronted ix (12 * (item_at s i).owner + 2 + (item_at s i).kind) (12 * i) i = rw (← fk, ← fo) q in
+      let r : ix' ≡ fronted ix (per_item * (item_at s i).owner + 2 + (item_at s i).kind) (per_item * i) i = rw (← fk, ← fo) q in
       record {
-        long = rw (q, fronted-length ix (12 * owner + 2 + kind) (12 * i) i) l.long;
+        long = rw (q, fronted-length ix (per_item * owner + 2 + kind) (per_item * i) i) l.long;
         linked = rw r on;
-        chained = chained-frame s (length s.items) ix ix' (λ b. same (12 * length s.items + b) (λ x. omega arith) (λ x. omega arith)) (λ j. same (12 * j + 1) (λ x. omega arith) (λ x. omega arith)) l.chained;
-        resolved = record { is = λ j a b d. same (12 * j + 1) (λ x. omega arith) (λ x. omega arith) ∙ l.resolved.is j a b d };
+        chained = chained-frame s (length s.items) ix ix' (λ b. same (per_item * length s.items + b) (λ x. omega arith) (λ x. omega arith)) (λ j. same (per_item * j + 1) (λ x. omega arith) (λ x. omega arith)) l.chained;
+        resolved = record { is = λ j a b d. same (per_item * j + 1) (λ x. omega arith) (λ x. omega arith) ∙ l.resolved.is j a b d };
       }
     where
-      same : (j : ℕ) → (j ≡ 12 * owner + 2 + kind → ⊥) → (j ≡ 12 * i → ⊥) → get_or ix' j 0 ≡ get_or ix j 0
-      same j a b = rw q (fronted-other ix (12 * owner + 2 + kind) (12 * i) i j a b)
+      same : (j : ℕ) → (j ≡ per_item * owner + 2 + kind → ⊥) → (j ≡ per_item * i → ⊥) → get_or ix' j 0 ≡ get_or ix j 0
+      same j a b = rw q (fronted-other ix (per_item * owner + 2 + kind) (per_item * i) i j a b)
 
 -- the array of the sorted names, and their numbers
 pub zeros-long : 1024 ≤ length {A = ℕ} (replicate 1024 0)
@@ -135,27 +130,27 @@ module _ (s : Schema) (i : ℕ) {k : ℕ} (f : k ≡ (item_at s i).kind) (ix : L
         resolved = record { is = λ j a l d. by_less i j (λ b. c.resolved.is j (omega arith) l d) (λ b. let q : j ≡ i = omega arith in absurd (n (f ∙ (rw q at d)))) };
       }
 
-  resolve-on : k ≡ 9 → i < length s.items → {w : List ℕ} → w ≡ (item_at s i).second → {d : ℕ} → d ≡ number_of (declaration_of s w) → {ix' : List ℕ} → ix' ≡ set ix (12 * i + 1) d → Settling s (i + 1) i ix'
+  resolve-on : k ≡ 9 → i < length s.items → {w : List ℕ} → w ≡ (item_at s i).second → {d : ℕ} → d ≡ number_of (declaration_of s w) → {ix' : List ℕ} → ix' ≡ set ix (per_item * i + 1) d → Settling s (i + 1) i ix'
   resolve-on ek h {w} ew {d} ed {ix'} q =
       record {
         long = rw (q, length-set) c.long;
-        linked = linked-frame s (i + 1) ix ix' (λ a o ha. rw q (get_or-set_other ix (12 * i + 1) (12 * o + 2 + a) d 0 (λ x. omega arith))) (λ j. rw q (get_or-set_other ix (12 * i + 1) (12 * j) d 0 (λ x. omega arith))) c.linked;
+        linked = linked-frame s (i + 1) ix ix' (λ a o ha. rw q (get_or-set_other ix (per_item * i + 1) (per_item * o + 2 + a) d 0 (λ x. omega arith))) (λ j. rw q (get_or-set_other ix (per_item * i + 1) (per_item * j) d 0 (λ x. omega arith))) c.linked;
         chained = rw q (chained-aside s (length s.items) ix i d h aside c.chained);
-        resolved = record { is = λ j a l b. by_less i j (λ o. rw q (get_or-set_other ix (12 * i + 1) (12 * j + 1) d 0 (λ x. omega arith) ∙ c.resolved.is j (omega arith) l b)) (λ o. let z : j ≡ i = omega arith in rw (z, q) (here ∙ ed ∙ ap (λ x. number_of (declaration_of s x)) ew)) };
+        resolved = record { is = λ j a l b. by_less i j (λ o. rw q (get_or-set_other ix (per_item * i + 1) (per_item * j + 1) d 0 (λ x. omega arith) ∙ c.resolved.is j (omega arith) l b)) (λ o. let z : j ≡ i = omega arith in rw (z, q) (here ∙ ed ∙ ap (λ x. number_of (declaration_of s x)) ew)) };
       }
     where
-      here : get_or (set ix (12 * i + 1) d) (12 * i + 1) 0 ≡ d
-      here = let l = c.long in get_or-set_same ix (12 * i + 1) d 0 (omega arith)
+      here : get_or (set ix (per_item * i + 1) d) (per_item * i + 1) 0 ≡ d
+      here = let l = c.long in get_or-set_same ix (per_item * i + 1) d 0 (omega arith)
 
       aside : declares (item_at s i).kind ≡ false
       aside = ap declares (sym f ∙ ek) ∙ field-aside
 
   -- by a chain that is short enough
-  pub resolve-short : k ≡ 9 → i < length s.items → {w : List ℕ} → w ≡ (item_at s i).second → {d : ℕ} → (d ≡ number_of (declaration_of s w)) × (d < 1026) → {ix' : List ℕ} → ix' ≡ set ix (12 * i + 1) d → Settling s (i + 1) i ix'
+  pub resolve-short : k ≡ 9 → i < length s.items → {w : List ℕ} → w ≡ (item_at s i).second → {d : ℕ} → (d ≡ number_of (declaration_of s w)) × (d < 1026) → {ix' : List ℕ} → ix' ≡ set ix (per_item * i + 1) d → Settling s (i + 1) i ix'
   resolve-short ek h ew t q = resolve-on ek h ew t.0 q
 
   -- by the sorted names
-  pub resolve-ordered : k ≡ 9 → i < length s.items → {w : List ℕ} → w ≡ (item_at s i).second → {d : ℕ} → (d ≡ numbered (last_named an_enum w s) (last_named a_composite w s) (last_named a_type w s)) × (d < 1026) → {ix' : List ℕ} → ix' ≡ set ix (12 * i + 1) d → Settling s (i + 1) i ix'
+  pub resolve-ordered : k ≡ 9 → i < length s.items → {w : List ℕ} → w ≡ (item_at s i).second → {d : ℕ} → (d ≡ numbered (last_named an_enum w s) (last_named a_composite w s) (last_named a_type w s)) × (d < 1026) → {ix' : List ℕ} → ix' ≡ set ix (per_item * i + 1) d → Settling s (i + 1) i ix'
   unfolding declaration_of
   resolve-ordered ek h {w} ew t q = resolve-on ek h ew (t.0 ∙ numbered_is (last_named an_enum w s) (last_named a_composite w s) (last_named a_type w s)) q
 

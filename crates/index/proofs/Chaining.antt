@@ -3,11 +3,11 @@ use Rattle.std.proofs.Common.{◌≡◌, refl, sym, ap, ◌∙◌, Bool, true, f
 use Rattle.texts.proofs.Choosing.{by-test, both_true, is_true}
 use Rattle.model.specs.Schema.{Item, Schema, item_at, positions_from, last}
 use Rattle.model.proofs.Records.{by_less}
+use Rattle.model.proofs.Searching.{last-yes, last-no}
 use Rattle.ordered.specs.Numbered.{declares}
 use Rattle.ordered.specs.Ordered.{last_by}
-use Rattle.ordered.proofs.Lasts.{last-yes, last-no}
 use Rattle.ordered.proofs.Numbering.{by_equal}
-use Rattle.index.specs.Blank.{mask_of}
+use Rattle.index.specs.Blank.{per_item, mask_of}
 use Rattle.index.specs.Index.{code, fronted, place, hashed, last_hashed, Chained}
 use Rattle.index.proofs.Fronting.{fronted-head, fronted-at, fronted-other}
 
@@ -56,7 +56,7 @@ pub chained-start : (s : Schema) (ix : List ℕ) → ((k : ℕ) → get_or ix k 
 unfolding last_hashed positions_from last
 chained-start s ix z =
     record {
-      head = λ b h. z (12 * length s.items + b);
+      head = λ b h. z (per_item * length s.items + b);
       chain = λ j h b t. absurd (omega arith);
     }
 
@@ -72,7 +72,7 @@ module _ (s : Schema) (ix : List ℕ) (n : ℕ) (c : Chained s n ix) (h : n < le
   unhashed : (b : ℕ) → (declares (item_at s n).kind ≡ true → place s (item_at s n).name ≡ b → ⊥) → hashed s b (item_at s n) ≡ false
   unhashed b f = by-test (hashed s b (item_at s n)) (λ t. let e = hashed-as s (item_at s n) b t in absurd (f e.0 e.1)) (λ g. g)
 
-  head-kept : (b : ℕ) → b ≤ mask_of (length s.items) → hashed s b (item_at s n) ≡ false → get_or ix (12 * length s.items + b) 0 ≡ code (last_hashed b (n + 1) s)
+  head-kept : (b : ℕ) → b ≤ mask_of (length s.items) → hashed s b (item_at s n) ≡ false → get_or ix (per_item * length s.items + b) 0 ≡ code (last_hashed b (n + 1) s)
   unfolding last_hashed
   head-kept b l f = c.head b l ∙ ap code (sym (last-no (hashed s b) s n h f))
 
@@ -80,24 +80,24 @@ module _ (s : Schema) (ix : List ℕ) (n : ℕ) (c : Chained s n ix) (h : n < le
   unfolding last_hashed
   head-new d = last-yes (hashed s (place s (item_at s n).name)) s n h (is-hashed s (item_at s n) d)
 
-  module _ (big : 12 * length s.items + mask_of (length s.items) < length ix) (d : declares (item_at s n).kind ≡ true) (low : place s (item_at s n).name ≤ mask_of (length s.items)) where
-    chained-head : (b : ℕ) → b ≤ mask_of (length s.items) → get_or (fronted ix (12 * length s.items + place s (item_at s n).name) (12 * n + 1) n) (12 * length s.items + b) 0 ≡ code (last_hashed b (n + 1) s)
+  module _ (big : per_item * length s.items + mask_of (length s.items) < length ix) (d : declares (item_at s n).kind ≡ true) (low : place s (item_at s n).name ≤ mask_of (length s.items)) where
+    chained-head : (b : ℕ) → b ≤ mask_of (length s.items) → get_or (fronted ix (per_item * length s.items + place s (item_at s n).name) (per_item * n + 1) n) (per_item * length s.items + b) 0 ≡ code (last_hashed b (n + 1) s)
     chained-head b l =
         by_equal b (place s (item_at s n).name)
-        (λ e. rw e (fronted-head ix (12 * length s.items + place s (item_at s n).name) (12 * n + 1) n (omega arith) ∙ ap code (sym (head-new d))))
-        (λ f. fronted-other ix (12 * length s.items + place s (item_at s n).name) (12 * n + 1) n (12 * length s.items + b) (λ e. f (omega arith)) (λ e. omega arith) ∙ head-kept b l (unhashed b (λ _ e. f (sym e))))
+        (λ e. rw e (fronted-head ix (per_item * length s.items + place s (item_at s n).name) (per_item * n + 1) n (omega arith) ∙ ap code (sym (head-new d))))
+        (λ f. fronted-other ix (per_item * length s.items + place s (item_at s n).name) (per_item * n + 1) n (per_item * length s.items + b) (λ e. f (omega arith)) (λ e. omega arith) ∙ head-kept b l (unhashed b (λ _ e. f (sym e))))
 
-    chained-this : (b : ℕ) → T (hashed s b (item_at s n)) → get_or (fronted ix (12 * length s.items + place s (item_at s n).name) (12 * n + 1) n) (12 * n + 1) 0 ≡ code (last_hashed b n s)
+    chained-this : (b : ℕ) → T (hashed s b (item_at s n)) → get_or (fronted ix (per_item * length s.items + place s (item_at s n).name) (per_item * n + 1) n) (per_item * n + 1) 0 ≡ code (last_hashed b n s)
     chained-this b t =
         let e = (hashed-as s (item_at s n) b (is_true (hashed s b (item_at s n)) t)).1 in
-        fronted-at ix (12 * length s.items + place s (item_at s n).name) (12 * n + 1) n (omega arith) (λ q. omega arith) ∙ c.head (place s (item_at s n).name) low ∙ ap (λ x. code (last_hashed x n s)) e
+        fronted-at ix (per_item * length s.items + place s (item_at s n).name) (per_item * n + 1) n (omega arith) (λ q. omega arith) ∙ c.head (place s (item_at s n).name) low ∙ ap (λ x. code (last_hashed x n s)) e
 
-    pub chained-on : Chained s (n + 1) (fronted ix (12 * length s.items + place s (item_at s n).name) (12 * n + 1) n)
+    pub chained-on : Chained s (n + 1) (fronted ix (per_item * length s.items + place s (item_at s n).name) (per_item * n + 1) n)
     chained-on =
         record {
           head = chained-head;
           chain = λ j l b t. by_less j n
-              (λ m. fronted-other ix (12 * length s.items + place s (item_at s n).name) (12 * n + 1) n (12 * j + 1) (λ e. omega arith) (λ e. omega arith) ∙ c.chain j m b t)
+              (λ m. fronted-other ix (per_item * length s.items + place s (item_at s n).name) (per_item * n + 1) n (per_item * j + 1) (λ e. omega arith) (λ e. omega arith) ∙ c.chain j m b t)
               (λ m. let e : j ≡ n = omega arith in rw e (chained-this b (rw e at t)));
         }
 
@@ -111,15 +111,15 @@ module _ (s : Schema) (ix : List ℕ) (n : ℕ) (c : Chained s n ix) (h : n < le
       }
 
 -- the chain number of an item that declares nothing is free
-pub chained-aside : (s : Schema) (n : ℕ) (ix : List ℕ) (i d : ℕ) → i < length s.items → declares (item_at s i).kind ≡ false → Chained s n ix → Chained s n (set ix (12 * i + 1) d)
+pub chained-aside : (s : Schema) (n : ℕ) (ix : List ℕ) (i d : ℕ) → i < length s.items → declares (item_at s i).kind ≡ false → Chained s n ix → Chained s n (set ix (per_item * i + 1) d)
 chained-aside s n ix i d h f c =
     record {
-      head = λ b l. get_or-set_other ix (12 * i + 1) (12 * length s.items + b) d 0 (λ e. omega arith) ∙ c.head b l;
+      head = λ b l. get_or-set_other ix (per_item * i + 1) (per_item * length s.items + b) d 0 (λ e. omega arith) ∙ c.head b l;
       chain = λ j l b t. by_equal j i
           (λ e. absurd (let q = (hashed-as s (item_at s j) b (is_true (hashed s b (item_at s j)) t)).0 in let g = rw (sym e) at f in let z : ◌≡◌ {A = ℕ} 0 1 = cc in omega arith))
-          (λ e. get_or-set_other ix (12 * i + 1) (12 * j + 1) d 0 (λ q. e (omega arith)) ∙ c.chain j l b t);
+          (λ e. get_or-set_other ix (per_item * i + 1) (per_item * j + 1) d 0 (λ q. e (omega arith)) ∙ c.chain j l b t);
     }
 
 -- the links are not part of the chains
-pub chained-frame : (s : Schema) (n : ℕ) (ix ix' : List ℕ) → ((b : ℕ) → get_or ix' (12 * length s.items + b) 0 ≡ get_or ix (12 * length s.items + b) 0) → ((j : ℕ) → get_or ix' (12 * j + 1) 0 ≡ get_or ix (12 * j + 1) 0) → Chained s n ix → Chained s n ix'
+pub chained-frame : (s : Schema) (n : ℕ) (ix ix' : List ℕ) → ((b : ℕ) → get_or ix' (per_item * length s.items + b) 0 ≡ get_or ix (per_item * length s.items + b) 0) → ((j : ℕ) → get_or ix' (per_item * j + 1) 0 ≡ get_or ix (per_item * j + 1) 0) → Chained s n ix → Chained s n ix'
 chained-frame s n ix ix' f g c = record { head = λ b l. f b ∙ c.head b l; chain = λ j l b t. g j ∙ c.chain j l b t }

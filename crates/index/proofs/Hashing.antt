@@ -5,7 +5,7 @@ use Rattle.texts.specs.Text.{piece}
 use Rattle.model.specs.Schema.{Schema}
 use Rattle.model.proofs.Records.{by_less}
 use Rattle.words.specs.Word.{IsWord, IsHalf}
-use Rattle.index.specs.Blank.{mask_of}
+use Rattle.index.specs.Blank.{per_item, mask_of}
 use Rattle.index.specs.Index.{short_word, mix, words_from, long_word, narrowed, hash, HashOf, place, HeadOf}
 
 -- ---- less than 8 bytes
@@ -99,7 +99,7 @@ masked-many h e = (ap (bit_and h) (mask-many e), and_le_l h 1023)
 pub masked-few : (h : ℕ) {n : ℕ} → n ≤ 128 → (bit_and h 127 ≡ bit_and h (mask_of n)) × (bit_and h 127 ≤ h)
 masked-few h e = (ap (bit_and h) (mask-few e), and_le_l h 127)
 
-pub head-is : (s : Schema) (name : List ℕ) {n : ℕ} → n ≡ length s.items → {h : ℕ} → HashOf name h → {k : ℕ} → (k ≡ bit_and h (mask_of n)) × (k ≤ h) → HeadOf s name (12 * n + k)
+pub head-is : (s : Schema) (name : List ℕ) {n : ℕ} → n ≡ length s.items → {h : ℕ} → HashOf name h → {k : ℕ} → (k ≡ bit_and h (mask_of n)) × (k ≤ h) → HeadOf s name (per_item * n + k)
 unfolding place
 head-is s name {n} en {h} eh {k} ek =
     record {

@@ -5,6 +5,7 @@ use Rattle.model.specs.Schema.{Schema, item_at, no_item, positions_from, first, 
 use Rattle.model.proofs.Records.{by_less}
 use Rattle.model.proofs.Searching.{owned_so, first-yes, first-no}
 use Rattle.ordered.proofs.Numbering.{by_equal}
+use Rattle.index.specs.Blank.{kinds, per_item}
 use Rattle.index.specs.Index.{code, fronted, Linked}
 use Rattle.index.proofs.Fronting.{fronted-head, fronted-at, fronted-other}
 
@@ -29,7 +30,7 @@ module _ (s : Schema) (k o j : ℕ) (h : j < length s.items) where
 -- ---- the links
 
 -- no item is linked yet
-pub linked-start : (s : Schema) (ix : List ℕ) → ((k o : ℕ) → k < 10 → o < length s.items → get_or ix (12 * o + 2 + k) 0 ≡ 0) → (n : ℕ) → length s.items ≤ n → Linked s n ix
+pub linked-start : (s : Schema) (ix : List ℕ) → ((k o : ℕ) → k < kinds → o < length s.items → get_or ix (per_item * o + 2 + k) 0 ≡ 0) → (n : ℕ) → length s.items ≤ n → Linked s n ix
 linked-start s ix z n h =
     record {
       first = λ k o hk ho. z k o hk ho ∙ ap code (sym (under-end s k o n h));
@@ -38,33 +39,33 @@ linked-start s ix z n h =
 
 module _ (s : Schema) (ix : List ℕ) (j : ℕ) (l : Linked s (j + 1) ix) (h : j < length s.items) where
   -- an item with a kind below 10 and an owner among the items
-  module _ (big : 12 * length s.items ≤ length ix) (most : length s.items ≤ 1024) (hk : (item_at s j).kind < 10) (ho : (item_at s j).owner < length s.items) where
-    linked-first : (k o : ℕ) → k < 10 → o < length s.items → get_or (fronted ix (12 * (item_at s j).owner + 2 + (item_at s j).kind) (12 * j) j) (12 * o + 2 + k) 0 ≡ code (next_under k o j s)
+  module _ (big : per_item * length s.items ≤ length ix) (most : length s.items ≤ 1024) (hk : (item_at s j).kind < kinds) (ho : (item_at s j).owner < length s.items) where
+    linked-first : (k o : ℕ) → k < kinds → o < length s.items → get_or (fronted ix (per_item * (item_at s j).owner + 2 + (item_at s j).kind) (per_item * j) j) (per_item * o + 2 + k) 0 ≡ code (next_under k o j s)
     linked-first k o bk bo =
         by_equal k (item_at s j).kind
         (λ ek. by_equal o (item_at s j).owner
-        (λ eo. let z : 12 * o + 2 + k ≡ 12 * (item_at s j).owner + 2 + (item_at s j).kind = omega arith in
-        ap (λ n. get_or (fronted ix (12 * (item_at s j).owner + 2 + (item_at s j).kind) (12 * j) j) n 0) z ∙ fronted-head ix _ (12 * j) j (omega arith) ∙ ap code (sym (under-hit s k o j h (sym ek) (sym eo))))
+        (λ eo. let z : per_item * o + 2 + k ≡ per_item * (item_at s j).owner + 2 + (item_at s j).kind = omega arith in
+        ap (λ n. get_or (fronted ix (per_item * (item_at s j).owner + 2 + (item_at s j).kind) (per_item * j) j) n 0) z ∙ fronted-head ix _ (per_item * j) j (omega arith) ∙ ap code (sym (under-hit s k o j h (sym ek) (sym eo))))
         (λ no. other (λ e f. no (sym f))))
         (λ nk. other (λ e f. nk (sym e)))
       where
-        other : ((item_at s j).kind ≡ k → (item_at s j).owner ≡ o → ⊥) → get_or (fronted ix (12 * (item_at s j).owner + 2 + (item_at s j).kind) (12 * j) j) (12 * o + 2 + k) 0 ≡ code (next_under k o j s)
-        other n = fronted-other ix _ (12 * j) j (12 * o + 2 + k) (λ e. n (omega arith) (omega arith)) (λ e. omega arith) ∙ l.first k o bk bo ∙ ap code (sym (under-miss s k o j h n))
+        other : ((item_at s j).kind ≡ k → (item_at s j).owner ≡ o → ⊥) → get_or (fronted ix (per_item * (item_at s j).owner + 2 + (item_at s j).kind) (per_item * j) j) (per_item * o + 2 + k) 0 ≡ code (next_under k o j s)
+        other n = fronted-other ix _ (per_item * j) j (per_item * o + 2 + k) (λ e. n (omega arith) (omega arith)) (λ e. omega arith) ∙ l.first k o bk bo ∙ ap code (sym (under-miss s k o j h n))
 
-    linked-this : get_or (fronted ix (12 * (item_at s j).owner + 2 + (item_at s j).kind) (12 * j) j) (12 * j) 0 ≡ code (next_under (item_at s j).kind (item_at s j).owner (j + 1) s)
-    linked-this = fronted-at ix _ (12 * j) j (omega arith) (λ e. omega arith) ∙ l.first (item_at s j).kind (item_at s j).owner hk ho
+    linked-this : get_or (fronted ix (per_item * (item_at s j).owner + 2 + (item_at s j).kind) (per_item * j) j) (per_item * j) 0 ≡ code (next_under (item_at s j).kind (item_at s j).owner (j + 1) s)
+    linked-this = fronted-at ix _ (per_item * j) j (omega arith) (λ e. omega arith) ∙ l.first (item_at s j).kind (item_at s j).owner hk ho
 
-    pub linked_on : Linked s j (fronted ix (12 * (item_at s j).owner + 2 + (item_at s j).kind) (12 * j) j)
+    pub linked_on : Linked s j (fronted ix (per_item * (item_at s j).owner + 2 + (item_at s j).kind) (per_item * j) j)
     linked_on =
         record {
           first = linked-first;
           next = λ i a b bk bo. by_less j i
-              (λ c. fronted-other ix _ (12 * j) j (12 * i) (λ e. omega arith) (λ e. omega arith) ∙ l.next i (omega arith) b bk bo)
+              (λ c. fronted-other ix _ (per_item * j) j (per_item * i) (λ e. omega arith) (λ e. omega arith) ∙ l.next i (omega arith) b bk bo)
               (λ c. let e : i ≡ j = omega arith in rw e linked-this);
         }
 
   -- any other
-  pub linked-off : ((item_at s j).kind < 10 → (item_at s j).owner < length s.items → ⊥) → Linked s j ix
+  pub linked-off : ((item_at s j).kind < kinds → (item_at s j).owner < length s.items → ⊥) → Linked s j ix
   linked-off n =
       record {
         first = λ k o bk bo. l.first k o bk bo ∙ ap code (sym (under-miss s k o j h (λ e f. n (omega arith) (omega arith))));
@@ -74,7 +75,7 @@ module _ (s : Schema) (ix : List ℕ) (j : ℕ) (l : Linked s (j + 1) ix) (h : j
       }
 
 -- the chains are not part of the links
-pub linked-frame : (s : Schema) (i : ℕ) (ix ix' : List ℕ) → ((k o : ℕ) → k < 10 → get_or ix' (12 * o + 2 + k) 0 ≡ get_or ix (12 * o + 2 + k) 0) → ((j : ℕ) → get_or ix' (12 * j) 0 ≡ get_or ix (12 * j) 0) → Linked s i ix → Linked s i ix'
+pub linked-frame : (s : Schema) (i : ℕ) (ix ix' : List ℕ) → ((k o : ℕ) → k < kinds → get_or ix' (per_item * o + 2 + k) 0 ≡ get_or ix (per_item * o + 2 + k) 0) → ((j : ℕ) → get_or ix' (per_item * j) 0 ≡ get_or ix (per_item * j) 0) → Linked s i ix → Linked s i ix'
 linked-frame s i ix ix' f g l =
     record {
       first = λ k o bk bo. f k o bk ∙ l.first k o bk bo;

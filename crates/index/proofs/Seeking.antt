@@ -9,8 +9,8 @@ use Rattle.model.specs.Schema.{Item, Schema, item_at, last_named, a_type, a_comp
 use Rattle.model.proofs.Searching.{named_so}
 use Rattle.ordered.specs.Numbered.{declares}
 use Rattle.ordered.specs.Ordered.{last_by}
-use Rattle.ordered.proofs.Lasts.{last_step}
-use Rattle.ordered.proofs.Numbering.{by_kind}
+use Rattle.ordered.proofs.Numbering.{by_kind, last_step}
+use Rattle.index.specs.Blank.{per_item}
 use Rattle.index.specs.Declarations.{declared_by, declaration_of, number_of}
 use Rattle.index.specs.Index.{kept_by, code, place, HeadOf, hashed, last_hashed, Chained}
 use Rattle.index.proofs.Chaining.{none_passes, some-passes, code-none, code-some, hashed-as}
@@ -139,7 +139,7 @@ module _ (name : List ℕ) (s : Schema) {p kept : ℕ} (k : Seeking name s p kep
       pub seeking-found : r ≡ 1 → r ≡ number_of (declaration_of s name)
       seeking-found e = rw e (sym (chosen-one (last_by (named_so an_enum name) (p - 1) s) (last_by (named_so a_composite name) (p - 1) s) (last_by (named_so a_type name) (p - 1) s)) ∙ (rw e at kept_same))
 
-    module _ (ix : List ℕ) (x : Chained s (length s.items) ix) {q : ℕ} (eq : q ≡ get_or ix (12 * (p - 1) + 1) 0) where
+    module _ (ix : List ℕ) (x : Chained s (length s.items) ix) {q : ℕ} (eq : q ≡ get_or ix (per_item * (p - 1) + 1) 0) where
       next-leads : q ≡ code (last_hashed (place s name) (p - 1) s)
       unfolding declares
       next-leads = eq ∙ x.chain (p - 1) seeking-low (place s name) (rw (passed a_type refl).1 tt)

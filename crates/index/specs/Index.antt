@@ -1,8 +1,8 @@
 -- The index over a schema's items, as an array. Internal: the crates above are promised the model's
 -- own searches (`next_under`, `last_named`).
 --
--- Twelve numbers for each item: the next item of its kind and owner; the item before it in its hash
--- chain or, for a field, what its type name is declared as; and for each of ten kinds the first
+-- The numbers of an item: the next item of its kind and owner; the item before it in its hash
+-- chain or, for a field, what its type name is declared as; and for each kind the first
 -- item under it. Then, for each chain, the last item in it.
 use Rattle.std.specs.Prelude.{Option, Some, None, ◌≡◌, Bool, true, false, List, ℕ, zero, suc, ◌+◌, ◌-◌, ◌*◌, ◌/◌, ◌%◌, ◌≤◌, ◌<◌, T, eqb, ltb, length, get_or, take, set}
 use Rattle.std.specs.Int.Bits.{bit_and, bit_xor}
@@ -11,7 +11,7 @@ use Rattle.texts.specs.Text.{piece, same}
 use Rattle.words.specs.Word.{word_of}
 use Rattle.model.specs.Schema.{Item, Schema, item_at, positions_from, last, next_under, a_type, a_field}
 use Rattle.ordered.specs.Numbered.{declares}
-use Rattle.index.specs.Blank.{mask_of}
+use Rattle.index.specs.Blank.{kinds, per_item, mask_of}
 use Rattle.index.specs.Declarations.{declaration_of, number_of}
 
 -- a position as the index holds it
@@ -27,8 +27,8 @@ fronted ix head at i = set (set ix at (get_or ix head 0)) head (i + 1)
 
 -- items from i on are linked: `first` from their owners, `next` from one to the next
 pub record Linked (s : Schema) (i : ℕ) (ix : List ℕ) : Type 0 where
-  pub first : (k o : ℕ) → k < 10 → o < length s.items → get_or ix (12 * o + 2 + k) 0 ≡ code (next_under k o i s)
-  pub next : (j : ℕ) → i ≤ j → j < length s.items → (item_at s j).kind < 10 → (item_at s j).owner < length s.items → get_or ix (12 * j) 0 ≡ code (next_under (item_at s j).kind (item_at s j).owner (j + 1) s)
+  pub first : (k o : ℕ) → k < kinds → o < length s.items → get_or ix (per_item * o + 2 + k) 0 ≡ code (next_under k o i s)
+  pub next : (j : ℕ) → i ≤ j → j < length s.items → (item_at s j).kind < kinds → (item_at s j).owner < length s.items → get_or ix (per_item * j) 0 ≡ code (next_under (item_at s j).kind (item_at s j).owner (j + 1) s)
 
 -- ---- hash chains: the second number of an item that declares a name, and the heads at the end
 
@@ -68,7 +68,7 @@ place s name = bit_and (hash name) (mask_of (length s.items))
 
 -- p is where the head of a name's chain stands
 pub record HeadOf (s : Schema) (name : List ℕ) (p : ℕ) : Type 0 where
-  pub is : p ≡ 12 * length s.items + place s name
+  pub is : p ≡ per_item * length s.items + place s name
   pub low : place s name ≤ mask_of (length s.items)
 
 -- an item that declares a name in chain b
@@ -82,8 +82,8 @@ last_hashed b n s = last (positions_from 0 (hashed s b) (take n s.items))
 -- the first n items are in their chains: a head is the last item of its chain, and each leads to
 -- the one before it
 pub record Chained (s : Schema) (n : ℕ) (ix : List ℕ) : Type 0 where
-  pub head : (b : ℕ) → b ≤ mask_of (length s.items) → get_or ix (12 * length s.items + b) 0 ≡ code (last_hashed b n s)
-  pub chain : (j : ℕ) → j < n → (b : ℕ) → T (hashed s b (item_at s j)) → get_or ix (12 * j + 1) 0 ≡ code (last_hashed b j s)
+  pub head : (b : ℕ) → b ≤ mask_of (length s.items) → get_or ix (per_item * length s.items + b) 0 ≡ code (last_hashed b n s)
+  pub chain : (j : ℕ) → j < n → (b : ℕ) → T (hashed s b (item_at s j)) → get_or ix (per_item * j + 1) 0 ≡ code (last_hashed b j s)
 
 -- one step along a chain from its head: what the name is declared as by the item `it` at position i
 -- and those passed before, which say `kept`: 1 for an enum or composite, otherwise the first type
@@ -95,13 +95,13 @@ kept_by it i name kept = pick (eqb it.kind a_type) (pick (ltb 0 kept) kept (pick
 
 -- the fields from n on hold what their type names are declared as
 pub record Resolved (s : Schema) (n : ℕ) (ix : List ℕ) : Type 0 where
-  pub is : (j : ℕ) → n ≤ j → j < length s.items → (item_at s j).kind ≡ a_field → get_or ix (12 * j + 1) 0 ≡ number_of (declaration_of s (item_at s j).second)
+  pub is : (j : ℕ) → n ≤ j → j < length s.items → (item_at s j).kind ≡ a_field → get_or ix (per_item * j + 1) 0 ≡ number_of (declaration_of s (item_at s j).second)
 
 -- ---- the whole index, which holds nothing of a schema of more than 1,024 items
 
 -- the index is right for the schema
 pub record Indexed (s : Schema) (ix : List ℕ) : Type 0 where
-  pub long : length s.items ≤ 1024 → 12 * length s.items ≤ length ix
+  pub long : length s.items ≤ 1024 → per_item * length s.items ≤ length ix
   pub links : length s.items ≤ 1024 → Linked s 0 ix
   pub types : length s.items ≤ 1024 → Resolved s 0 ix
 
@@ -109,13 +109,13 @@ pub record Indexed (s : Schema) (ix : List ℕ) : Type 0 where
 
 -- the first n items are in their chains, and there are no links yet
 pub record Naming (s : Schema) (n : ℕ) (ix : List ℕ) : Type 0 where
-  pub long : 12 * length s.items + mask_of (length s.items) < length ix
-  pub zero : (k o : ℕ) → k < 10 → o < length s.items → get_or ix (12 * o + 2 + k) 0 ≡ 0
+  pub long : per_item * length s.items + mask_of (length s.items) < length ix
+  pub zero : (k o : ℕ) → k < kinds → o < length s.items → get_or ix (per_item * o + 2 + k) 0 ≡ 0
   pub chained : Chained s n ix
 
 -- all items are in their chains, those from l on are linked, and the fields from r on resolved
 pub record Settling (s : Schema) (l r : ℕ) (ix : List ℕ) : Type 0 where
-  pub long : 12 * length s.items + mask_of (length s.items) < length ix
+  pub long : per_item * length s.items + mask_of (length s.items) < length ix
   pub linked : Linked s l ix
   pub chained : Chained s (length s.items) ix
   pub resolved : Resolved s r ix

@@ -7,13 +7,13 @@ ghost use Rattle.index.specs.Blank.{Blank};
 ghost use Rattle.index.specs.Index.{Chained, Naming, Settling};
 ghost use Rattle.index.specs.Declarations.{declaration_of, number_of};
 
-use crate::{CHAIN, EACH, FIRST, STEPS, head_of, kept_at, put_front, word};
+use crate::{CHAIN, EACH, FIRST, LAST_KIND, STEPS, head_of, kept_at, put_front, word};
 use model::FIELD;
 use model::view::View;
 use ordered::{Names, is_declaring};
 use std::marker::Model;
 
-/// A schema of at most `MOST` items.
+/// A schema of at most `ITEMS_1024` items.
 #[derive(Drop)]
 pub(crate) struct Few<'a> {
     view: &'a View<'a>,
@@ -62,13 +62,13 @@ impl<'a> Few<'a> {
     }
 
     /// Pushes item `i` to the front of its owner's list for its kind. There is none for a kind
-    /// above 9 or for an owner that is no item.
+    /// past the last or for an owner that is no item.
     fn link_item(&self, i: u32, ix: &mut [u16])
         requires { Settling self.now (i + 1) i ix.old × (i < length self.now.items) }
         ensures { Settling self.now i i ix.new }
     {
         let kind = self.view.kind(i);
-        if 9 < kind {
+        if LAST_KIND < kind {
             return;
         }
         let owner = self.view.owner(i);

@@ -17,48 +17,58 @@ ghost use Rattle.index.specs.Blank.{mask_of, Blank};
 ghost use Rattle.index.specs.Index.{kept_by, fronted, short_word, mix, long_word, narrowed, HashOf, HeadOf, Indexed};
 
 use crate::filling::Few;
-use model::TYPE;
 use model::view::View;
+use model::{FIELD, TYPE};
 use words::{half_at, same_name, word_at};
 
-// The array has twelve numbers for each item, then the head of each hash chain. A position is
+// The array has `EACH` numbers for each item, then the head of each hash chain. A position is
 // stored plus 1; 0 is none.
 
-/// Numbers of an item. The first links to the next item of the same kind and owner.
-const EACH: usize = 12;
+/// The last of the kinds.
+const LAST_KIND: u32 = FIELD;
 
-/// The second: the item before it in its chain, or, of a field, what its type name is declared as.
+/// The first of an item's numbers links to the next item of the same kind and owner. The second:
+/// the item before it in its chain, or, of a field, what its type name is declared as.
 const CHAIN: usize = 1;
 
-/// From the third on: for each of ten kinds, the first item under this one.
+/// From the third on: for each kind from 0 on, the first item under this one.
 const FIRST: usize = 2;
 
-// Lengths of the array for up to 1,024, 384, 128 and 16 items. It is zeroed whole for each schema,
-// and small documents would notice the largest one.
+/// Numbers of an item.
+const EACH: usize = FIRST + LAST_KIND as usize + 1;
 
-/// The array's length for `MOST` items.
-pub const SIZE: usize = 13312;
+/// Hash chains of an index of more than 128 items.
+const CHAINS: usize = 1024;
 
-/// The most items of a schema of middle size.
-pub const SOME: u32 = 384;
+/// Hash chains of an index of at most 128 items.
+const FEW_CHAINS: usize = 128;
 
-/// The array's length for `SOME` items.
-pub const SOME_SIZE: usize = 5632;
-
-/// The most items of a small schema, for which 128 chains do instead of 1,024.
-pub const FEW: u32 = 128;
-
-/// The array's length for `FEW` items.
-pub const FEW_SIZE: usize = 1664;
-
-/// The most items of a tiny schema.
-pub const LEAST: u32 = 16;
-
-/// The array's length for `LEAST` items.
-pub const LEAST_SIZE: usize = 320;
+// The array is zeroed whole for each schema, and small documents would notice the largest one: so
+// there are four sizes, by the most items that they hold.
 
 /// The most items that an index holds: as many as a document may give.
-pub const MOST: u32 = 1024;
+pub const ITEMS_1024: u32 = 1024;
+
+/// The most items of a schema of middle size.
+pub const ITEMS_384: u32 = 384;
+
+/// The most items of a small schema, for which 128 chains do instead of 1,024.
+pub const ITEMS_128: u32 = 128;
+
+/// The most items of a tiny schema.
+pub const ITEMS_16: u32 = 16;
+
+/// The array's length for `ITEMS_1024` items.
+pub const LINKS_1024: usize = EACH * ITEMS_1024 as usize + CHAINS;
+
+/// The array's length for `ITEMS_384` items.
+pub const LINKS_384: usize = EACH * ITEMS_384 as usize + CHAINS;
+
+/// The array's length for `ITEMS_128` items.
+pub const LINKS_128: usize = EACH * ITEMS_128 as usize + FEW_CHAINS;
+
+/// The array's length for `ITEMS_16` items.
+pub const LINKS_16: usize = EACH * ITEMS_16 as usize + FEW_CHAINS;
 
 /// How many items of a chain are looked at before the sorted names are used.
 const STEPS: u32 = 8;
@@ -147,7 +157,7 @@ fn hash_of(name: &[u8]) -> usize
 fn masked(h: usize, n: u32) -> usize
     ensures { (result ≡ bit_and h (mask_of n)) × (result ≤ h) }
 {
-    if FEW < n {
+    if ITEMS_128 < n {
         return h & 1023;
     }
     h & 127
@@ -204,12 +214,12 @@ fn kept_at(v: &View<'_>, i: u32, name: &[u8], kept: u32) -> u32
     kept
 }
 
-/// Fills `ix`, all zeros, with the index; for a schema of more than `MOST` items it stays zeros.
+/// Fills `ix`, all zeros, with the index; for a schema of more than `ITEMS_1024` items it stays zeros.
 fn build(v: &View<'_>, ix: &mut [u16])
     requires { Blank v.now ix.old }
     ensures { Indexed v.now ix.new }
 {
-    if v.count() <= MOST {
+    if v.count() <= ITEMS_1024 {
         let few = Few::of(v);
         few.put_names(ix);
         few.put_settled(ix);

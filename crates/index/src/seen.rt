@@ -4,12 +4,12 @@ ghost use Rattle.std.specs.Iterator.{YieldsFirst, item_count};
 ghost use Rattle.texts.specs.Choice.{◌and◌, pick};
 ghost use Rattle.model.specs.Schema.{item_at, all_of, under, next_under, a_field};
 ghost use Rattle.model.specs.Search.{ahead};
-ghost use Rattle.index.specs.Blank.{Blank};
+ghost use Rattle.index.specs.Blank.{Blank, kinds};
 ghost use Rattle.index.specs.Index.{code};
 ghost use Rattle.index.specs.Declarations.{declaration_of, number_of};
 ghost use Rattle.index.specs.declared.seen.Declaration.{Declaration};
 
-use crate::{CHAIN, EACH, FIRST, MOST, build};
+use crate::{CHAIN, EACH, FIRST, ITEMS_1024, LAST_KIND, build};
 use model::search::{OfKind, Walk};
 use model::view::View;
 use model::{COMPOSITE, ENUM, FIELD, TYPE};
@@ -218,7 +218,7 @@ impl<'a> Index<'a> {
     /// `child_number` for `from` above 0. As a rule item `from - 1` is of this kind and owner, and
     /// its link is the answer; otherwise the model searches.
     fn next_child(&self, kind: u32, owner: u32, from: u32) -> u32
-        requires { (length self.now.items ≤ 1024) × (kind < 10) × (owner < length self.now.items) × (0 < from) }
+        requires { (length self.now.items ≤ 1024) × (kind < kinds) × (owner < length self.now.items) × (0 < from) }
         ensures { result ≡ code (next_under kind owner from self.now) }
     {
         let v = &self.view;
@@ -251,7 +251,7 @@ impl<'a> Index<'a> {
         ensures { result ≡ code (next_under kind owner from self.now) }
     {
         let n = self.view.count();
-        if MOST < n || 9 < kind || n <= owner {
+        if ITEMS_1024 < n || LAST_KIND < kind || n <= owner {
             return self.searched(kind, owner, from);
         }
         if from == 0 {
@@ -308,7 +308,7 @@ impl<'a> Index<'a> {
         ensures { result ≡ declaration_of self.now (item_at self.now i).second }
     {
         if self.kind(i) == FIELD {
-            if self.count() <= MOST {
+            if self.count() <= ITEMS_1024 {
                 return self.field_declared(i);
             }
         }

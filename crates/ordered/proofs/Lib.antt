@@ -1,6 +1,5 @@
 -- Laws of sorted names.
 pub mod Comparing
-pub mod Lasts
 pub mod Numbering
 pub mod Placing
 pub mod Inserting

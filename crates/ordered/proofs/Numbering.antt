@@ -1,16 +1,15 @@
 -- What a name is declared as among the first items, and among one more.
-use Rattle.std.proofs.Common.{◌≡◌, refl, ◌∙◌, true, false, Option, Some, None, List, ℕ, ◌+◌, ◌<◌, arith, eqb, length, eqb-true, ne_eqb}
+use Rattle.std.proofs.Common.{◌≡◌, refl, ◌∙◌, Bool, true, false, Option, Some, None, List, ℕ, ◌+◌, ◌<◌, arith, eqb, length, eqb-true, ne_eqb}
 use lib.Seq.{take-length}
 use borrow.Author.Tests.{eqb-false}
 use Rattle.texts.specs.Choice.{pick}
 use Rattle.texts.specs.Text.{same}
 use Rattle.texts.proofs.Choosing.{by-test}
 use Rattle.texts.proofs.Comparing.{same-equal, equal-same}
-use Rattle.model.specs.Schema.{Schema, item_at, positions_from, last, last_named, a_type, a_composite, an_enum}
-use Rattle.model.proofs.Searching.{named_so}
+use Rattle.model.specs.Schema.{Item, Schema, item_at, positions_from, last, last_named, a_type, a_composite, an_enum}
+use Rattle.model.proofs.Searching.{named_so, last-yes, last-no}
 use Rattle.ordered.specs.Numbered.{declares, numbered}
 use Rattle.ordered.specs.Ordered.{last_by, number_in, worth}
-use Rattle.ordered.proofs.Lasts.{last_step}
 
 -- case split: two numbers are equal, or not
 pub by_equal {ℓ} : {X : Type ℓ} (a b : ℕ) → (a ≡ b → X) → ((a ≡ b → ⊥) → X) → X
@@ -56,6 +55,9 @@ numbered-composite j (Some i) t = refl
 numbered-composite j None t = refl
 
 -- ---- among the first n items, and among n + 1
+
+pub last_step : (p : Item → Bool) (s : Schema) (n : ℕ) → n < length s.items → last_by p (n + 1) s ≡ pick (p (item_at s n)) (Some n) (last_by p n s)
+last_step p s n h = by-test (p (item_at s n)) (λ t. rw t (last-yes p s n h t)) (λ f. rw f (last-no p s n h f))
 
 pub number-none : (s : Schema) (name : List ℕ) → number_in s 0 name ≡ 0
 unfolding number_in positions_from last

@@ -17,10 +17,10 @@ use Rattle.index.specs.declared.seen.Declaration.{Declaration}
 use Rattle.index.specs.declared.seen.Declaration.TheVariants.{Named, Typed}
 use Rattle.index.proofs.Finding.{declaration-none, declaration-named, declaration-typed}
 use Rattle.model.specs.Schema.{Item, Schema, no_item, item_at, positions_from, all_of, under, a_member, a_ref, a_composite, a_group, a_field}
-use Rattle.xmltoproto.specs.Types.{built_ins, form_of, built_in, as_named, proto_of, proto_by, Meaning, typed, unknown, meaning}
+use Rattle.xmltoproto.specs.Types.{built_ins, form, form_of, built_in, as_named, proto_of, proto_by, Meaning, typed, unknown, meaning}
 use Rattle.xmltoproto.specs.Composites.{is_printed, printed_composites}
 use Rattle.xmltoproto.specs.Source.{package_line, header, value_text, line, member_text, ref_text, part_texts, field_text, group_text, message_text}
-use Rattle.xmltoproto.specs.Shapes.{form, proto_in}
+use Rattle.xmltoproto.specs.Shapes.{proto_in}
 use Rattle.xmltoproto.specs.Parts.{Members}
 use Rattle.xmltoproto.specs.declared.types.Shape.{Shape}
 use Rattle.xmltoproto.specs.declared.types.Shape.TheVariants as shape

@@ -3,15 +3,11 @@ use Rattle.std.specs.Prelude.{List, [], ◌++◌, ℕ}
 use Rattle.texts.specs.Text.{ascii}
 use Rattle.printing.specs.Decimal.{decimal}
 use Rattle.model.specs.Schema.{Schema, item_at}
-use Rattle.xmltoproto.specs.Types.{Form, Proto, note_on, Meaning, declared, typed, unknown, form_of, built_in}
+use Rattle.xmltoproto.specs.Types.{Proto, note_on, Meaning, declared, typed, unknown, form_of, built_in}
 use Rattle.xmltoproto.specs.declared.types.Shape.{Shape}
 use Rattle.xmltoproto.specs.declared.types.Shape.TheVariants as shape
 use Rattle.xmltoproto.specs.declared.types.Sense.{Sense}
 use Rattle.xmltoproto.specs.declared.types.Sense.TheVariants as sense
-
--- a form by its three parts
-abbrev pub form : List ℕ → ℕ → List ℕ → Form
-form primitive size encoding = record { primitive = primitive; size = size; encoding = encoding }
 
 -- ---- a shape over a primitive p and an encoding e
 

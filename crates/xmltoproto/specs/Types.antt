@@ -21,13 +21,17 @@ pub record Form : Type 0 where
   pub size : ℕ
   pub encoding : List ℕ
 
+-- a form by its three parts
+abbrev pub form : List ℕ → ℕ → List ℕ → Form
+form primitive size encoding = record { primitive = primitive; size = size; encoding = encoding }
+
 -- the form of a type or member
 unfoldable pub form_of : Item → Form
-form_of t = record { primitive = t.second; size = pick t.given t.number 0; encoding = t.encoding }
+form_of t = form t.second (pick t.given t.number 0) t.encoding
 
 -- the form of a built-in
 unfoldable pub built_in : List ℕ → Form
-built_in name = record { primitive = name; size = 0; encoding = [] }
+built_in name = form name 0 []
 
 -- its primitive is char
 unfoldable pub is_char : Form → Bool

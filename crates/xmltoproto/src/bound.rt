@@ -13,19 +13,36 @@ ghost use Rattle.xmltoproto.specs.Bound.{named_most, note_most, typed_most, valu
 use index::seen::{Declaration, Index};
 use model::{COMPOSITE, ENUM, FIELD, GROUP, MEMBER, MESSAGE, REF, VALUE};
 
-/// At least the number of digits of `n`: ten, as for every `u32`.
+/// The most digits of a `u32`.
+const DIGITS: u32 = 10;
+
+/// A line without name, number, type and option: the indent, a space, ` = ` and the end.
+const LINE: usize = 10;
+
+/// The longest option, ` [(sbe.encoding) = "uint16"]`. One with a length is no longer but for the
+/// length's digits.
+const OPTION: usize = 28;
+
+/// The longest option of a built-in, whose length has one digit.
+const BUILT_IN_OPTION: usize = OPTION + 1;
+
+/// A comment without its encoding, in a group.
+const NOTE: usize = 81;
+
+/// At least the number of digits of `n`, at no cost: those of the longest `u32`, so that only the
+/// proof needs `n`.
 fn digits_most(n: u32) -> u32
     ensures { (length (decimal n) ≤ result) × (result ≤ 10) }
 {
-    10
+    DIGITS
 }
 
 /// The most bytes of a line with a name of `n` bytes, a number of `digits` and a type name of
-/// `word` bytes. 10 is the indent, the space, ` = ` and the end; snake case at most doubles a name.
+/// `word` bytes. Snake case at most doubles a name.
 fn named_most(n: u32, digits: u32, word: u32) -> usize
     ensures { result ≡ named_most n digits word }
 {
-    10 + 2 * (n as usize) + digits as usize + word as usize
+    LINE + 2 * (n as usize) + digits as usize + word as usize
 }
 
 /// The most bytes of the comment on an encoding of `e` bytes, each of them six at most when quoted;
@@ -33,7 +50,7 @@ fn named_most(n: u32, digits: u32, word: u32) -> usize
 fn note_most(e: u32) -> usize
     ensures { (result ≡ note_most e) × (result < 2 ^ 36) }
 {
-    if e == 0 { 0 } else { 81 + 6 * (e as usize) }
+    if e == 0 { 0 } else { NOTE + 6 * (e as usize) }
 }
 
 /// The most bytes of the line of the type or member at `t`, under a name of `n` bytes and a number
@@ -43,7 +60,7 @@ fn typed_most(s: &Index<'_>, n: u32, digits: u32, t: u32) -> usize
 {
     let line = named_most(n, digits, s.second_most(t));
     let size = digits_most(s.size(t));
-    line + 28 + size as usize + note_most(s.encoding_most(t))
+    line + OPTION + size as usize + note_most(s.encoding_most(t))
 }
 
 /// The most bytes of the line of the field at `i`. It requires what `Index::field_declared`
@@ -58,7 +75,7 @@ fn field_most(s: &Index<'_>, i: u32) -> usize
         Some(Declaration::Named) => named_most(n, digits, s.second_most(i)),
         Some(Declaration::Typed(t)) => typed_most(s, n, digits, t),
         // A built-in may need an option.
-        None => named_most(n, digits, s.second_most(i)) + 29,
+        None => named_most(n, digits, s.second_most(i)) + BUILT_IN_OPTION,
     }
 }
 
@@ -78,8 +95,8 @@ fn item_most(s: &Index<'_>, i: u32) -> usize
 {
     let kind = s.kind(i);
     match kind {
-        MEMBER => typed_most(s, s.name_most(i), 10, i),
-        REF => named_most(s.name_most(i), 10, s.second_most(i)),
+        MEMBER => typed_most(s, s.name_most(i), DIGITS, i),
+        REF => named_most(s.name_most(i), DIGITS, s.second_most(i)),
         COMPOSITE => 14 + s.name_most(i) as usize,
         ENUM => 11 + s.name_most(i) as usize,
         VALUE => value_most(s, i),

@@ -10,8 +10,7 @@ ghost use Rattle.xmltoproto.specs.Composites.{is_printed};
 ghost use Rattle.xmltoproto.specs.Source.{member_text, ref_text, part_texts, composite_text};
 ghost use Rattle.xmltoproto.specs.Parts.{Members};
 
-use crate::line::write_line;
-use crate::typed::write_typed;
+use crate::line::{write_line, write_typed};
 use crate::types::Shape;
 use crate::walk::ItemText;
 use index::seen::Index;

@@ -18,11 +18,10 @@ mod enums;
 mod line;
 mod messages;
 pub mod source;
-mod typed;
 pub mod types;
 mod walk;
 
-ghost use Rattle.std.specs.Prelude.{◌≡◌, ◌≤◌, leb, length, replicate};
+ghost use Rattle.std.specs.Prelude.{◌≡◌, ◌<◌, ◌^◌, leb, length, replicate};
 ghost use Rattle.printing.specs.Printed.{Printed, past};
 ghost use Rattle.index.specs.Blank.{Blank};
 ghost use Rattle.xmltoproto.specs.Source.{source};
@@ -33,7 +32,9 @@ use crate::arrays::array_refusal;
 use crate::bound::source_most;
 use crate::source::write_source;
 use index::seen::Index;
-use index::{FEW, FEW_SIZE, LEAST, LEAST_SIZE, MOST, SIZE, SOME, SOME_SIZE};
+use index::{
+    ITEMS_16, ITEMS_128, ITEMS_384, ITEMS_1024, LINKS_16, LINKS_128, LINKS_384, LINKS_1024,
+};
 use model::view::View;
 use printing::Output;
 use refusals::Refusal;
@@ -54,7 +55,7 @@ fn print_source(s: &Index<'_>, out: &mut [u8]) -> usize
 fn has_room(s: &Index<'_>, room: usize) -> bool
     ensures { result ≡ leb (past 0 (source s.now)) room }
 {
-    if s.count() <= MOST {
+    if s.count() <= ITEMS_1024 {
         if source_most(s) <= room {
             return true;
         }
@@ -76,7 +77,7 @@ fn generate_in(s: &Index<'_>, out: &mut [u8]) -> Result<usize, Refusal>
 
 /// `generate` with an index of `N` numbers.
 fn generate_with<const N: usize>(schema: View<'_>, out: &mut [u8]) -> Result<usize, Refusal>
-    requires { Blank schema (replicate N 0) × (N ≤ 13312) }
+    requires { Blank schema (replicate N 0) × (N < 2 ^ 32) }
     ensures { Generated schema.entry out.old out.new result }
 {
     let mut links = [0u16; N];
@@ -91,16 +92,16 @@ pub fn generate(schema: View<'_>, out: &mut [u8]) -> Result<usize, Refusal>
 {
     // The index's array is zeroed whole, so a small schema gets a small one.
     let n = schema.count();
-    if n <= LEAST {
-        return generate_with::<LEAST_SIZE>(schema, out);
+    if n <= ITEMS_16 {
+        return generate_with::<LINKS_16>(schema, out);
     }
-    if n <= FEW {
-        return generate_with::<FEW_SIZE>(schema, out);
+    if n <= ITEMS_128 {
+        return generate_with::<LINKS_128>(schema, out);
     }
-    if n <= SOME {
-        return generate_with::<SOME_SIZE>(schema, out);
+    if n <= ITEMS_384 {
+        return generate_with::<LINKS_384>(schema, out);
     }
-    generate_with::<SIZE>(schema, out)
+    generate_with::<LINKS_1024>(schema, out)
 }
 
 /// Converts a document and returns the length of its source in `output`, or a refusal that leaves

@@ -1,4 +1,4 @@
-//! Prints one line of a message: its comment, type, name, number and option.
+//! Prints one line of a message or composite: its comment, type, name, number and option.
 #![tactic(auto, using(printing::proofs::Writing::writing))]
 
 ghost use Rattle.std.specs.Prelude.{◌++◌, ◌<◌};
@@ -7,14 +7,16 @@ ghost use Rattle.texts.specs.Text.{ascii};
 ghost use Rattle.printing.specs.Decimal.{decimal};
 ghost use Rattle.printing.specs.Written.{Wrote};
 ghost use Rattle.conversions.specs.Conversions.{camel_to_snake};
-ghost use Rattle.xmltoproto.specs.Types.{note_on};
+ghost use Rattle.model.specs.Schema.{item_at};
+ghost use Rattle.xmltoproto.specs.Types.{note_on, form_of, proto_of};
 ghost use Rattle.xmltoproto.specs.Parts.{indent_of};
 ghost use Rattle.xmltoproto.specs.Source.{note_line, bracketed, line};
 ghost use Rattle.xmltoproto.specs.Shapes.{note_in, word_in, option_in, proto_in, length_option, encoding_option};
 
-use crate::types::Shape;
+use crate::types::{Shape, shape_of};
 use conversions::convert::write_snake;
 use escaping::write_quoted;
+use index::seen::Index;
 use printing::Output;
 
 /// Writes the indent of a line: in a group if `deep`, otherwise in a message.
@@ -195,4 +197,22 @@ pub fn write_line(
     write_note(out, deep, shape, encoding);
     write_middle(out, deep, shape, primitive, name, number);
     write_end(out, shape, primitive);
+}
+
+/// Writes the line of the type or member at `i`, under the given name and number.
+#[inline(always)]
+pub fn write_typed(
+    out: &mut Output<'_>,
+    s: &Index<'_>,
+    deep: bool,
+    i: u32,
+    name: &[u8],
+    number: u32,
+)
+    ensures { Wrote out.old out.new (line (indent_of deep) (proto_of (form_of (item_at s.now i))) (camel_to_snake name.now) number) }
+{
+    let primitive = s.second(i);
+    let encoding = s.encoding(i);
+    let shape = shape_of(primitive, s.size(i), encoding);
+    write_line(out, deep, shape, primitive, encoding, name, number);
 }

@@ -10,12 +10,11 @@ ghost use Rattle.xmltoproto.specs.Types.{built_ins, built_in, as_named, proto_of
 ghost use Rattle.xmltoproto.specs.Source.{line, field_text, group_text, message_text};
 ghost use Rattle.xmltoproto.specs.Parts.{indent_of, group_head};
 
-use crate::line::write_line;
-use crate::typed::write_typed;
+use crate::line::{write_line, write_typed};
 use crate::types::{Shape, shape_of};
 use crate::walk::{ItemText, write_under};
 use conversions::convert::{write_singular, write_snake};
-use index::MOST;
+use index::ITEMS_1024;
 use index::seen::{Declaration, Index};
 use model::{FIELD, GROUP};
 use printing::Output;
@@ -56,7 +55,7 @@ fn write_field(out: &mut Output<'_>, s: &Index<'_>, deep: bool, i: u32)
     let name = s.name(i);
     let number = s.number(i);
     if s.kind(i) == FIELD {
-        if s.count() <= MOST {
+        if s.count() <= ITEMS_1024 {
             // By the number: a `Declaration` would be stored and loaded again, and the branch would
             // wait for that (store forwarding).
             let known = s.field_number(i);

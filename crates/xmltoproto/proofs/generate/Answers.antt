@@ -1,15 +1,15 @@
-use Rattle.std.proofs.Common.{arith, rules}
-use Rattle.index.proofs.Building.{blank-least, blank-few, blank-some, blank-all}
+use Rattle.std.proofs.Common.{arith}
+use Rattle.index.proofs.Building.{blank-few, blank}
 use Rattle.xmltoproto.proofs.generate.Goals as goal
 
 pub generate_with-requires : goal.generate_with-requires
-generate_with-requires c = (search (blank-least, rules), omega arith)
+generate_with-requires c = (blank-few c.args.schema 320 (omega arith) (omega arith), omega arith)
 
-pub generate_with-requires-then-n-le-FEW : goal.generate_with-requires-then-n-le-FEW
-generate_with-requires-then-n-le-FEW c = (search (blank-few, rules), omega arith)
+pub generate_with-requires-then-n-le-ITEMS_128 : goal.generate_with-requires-then-n-le-ITEMS_128
+generate_with-requires-then-n-le-ITEMS_128 c = (blank-few c.args.schema 1664 (omega arith) (omega arith), omega arith)
 
-pub generate_with-requires-then-n-le-SOME : goal.generate_with-requires-then-n-le-SOME
-generate_with-requires-then-n-le-SOME c = (search (blank-some, rules), omega arith)
+pub generate_with-requires-then-n-le-ITEMS_384 : goal.generate_with-requires-then-n-le-ITEMS_384
+generate_with-requires-then-n-le-ITEMS_384 c = (blank c.args.schema 5632 (λ _. omega arith), omega arith)
 
 pub generate_with-requires-2 : goal.generate_with-requires-2
-generate_with-requires-2 c = (blank-all _, omega arith)
+generate_with-requires-2 c = (blank c.args.schema 13312 (λ most. omega arith), omega arith)

@@ -1,5 +1,5 @@
 use Rattle.model.proofs.Records.{entry-read}
-use Rattle.model.proofs.view.entry_at.Goals as goal
+use Rattle.model.proofs.view.entry_by_pairs.Goals as goal
 
 pub returns : goal.returns
 returns c =
