@@ -1,6 +1,6 @@
 -- Rules: Names. The six conversions of a name. Those between cases go position by position: what
--- each position of the name gives, one after another. The byte before the first one and the byte
--- after the last one count as 0, which is no letter.
+-- each position of the name gives, one after another. Before the first byte there is none,
+-- which `ltb 0 i` tells; the byte after the last one counts as 0, which is no letter.
 use Rattle.std.specs.Prelude.{Bool, not, List, [], ◌∷◌, ◌++◌, ℕ, ◌+◌, ◌-◌, eqb, ltb, length, get_or, take, drop}
 use Rattle.texts.specs.Choice.{pick, ◌or◌, ◌and◌}
 use Rattle.texts.specs.Text.{ascii, starts_with}

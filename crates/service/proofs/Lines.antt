@@ -1,25 +1,13 @@
 -- Laws of a refusal's line: it is shorter than the program's output.
-use Rattle.std.proofs.Common.{◌≡◌, refl, ap, ◌∙◌, List, [], ◌∷◌, ◌++◌, ℕ, zero, suc, ◌+◌, ◌*◌, ◌/◌, ◌%◌, ◌≤◌, ◌<◌, ◌^◌, arith, ltb, length, take, drop, length-append, take_at, ltb-true, ltb-false, le-ltb, Ok}
+use Rattle.std.proofs.Common.{◌≡◌, refl, ap, ◌∙◌, List, ◌++◌, ℕ, ◌+◌, ◌≤◌, ◌<◌, ◌^◌, arith, length, take, drop, length-append, take_at, le-ltb, Ok}
 use Rattle.std.specs.Result.{result_unwrap_or}
 use Rattle.texts.specs.Text.{ascii, piece}
-use Rattle.texts.proofs.Choosing.{by-test}
 use Rattle.refusals.specs.Figures.{Answer, number_of, offset_of, place_of}
 use Rattle.refusals.specs.declared.Refusal.{Refusal}
 use Rattle.printing.specs.Decimal.{decimal}
 use Rattle.printing.specs.Output.{finished, output_after, Finishes}
-use Rattle.printing.proofs.Decimals.{decimal-one, decimal-more}
+use Rattle.xmltoproto.proofs.Lengths.{digits-most}
 use Rattle.service.specs.Printed.{figures_line, refusal_line}
-
-abbrev tens : ℕ → ℕ
-tens zero = 10
-tens (suc d) = 10 * tens d
-
-digits-most : (d n : ℕ) → n < tens d → length (decimal n) ≤ suc d
-digits-most zero n h = rw (decimal-one n h) (omega arith)
-digits-most (suc d) n h =
-    by-test (ltb n 10)
-    (λ t. rw (decimal-one n (ltb-true n 10 t)) (omega arith))
-    (λ f. rw (decimal-more n (ltb-false n 10 f)) (omega (arith, length-append (decimal (n / 10)) ((48 + n % 10) ∷ []), digits-most d (n / 10) (omega arith))))
 
 -- a number of 64 bits has at most 20 digits
 decimal-most : (n : ℕ) → n < 2 ^ 64 → length (decimal n) ≤ 20

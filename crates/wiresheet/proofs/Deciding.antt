@@ -1,42 +1,23 @@
 -- What two calls of the converter left: the same bytes exactly when the sheets are equal.
-use Rattle.std.proofs.Common.{◌≡◌, refl, sym, ap, ◌∙◌, Bool, List, ◌++◌, Option, None, Some, ℕ, arith, ltb, length, take, drop, take_at, Ok, Err, ◌↔◌, IsTrue}
+use Rattle.std.proofs.Common.{◌≡◌, refl, sym, ap, ◌∙◌, Bool, List, ◌++◌, ℕ, arith, length, take, drop, take_at, Ok, Err, ◌↔◌, IsTrue}
 use Rattle.texts.specs.Text.{piece, same}
-use Rattle.texts.proofs.Choosing.{by-test, pick_yes, pick_no}
 use Rattle.texts.proofs.Comparing.{same-equal, equal-same}
 use Rattle.refusals.specs.Figures.{Answer}
-use Rattle.refusals.specs.declared.Refusal.{Refusal}
-use Rattle.refusals.specs.declared.Refusal.TheVariants.{NoRoom}
-use Rattle.printing.specs.Output.{finished, output_after}
+use Rattle.printing.specs.Output.{output_after}
 use Rattle.model.specs.Schema.{Schema}
 use Rattle.xmlschema.specs.Whole.{Whole, accepted, refused_by, answer_of}
 use Rattle.xmltoproto.specs.Source.{source}
-use Rattle.xmltoproto.specs.Arrays.{array_refusal}
-use Rattle.xmltoproto.specs.Generate.{answer_after, generated}
 use Rattle.xmltoproto.specs.Convert.{converted, source_in, Converts}
+use Rattle.xmltoproto.proofs.Converting.{converted-length}
 use Rattle.wiresheet.specs.SameSource.{SameBytes, SameSource, Decides}
 use Rattle.wiresheet.proofs.Unique.{source-decides, sheet-decides}
 
 -- ---- what a call that printed left
 
-finished-length : (text : List ℕ) (room n : ℕ) → finished text room ≡ Ok n → length text ≡ n
-unfolding finished
-finished-length text room n e =
-    by-test (ltb room (length text))
-    (λ t. absurd (let z : ◌≡◌ {A = ℕ} 0 1 = cc (pick_yes (ltb room (length text)) (Err NoRoom) (Ok (length text)) t) in omega arith))
-    (λ f. let z : length text ≡ n = cc (pick_no (ltb room (length text)) (Err NoRoom) (Ok (length text)) f) in z)
-
-answer-length : (o : Option Refusal) (text : List ℕ) (room n : ℕ) → answer_after o text room ≡ Ok n → length text ≡ n
-answer-length None text room n e = finished-length text room n e
-answer-length (Some q) text room n e = absurd (let z : ◌≡◌ {A = ℕ} 0 1 = cc in omega arith)
-
-generated-length : (s : Schema) (room n : ℕ) → generated s room ≡ Ok n → length (source s) ≡ n
-unfolding generated
-generated-length s room n e = answer-length (array_refusal s) (source s) room n e
-
 module _ (doc : List ℕ) (R B : ℕ) (out out' : List ℕ) {r : Answer} (c : Converts doc R B out out' r) {n : ℕ} (e : r ≡ Ok n) where
   module _ (s : Schema) (is : answer_of doc R B ≡ accepted s) where
     pub source-length : length (source s) ≡ n
-    source-length = generated-length s (length out) n (sym (c.is ∙ ap (λ x. converted x (length out)) is) ∙ e)
+    source-length = converted-length (accepted s) (length out) n (sym (c.is ∙ ap (λ x. converted x (length out)) is) ∙ e)
 
     -- the first n bytes are the source
     pub left-source : take n out' ≡ source s

@@ -59,11 +59,11 @@ singular-most s = omega (arith, capitalized-length (singular s), singular-length
 -- ---- numbers
 
 -- 10 to the power suc d
-abbrev tens : ℕ → ℕ
+abbrev pub tens : ℕ → ℕ
 tens zero = 10
 tens (suc d) = 10 * tens d
 
-digits-most : (d n : ℕ) → n < tens d → length (decimal n) ≤ suc d
+pub digits-most : (d n : ℕ) → n < tens d → length (decimal n) ≤ suc d
 digits-most zero n h = rw (decimal-one n h) (omega arith)
 digits-most (suc d) n h =
     by-test (ltb n 10)
