@@ -11,7 +11,7 @@ use crate::state::{Limits, Place, State};
 use model::word;
 use tags::tag::{Noted, Notes, noted_of};
 use texts::{equal, part};
-use words::same_name;
+use swar::same_name;
 
 /// The document, and the two buffers for what is read of it: items and open names, and texts.
 #[derive(Drop)]

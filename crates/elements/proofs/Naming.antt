@@ -3,9 +3,9 @@ use Rattle.std.proofs.Common.{◌≡◌, refl, sym, ap, ◌∙◌, Bool, true, f
 use Rattle.texts.specs.Text.{ascii, piece, same, starts_with}
 use Rattle.texts.proofs.Choosing.{by-test}
 use Rattle.texts.proofs.Comparing.{same-lengths, same-equal, starts-yes}
-use Rattle.words.specs.Word.{word_of}
-use Rattle.words.specs.Standing.{ShortText, LongText, StandsShort, StandsLong}
-use Rattle.words.proofs.Digits.{front-is}
+use Rattle.swar.specs.Word.{word_of}
+use Rattle.swar.specs.Standing.{ShortText, LongText, StandsShort, StandsLong}
+use Rattle.swar.proofs.Digits.{front-is}
 use Rattle.elements.specs.Elements.{element_of, other_element_of}
 use Rattle.elements.specs.declared.Element.{Element}
 use Rattle.elements.specs.declared.Element.TheVariants.{MessageSchema, «Type», Ref, Composite, Enum, ValidValue, Message, Group, Field, Other}

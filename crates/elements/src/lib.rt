@@ -10,7 +10,7 @@ ghost use Rattle.texts.specs.Text.{piece};
 ghost use Rattle.elements.specs.Elements.{element_of, other_element_of};
 
 use texts::{equal, part};
-use words::{stands_long, stands_short};
+use swar::{stands_long, stands_short};
 
 /// An element that the builder knows; `Other` is every other.
 #[derive(Clone, Copy)]

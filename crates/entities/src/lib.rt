@@ -15,7 +15,7 @@ ghost use Rattle.texts.specs.Text.{piece};
 ghost use Rattle.entities.specs.Entities.{front, decoded, DecodedInto};
 ghost use Rattle.entities.specs.Copying.{PlainTo, RestInto};
 
-use words::{both_lack, copy_few, lacks};
+use swar::{both_lack, copy_few, lacks};
 
 /// What stands at a position of a text: the byte that it decodes to, and how many raw bytes it
 /// takes.

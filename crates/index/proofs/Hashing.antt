@@ -4,7 +4,7 @@ use lib.Bits.{bit_and, bit_xor, and_le_l, and_le_r}
 use Rattle.texts.specs.Text.{piece}
 use Rattle.model.specs.Schema.{Schema}
 use Rattle.model.proofs.Records.{by_less}
-use Rattle.words.specs.Word.{IsWord, IsHalf}
+use Rattle.swar.specs.Word.{IsWord, IsHalf}
 use Rattle.index.specs.Blank.{per_item, mask_of}
 use Rattle.index.specs.Index.{short_word, mix, words_from, long_word, narrowed, hash, HashOf, place, HeadOf}
 

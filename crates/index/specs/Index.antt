@@ -8,7 +8,7 @@ use Rattle.std.specs.Prelude.{Option, Some, None, ◌≡◌, Bool, true, false, 
 use Rattle.std.specs.Int.Bits.{bit_and, bit_xor}
 use Rattle.texts.specs.Choice.{pick, ◌and◌}
 use Rattle.texts.specs.Text.{piece, same}
-use Rattle.words.specs.Word.{word_of}
+use Rattle.swar.specs.Word.{word_of}
 use Rattle.model.specs.Schema.{Item, Schema, item_at, positions_from, last, next_under, a_type, a_field}
 use Rattle.ordered.specs.Numbered.{declares}
 use Rattle.index.specs.Blank.{kinds, per_item, mask_of}

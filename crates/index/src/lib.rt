@@ -19,7 +19,7 @@ ghost use Rattle.index.specs.Index.{kept_by, fronted, short_word, mix, long_word
 use crate::filling::Few;
 use model::view::View;
 use model::{FIELD, TYPE};
-use words::{half_at, same_name, word_at};
+use swar::{half_at, same_name, word_at};
 
 // The array has `EACH` numbers for each item, then the head of each hash chain. A position is
 // stored plus 1; 0 is none.

@@ -1,2 +1,6 @@
--- Laws of the entries.
+-- Laws of the conversions and of the entries.
+pub mod Letters
+pub mod Storing
+pub mod Singular
+pub mod Cutting
 pub mod Entering

@@ -1,8 +1,8 @@
 -- Rules: Names. The conversion that each case of `Case` stands for.
 use Rattle.std.specs.Prelude.{List, ℕ}
-use Rattle.conversions.specs.Conversions.{camel_to_snake, snake_to_camel, camel_to_screaming_snake, screaming_snake_to_pascal, singular_pascal}
-use Rattle.names.specs.declared.Case.{Case}
-use Rattle.names.specs.declared.Case.TheVariants.{Snake, Camel, Screaming, Pascal, Singular}
+use Rattle.names.specs.Conversions.{camel_to_snake, snake_to_camel, camel_to_screaming_snake, screaming_snake_to_pascal, singular_pascal}
+use Rattle.names.specs.declared.entry.Case.{Case}
+use Rattle.names.specs.declared.entry.Case.TheVariants.{Snake, Camel, Screaming, Pascal, Singular}
 
 -- the name, converted
 unfoldable pub converted : Case → List ℕ → List ℕ

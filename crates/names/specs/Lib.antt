@@ -1,3 +1,8 @@
--- What the entries of the six name conversions answer, and the conversion of each.
+-- Rules: Names. The six conversions of a name, and what an entry for one answers.
+pub mod Letters
+pub mod Conversions
+pub mod Rules
+pub mod Prefix
+pub mod Room
 pub mod Entry
 pub mod Converted

@@ -2,7 +2,7 @@
 use Rattle.std.proofs.Common.{◌≡◌, refl, sym, ap, ◌∙◌, List, [], ◌∷◌, ◌++◌, ℕ, zero, suc, ◌+◌, ◌-◌, ◌≤◌, ◌<◌, min, add-one, arith, length, get_or, set, take, drop, length-drop, take-append-drop, set-set, take-suc, take-add, take_all, length-take-le, eq-eqb, ne_eqb}
 use lib.Seq.{sets, set_out, set_comm}
 use Rattle.texts.specs.Text.{piece}
-use Rattle.words.proofs.Copying.{sets-append}
+use Rattle.swar.proofs.Copying.{sets-append}
 use Rattle.printing.specs.Printed.{last, next, past, skipped, laid, Printed}
 use Rattle.printing.proofs.Sequencing.{blank, ◌▸◌, length-printed}
 

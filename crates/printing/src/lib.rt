@@ -19,7 +19,7 @@ ghost use Rattle.printing.specs.Output.{Finishes};
 ghost use Rattle.printing.specs.Written.{Wrote, opened, moved};
 
 use refusals::Refusal;
-use words::copy_few;
+use swar::copy_few;
 
 /// Where positions saturate: 2^63, longer than any slice.
 const LAST: usize = 0x8000_0000_0000_0000;

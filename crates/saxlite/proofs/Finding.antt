@@ -7,11 +7,11 @@ use Rattle.texts.proofs.Choosing.{by-test}
 use Rattle.texts.proofs.Comparing.{starts-yes, starts-no, starts-append}
 use Rattle.texts.proofs.Scanning.{Scanning, scan-start, byte-on, byte-stop, count_yes, count_no}
 use lib.Pow.{are_bytes}
-use Rattle.words.specs.Word.{word_of, IsHalf}
-use Rattle.words.proofs.Digits.{word-tells, bytes-are, front-is}
-use Rattle.words.specs.Standing.{ShortText, StandsShort, Lacks}
-use Rattle.words.proofs.Standing.{power-some}
-use Rattle.words.proofs.Pairing.{lacks-start}
+use Rattle.swar.specs.Word.{word_of, IsHalf}
+use Rattle.swar.proofs.Digits.{word-tells, bytes-are, front-is}
+use Rattle.swar.specs.Standing.{ShortText, StandsShort, Lacks}
+use Rattle.swar.proofs.Standing.{power-some}
+use Rattle.swar.proofs.Pairing.{lacks-start}
 use Rattle.tags.specs.Find.{find_in, find_from}
 use Rattle.tags.proofs.Searching.{byte-stands, find-here, find-next, find_none, search-start, search-on, found_from, found_inside, found-past}
 use Rattle.saxlite.specs.Passing.{Stands, FoundAt, FirstAt, EndsAt}

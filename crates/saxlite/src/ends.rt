@@ -7,11 +7,11 @@
 
 ghost use Rattle.std.specs.Prelude.{◌≡◌, List, [], ◌∷◌, ℕ, ◌+◌, ◌%◌, ◌≤◌, ◌<◌, length};
 ghost use Rattle.texts.specs.Text.{ascii};
-ghost use Rattle.words.specs.Standing.{ShortText};
+ghost use Rattle.swar.specs.Standing.{ShortText};
 ghost use Rattle.saxlite.specs.Passing.{Stands, FoundAt, FirstAt, EndsAt};
 
 use tags::scan::find;
-use words::{byte_from, stands_short, text_from};
+use swar::{byte_from, stands_short, text_from};
 
 /// Where `needle` first stands from `from` on, or the document's length.
 fn found(doc: &[u8], from: usize, needle: &[u8]) -> usize
@@ -22,7 +22,7 @@ fn found(doc: &[u8], from: usize, needle: &[u8]) -> usize
 }
 
 /// The same, eight positions at once; `modulus` and `front` are the needle as an integer, as in
-/// `words::stands_short`.
+/// `swar::stands_short`.
 fn found_far<const N: usize>(
     doc: &[u8],
     from: usize,

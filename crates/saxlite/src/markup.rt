@@ -14,7 +14,7 @@ use tags::beginning::{begin_at, closing_at};
 use tags::part::Ending;
 use tags::scan::{prefix_len, skip_space, tag_name_end};
 use tags::tag::tag_noting;
-use words::byte_from;
+use swar::byte_from;
 
 /// The text at `at`, up to the next '<' or the document's end.
 fn read_text(doc: &[u8], at: usize) -> Result<Read, Refusal>

@@ -13,7 +13,7 @@ use crate::ends::{
     instruction_end, pair_stands,
 };
 use refusals::Refusal;
-use words::half_at;
+use swar::half_at;
 
 /// Whether a comment begins at `i`. Only four bytes are loaded: out of eight, the compiler would
 /// also take the bytes that are compared next.

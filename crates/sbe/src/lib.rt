@@ -7,7 +7,7 @@
 #![tactic(auto, using(crate::proofs::Reporting::laws))]
 
 ghost use Rattle.std.specs.Prelude.{◌≡◌, length};
-ghost use Rattle.conversions.specs.Conversions.{camel_to_snake, snake_to_camel, camel_to_screaming_snake, screaming_snake_to_pascal, strip_enum_prefix, singular_pascal};
+ghost use Rattle.names.specs.Conversions.{camel_to_snake, snake_to_camel, camel_to_screaming_snake, screaming_snake_to_pascal, strip_enum_prefix, singular_pascal};
 ghost use Rattle.names.specs.Entry.{tested, tested_two};
 ghost use Rattle.xmlschema.specs.Whole.{answer_of};
 ghost use Rattle.sbe.specs.Report.{Reports, NameReports, ConversionReports};
@@ -56,7 +56,7 @@ pub extern "C" fn sbe_xml_to_proto(
     report(converted, offset, place, n)
 }
 
-/// `names::camel_to_snake` for C.
+/// `names::entry::camel_to_snake` for C.
 #[unsafe(no_mangle)]
 pub extern "C" fn sbe_camel_to_snake(
     name: &[u8],
@@ -67,11 +67,11 @@ pub extern "C" fn sbe_camel_to_snake(
 ) -> u32
     ensures { NameReports (tested name.now) (camel_to_snake name.now) output.old output.new result offset.new place.new n.new }
 {
-    let answer = names::camel_to_snake(name, output);
+    let answer = names::entry::camel_to_snake(name, output);
     report(answer, offset, place, n)
 }
 
-/// `names::snake_to_camel` for C.
+/// `names::entry::snake_to_camel` for C.
 #[unsafe(no_mangle)]
 pub extern "C" fn sbe_snake_to_camel(
     name: &[u8],
@@ -82,11 +82,11 @@ pub extern "C" fn sbe_snake_to_camel(
 ) -> u32
     ensures { NameReports (tested name.now) (snake_to_camel name.now) output.old output.new result offset.new place.new n.new }
 {
-    let answer = names::snake_to_camel(name, output);
+    let answer = names::entry::snake_to_camel(name, output);
     report(answer, offset, place, n)
 }
 
-/// `names::camel_to_screaming_snake` for C.
+/// `names::entry::camel_to_screaming_snake` for C.
 #[unsafe(no_mangle)]
 pub extern "C" fn sbe_camel_to_screaming_snake(
     name: &[u8],
@@ -97,11 +97,11 @@ pub extern "C" fn sbe_camel_to_screaming_snake(
 ) -> u32
     ensures { NameReports (tested name.now) (camel_to_screaming_snake name.now) output.old output.new result offset.new place.new n.new }
 {
-    let answer = names::camel_to_screaming_snake(name, output);
+    let answer = names::entry::camel_to_screaming_snake(name, output);
     report(answer, offset, place, n)
 }
 
-/// `names::screaming_snake_to_pascal` for C.
+/// `names::entry::screaming_snake_to_pascal` for C.
 #[unsafe(no_mangle)]
 pub extern "C" fn sbe_screaming_snake_to_pascal(
     name: &[u8],
@@ -112,11 +112,11 @@ pub extern "C" fn sbe_screaming_snake_to_pascal(
 ) -> u32
     ensures { NameReports (tested name.now) (screaming_snake_to_pascal name.now) output.old output.new result offset.new place.new n.new }
 {
-    let answer = names::screaming_snake_to_pascal(name, output);
+    let answer = names::entry::screaming_snake_to_pascal(name, output);
     report(answer, offset, place, n)
 }
 
-/// `names::singular_pascal` for C.
+/// `names::entry::singular_pascal` for C.
 #[unsafe(no_mangle)]
 pub extern "C" fn sbe_singular_pascal(
     name: &[u8],
@@ -127,11 +127,11 @@ pub extern "C" fn sbe_singular_pascal(
 ) -> u32
     ensures { NameReports (tested name.now) (singular_pascal name.now) output.old output.new result offset.new place.new n.new }
 {
-    let answer = names::singular_pascal(name, output);
+    let answer = names::entry::singular_pascal(name, output);
     report(answer, offset, place, n)
 }
 
-/// `names::strip_enum_prefix` for C.
+/// `names::entry::strip_enum_prefix` for C.
 #[unsafe(no_mangle)]
 pub extern "C" fn sbe_strip_enum_prefix(
     value: &[u8],
@@ -143,6 +143,6 @@ pub extern "C" fn sbe_strip_enum_prefix(
 ) -> u32
     ensures { NameReports (tested_two value.now enum_name.now) (strip_enum_prefix value.now enum_name.now) output.old output.new result offset.new place.new n.new }
 {
-    let answer = names::strip_enum_prefix(value, enum_name, output);
+    let answer = names::entry::strip_enum_prefix(value, enum_name, output);
     report(answer, offset, place, n)
 }

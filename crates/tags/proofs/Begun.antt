@@ -7,8 +7,8 @@ use Rattle.texts.specs.Scan.{count_while, scan, until}
 use Rattle.texts.proofs.Choosing.{is_true, and_left, and_right}
 use Rattle.texts.proofs.Scanning.{count_no, scan-from}
 use Rattle.classes.specs.Class.{is_space, is_tag_name_end}
-use Rattle.words.specs.Standing.{StandsShort, StandsLong}
-use Rattle.words.proofs.Standing.{power-some}
+use Rattle.swar.specs.Standing.{StandsShort, StandsLong}
+use Rattle.swar.proofs.Standing.{power-some}
 use Rattle.tags.specs.declared.beginning.Opening.{Opening}
 use Rattle.tags.specs.declared.beginning.Beginning.{Beginning}
 use Rattle.tags.specs.declared.tag.TagKind.{TagKind}

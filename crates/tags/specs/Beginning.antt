@@ -3,7 +3,7 @@ use Rattle.std.specs.Prelude.{◌≡◌, true, List, [], ◌∷◌, ◌++◌, �
 use Rattle.texts.specs.Text.{ascii, piece, starts_with}
 use Rattle.texts.specs.Scan.{scan, until}
 use Rattle.classes.specs.Class.{is_tag_name_end}
-use Rattle.words.specs.Standing.{ShortText, LongText}
+use Rattle.swar.specs.Standing.{ShortText, LongText}
 use Rattle.tags.specs.declared.beginning.Opening.{Opening}
 use Rattle.tags.specs.declared.beginning.Beginning.{Beginning}
 use Rattle.tags.specs.declared.tag.TagKind.{TagKind}

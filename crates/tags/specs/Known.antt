@@ -3,7 +3,7 @@ use Rattle.std.specs.Prelude.{◌≡◌, Bool, true, false, List, [], ◌∷◌,
 use Rattle.texts.specs.Choice.{pick, ◌and◌}
 use Rattle.texts.specs.Text.{ascii, piece, same, starts_with}
 use Rattle.refusals.specs.declared.Refusal.{Refusal}
-use Rattle.words.specs.Standing.{ShortText, LongText}
+use Rattle.swar.specs.Standing.{ShortText, LongText}
 use Rattle.tags.specs.declared.known.Known.{Known}
 use Rattle.tags.specs.declared.known.Codes.{Codes}
 use Rattle.tags.specs.declared.part.TagPart.{TagPart}

@@ -3,7 +3,7 @@
 //! comparing one or two words of eight bytes finds it. Any other raw name is scanned.
 //!
 //! As in `known`, a text to compare is given by integers, and callers test for sixteen bytes.
-#![tactic(auto, unfolding(words::specs::Word::word_of, crate::specs::Noting::keys_of, crate::specs::Names::prefix_length, texts::specs::Text::same), using(crate::proofs::Laws::beginning))]
+#![tactic(auto, unfolding(swar::specs::Word::word_of, crate::specs::Noting::keys_of, crate::specs::Names::prefix_length, texts::specs::Text::same), using(crate::proofs::Laws::beginning))]
 
 ghost use Rattle.std.specs.Prelude.{◌≡◌, ◌+◌, ◌≤◌, length};
 ghost use Rattle.tags.specs.Beginning.{tagged_text, KnownBeginning, KnownShort, KnownLong, BeginsAt};
@@ -11,7 +11,7 @@ ghost use Rattle.tags.specs.Beginning.{tagged_text, KnownBeginning, KnownShort, 
 use crate::scan::raw_name;
 use crate::tag::TagKind::{Enum, Other, Schema, Type};
 use crate::tag::{TagKind, kind_of};
-use words::{stands_long, stands_short};
+use swar::{stands_long, stands_short};
 
 /// A known beginning: the code of its raw name (specs/Beginning.antt; a number, as in `known`),
 /// which names matter there, and the lengths of the raw name and of its prefix.

@@ -6,13 +6,13 @@
 //! `back` those behind them, and `modulus` is 256 to the number of bytes in the last of the two.
 //! They are parameters, not a struct: constants at each call. The caller tests once, for all names,
 //! that sixteen bytes are there.
-#![tactic(auto, unfolding(words::specs::Word::word_of), using(crate::proofs::Laws::telling))]
+#![tactic(auto, unfolding(swar::specs::Word::word_of), using(crate::proofs::Laws::telling))]
 
 ghost use Rattle.std.specs.Prelude.{◌≡◌, ◌+◌, ◌≤◌, length};
 ghost use Rattle.tags.specs.Known.{KnownAt, keys_by, CodesOf, Apart, ToldShort, ToldLong, ToldText};
 
 use crate::tag::TagKind;
-use words::{stands_long, stands_short};
+use swar::{stands_long, stands_short};
 
 /// A known attribute: the code of its name (specs/Known.antt), and how far its value is from the
 /// space before the name, which is the name's length and 3: one addition finds the value. The code

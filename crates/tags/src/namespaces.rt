@@ -7,7 +7,7 @@ ghost use Rattle.tags.specs.Attributes.{quoted_at, value_at};
 ghost use Rattle.tags.specs.Dropping.{Unchanged, next_of};
 
 use crate::scan::{attribute_name_end, is_xmlns_at, skip_space};
-use words::byte_from;
+use swar::byte_from;
 
 /// The position past the value that starts at `from`, behind the next `quote`; `at` if there is
 /// none. An empty value and one of a single byte need no search.

@@ -8,7 +8,7 @@ ghost use Rattle.tags.specs.Known.{QuickAt};
 use crate::known::known_at;
 use crate::scan::{attribute_name_end, skip_space};
 use refusals::Refusal;
-use words::byte_from;
+use swar::byte_from;
 
 /// One part of a tag: an attribute, with the ranges of its raw name and raw value and the position
 /// behind it, or the tag's end. Neither is an error: a refusal is the `Err` around it.

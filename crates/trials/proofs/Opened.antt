@@ -7,8 +7,8 @@ use Rattle.classes.specs.Class.{is_upper, is_lower, is_space, is_tag_name_end, i
 use Rattle.printing.specs.Decimal.{decimal, digits}
 use Rattle.printing.specs.Repeated.{up_to}
 use Rattle.printing.specs.Output.{finished}
-use Rattle.conversions.specs.Letters.{lowered, raised}
-use Rattle.conversions.specs.Conversions.{camel_to_snake, snake_at, breaks_snake, camel_to_screaming_snake, screaming_at, breaks_screaming, ends_in_ies, ends_in_s, singular, capitalized, singular_pascal}
+use Rattle.names.specs.Letters.{lowered, raised}
+use Rattle.names.specs.Conversions.{camel_to_snake, snake_at, breaks_snake, camel_to_screaming_snake, screaming_at, breaks_screaming, ends_in_ies, ends_in_s, singular, capitalized, singular_pascal}
 use Rattle.entities.specs.Entities.{front, decoded_past}
 use Rattle.tags.specs.Find.{find_in}
 use Rattle.tags.specs.Names.{prefix_length, is_xmlns}

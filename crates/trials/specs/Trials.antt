@@ -4,7 +4,7 @@ use Prim.Native.String.{String}
 use Rattle.std.specs.Prelude.{◌≡◌, [], ℕ, ◌≤◌, None, Some}
 use Rattle.texts.specs.Text.{ascii}
 use Rattle.refusals.specs.Figures.{Answer, number_in, offset_in, place_in, written_in}
-use Rattle.conversions.specs.Conversions.{camel_to_snake, camel_to_screaming_snake, singular_pascal}
+use Rattle.names.specs.Conversions.{camel_to_snake, camel_to_screaming_snake, singular_pascal}
 use Rattle.numbers.specs.Numbers.{number_of}
 use Rattle.model.specs.Schema.{Schema}
 use Rattle.xmlschema.specs.Whole.{accepted, answer_of}

@@ -3,7 +3,7 @@ use Rattle.std.proofs.Common.{◌≡◌, refl, ap, List, [], ◌∷◌, ◌++◌
 use mathlib.Core.List.{head-eq_of_cons-eq}
 use Rattle.texts.specs.Text.{ascii, same}
 use Rattle.texts.specs.Lists.{each, numbered, all, Every, among}
-use Rattle.conversions.specs.Conversions.{prefix_of}
+use Rattle.names.specs.Conversions.{prefix_of}
 use Rattle.numbers.specs.Numbers.{is_digit}
 use Rattle.xmltoproto.specs.Source.{package_line}
 use Rattle.wiresheet.specs.Sheet.{Value, Enum, Part, Composite, Field, Group, Message, Sheet}

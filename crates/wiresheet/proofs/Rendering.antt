@@ -5,7 +5,7 @@ use Rattle.texts.specs.Text.{ascii}
 use Rattle.texts.specs.Lists.{each, numbered}
 use Rattle.texts.proofs.Choosing.{by-test}
 use Rattle.printing.specs.Decimal.{decimal}
-use Rattle.conversions.specs.Conversions.{prefix_of}
+use Rattle.names.specs.Conversions.{prefix_of}
 use Rattle.charsets.specs.Charset.{compatible}
 use Rattle.model.specs.Schema.{Item, Schema, item_at, all_of, under, a_member, a_ref, an_enum, a_value, a_message, a_group, a_field}
 use Rattle.xmltoproto.specs.Types.{Form, form_of, is_char, is_raw, Proto, as_named, of_length, note_on, as_primitive, proto_of, Meaning, declared, typed, unknown, meaning, proto_by}

@@ -5,7 +5,7 @@ use Rattle.texts.specs.Lists.{each}
 use Rattle.printing.specs.Decimal.{decimal}
 use Rattle.printing.specs.Written.{Wrote}
 use Rattle.printing.specs.declared.Output.{Output}
-use Rattle.conversions.specs.Conversions.{camel_to_snake, camel_to_screaming_snake, singular_pascal}
+use Rattle.names.specs.Conversions.{camel_to_snake, camel_to_screaming_snake, singular_pascal}
 use Rattle.charsets.specs.Charset.{compatible}
 use Rattle.model.specs.Schema.{Item, Schema, item_at, all_of, under, a_member, a_ref, an_enum, a_value, a_message, a_group, a_field}
 use Rattle.xmltoproto.specs.Types.{Form, form, form_of, built_in, chars, is_char, is_byte, is_raw, Meaning, meaning}

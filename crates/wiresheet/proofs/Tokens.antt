@@ -7,8 +7,8 @@ use Rattle.texts.specs.Lists.{is_empty, all}
 use Rattle.texts.proofs.Choosing.{by-test, and_left, and_right}
 use Rattle.classes.specs.Class.{is_upper, is_lower}
 use Rattle.printing.specs.Repeated.{up_to}
-use Rattle.conversions.specs.Letters.{lowered, raised}
-use Rattle.conversions.specs.Conversions.{camel_to_snake, snake_at, breaks_snake, camel_to_screaming_snake, screaming_at, breaks_screaming, ends_in_ies, ends_in_s, singular, capitalized, singular_pascal}
+use Rattle.names.specs.Letters.{lowered, raised}
+use Rattle.names.specs.Conversions.{camel_to_snake, snake_at, breaks_snake, camel_to_screaming_snake, screaming_at, breaks_screaming, ends_in_ies, ends_in_s, singular, capitalized, singular_pascal}
 use Rattle.numbers.specs.Numbers.{is_digit}
 use Rattle.wiresheet.specs.Plain.{is_letter, is_name_byte, is_identifier, is_dotted, is_package, is_digits, is_integer}
 use Rattle.wiresheet.proofs.Numbers.{and_both, all_append}

@@ -2,7 +2,7 @@
 use Rattle.std.specs.Prelude.{List, [], ◌∷◌, ℕ}
 use Rattle.texts.specs.Text.{ascii}
 use Rattle.printing.specs.Decimal.{decimal}
-use Rattle.conversions.specs.Conversions.{camel_to_snake, singular_pascal}
+use Rattle.names.specs.Conversions.{camel_to_snake, singular_pascal}
 use Rattle.model.specs.Schema.{Schema, item_at}
 use Rattle.wiresheet.specs.Sheet.{Value, Part, shown, kind_shown}
 

@@ -12,7 +12,7 @@ ghost use Rattle.wiresheet.specs.Sheet.{named, kind_of, kind_by, value_of, enum_
 ghost use Rattle.wiresheet.specs.SheetLines.{value_shown, part_shown, group_line, schema_line};
 
 use charsets::is_compatible;
-use conversions::convert::{write_screaming, write_singular, write_snake};
+use names::convert::{write_screaming, write_singular, write_snake};
 use index::seen::declaration_in;
 use model::view::View;
 use model::{COMPOSITE, ENUM, FIELD, GROUP, MEMBER, MESSAGE, REF, VALUE};

@@ -7,9 +7,9 @@ use Rattle.texts.proofs.Choosing.{by-test}
 use Rattle.printing.specs.Decimal.{decimal}
 use Rattle.printing.specs.Repeated.{up_to}
 use Rattle.printing.proofs.Decimals.{decimal-one, decimal-more}
-use Rattle.conversions.specs.Letters.{lowered, raised}
-use Rattle.conversions.specs.Conversions.{breaks_snake, snake_at, camel_to_snake, breaks_screaming, screaming_at, camel_to_screaming_snake, prefix_of, ends_in_ies, ends_in_s, singular, capitalized, singular_pascal}
-use Rattle.conversions.proofs.Singular.{ies-least}
+use Rattle.names.specs.Letters.{lowered, raised}
+use Rattle.names.specs.Conversions.{breaks_snake, snake_at, camel_to_snake, breaks_screaming, screaming_at, camel_to_screaming_snake, prefix_of, ends_in_ies, ends_in_s, singular, capitalized, singular_pascal}
+use Rattle.names.proofs.Singular.{ies-least}
 use Rattle.escaping.specs.Escape.{hex_digit, hex, escaped, quoted}
 
 pub pick-most : (b : Bool) (x y : List ℕ) (n : ℕ) → length x ≤ n → length y ≤ n → length (pick b x y) ≤ n

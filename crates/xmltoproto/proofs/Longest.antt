@@ -7,7 +7,7 @@ use Rattle.texts.specs.Lists.{among}
 use Rattle.texts.proofs.Choosing.{by-test}
 use Rattle.printing.specs.Decimal.{digits, decimal}
 use Rattle.charsets.specs.Charset.{cleaned, compatible}
-use Rattle.conversions.specs.Conversions.{camel_to_snake}
+use Rattle.names.specs.Conversions.{camel_to_snake}
 use Rattle.index.specs.Declarations.{declaration_of}
 use Rattle.index.specs.declared.seen.Declaration.{Declaration}
 use Rattle.index.specs.declared.seen.Declaration.TheVariants.{Named, Typed}

@@ -11,7 +11,7 @@ use Rattle.printing.specs.Standing.{Standing}
 use Rattle.printing.proofs.Writing.{◌▹◌}
 use Rattle.xmltoproto.proofs.Outputs.{blank, printed-of}
 use Rattle.printing.proofs.Again.{standing-within}
-use Rattle.conversions.specs.Conversions.{camel_to_snake, camel_to_screaming_snake, prefix_of}
+use Rattle.names.specs.Conversions.{camel_to_snake, camel_to_screaming_snake, prefix_of}
 use Rattle.index.specs.Declarations.{declaration_of, number_of}
 use Rattle.index.specs.declared.seen.Declaration.{Declaration}
 use Rattle.index.specs.declared.seen.Declaration.TheVariants.{Named, Typed}

@@ -6,8 +6,8 @@ use Rattle.texts.specs.Lists.{each, numbered, any, among}
 use Rattle.classes.specs.Class.{is_upper, is_lower}
 use Rattle.printing.specs.Decimal.{decimal, digits}
 use Rattle.printing.specs.Repeated.{up_to}
-use Rattle.conversions.specs.Letters.{lowered, raised}
-use Rattle.conversions.specs.Conversions.{camel_to_snake, snake_at, breaks_snake, camel_to_screaming_snake, screaming_at, breaks_screaming, prefix_of, ends_in_ies, ends_in_s, singular, capitalized, singular_pascal}
+use Rattle.names.specs.Letters.{lowered, raised}
+use Rattle.names.specs.Conversions.{camel_to_snake, snake_at, breaks_snake, camel_to_screaming_snake, screaming_at, breaks_screaming, prefix_of, ends_in_ies, ends_in_s, singular, capitalized, singular_pascal}
 use Rattle.refusals.specs.declared.Refusal.TheVariants.{ArrayInComposite, ArrayInMessage}
 use Rattle.escaping.specs.Escape.{hex, escaped, quoted}
 use Rattle.charsets.specs.Charset.{is_punctuation, cleaned, compatible}

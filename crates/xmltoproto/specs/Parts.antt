@@ -3,7 +3,7 @@ use Rattle.std.specs.Prelude.{◌≡◌, Bool, List, ◌++◌, ℕ, length}
 use Rattle.texts.specs.Choice.{pick}
 use Rattle.texts.specs.Text.{ascii}
 use Rattle.texts.specs.Lists.{each}
-use Rattle.conversions.specs.Conversions.{singular_pascal}
+use Rattle.names.specs.Conversions.{singular_pascal}
 use Rattle.model.specs.Schema.{Schema, item_at, under, a_member, a_field}
 use Rattle.xmltoproto.specs.Source.{field_text}
 

@@ -4,7 +4,7 @@ use Rattle.texts.specs.Choice.{pick}
 use Rattle.texts.specs.Text.{ascii}
 use Rattle.texts.specs.Lists.{is_empty, each, numbered}
 use Rattle.printing.specs.Decimal.{decimal}
-use Rattle.conversions.specs.Conversions.{camel_to_snake, camel_to_screaming_snake, prefix_of, singular_pascal}
+use Rattle.names.specs.Conversions.{camel_to_snake, camel_to_screaming_snake, prefix_of, singular_pascal}
 use Rattle.model.specs.Schema.{Item, Schema, item_at, all_of, under, a_member, a_ref, an_enum, a_value, a_message, a_group, a_field}
 use Rattle.xmltoproto.specs.Composites.{printed_composites}
 use Rattle.xmltoproto.specs.Types.{Proto, as_named, form_of, proto_of, proto_by, meaning}

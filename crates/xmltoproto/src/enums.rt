@@ -10,18 +10,18 @@ ghost use Rattle.texts.specs.Lists.{each};
 ghost use Rattle.printing.specs.Written.{Wrote};
 ghost use Rattle.printing.specs.Printed.{past};
 ghost use Rattle.printing.specs.Standing.{Standing};
-ghost use Rattle.conversions.specs.Conversions.{prefix_of};
+ghost use Rattle.names.specs.Conversions.{prefix_of};
 ghost use Rattle.model.specs.Schema.{item_at, under, a_value};
 ghost use Rattle.xmltoproto.specs.Source.{value_text, enum_text};
 
 use crate::walk::ItemText;
-use conversions::convert::write_screaming;
+use names::convert::write_screaming;
 use index::seen::Index;
 use model::VALUE;
 use printing::Output;
 
 /// Writes the prefix of an enum's values: its name in screaming snake case, and `_`.
-#[tactic(auto, unfolding(conversions::specs::Conversions::prefix_of), using(printing::proofs::Writing::writing))]
+#[tactic(auto, unfolding(names::specs::Conversions::prefix_of), using(printing::proofs::Writing::writing))]
 fn write_prefix(out: &mut Output<'_>, name: &[u8])
     ensures { Wrote out.old out.new (prefix_of name.now) }
 {

@@ -6,7 +6,7 @@ ghost use Rattle.texts.specs.Choice.{pick};
 ghost use Rattle.texts.specs.Text.{ascii};
 ghost use Rattle.printing.specs.Decimal.{decimal};
 ghost use Rattle.printing.specs.Written.{Wrote};
-ghost use Rattle.conversions.specs.Conversions.{camel_to_snake};
+ghost use Rattle.names.specs.Conversions.{camel_to_snake};
 ghost use Rattle.model.specs.Schema.{item_at};
 ghost use Rattle.xmltoproto.specs.Types.{note_on, form_of, proto_of};
 ghost use Rattle.xmltoproto.specs.Parts.{indent_of};
@@ -14,7 +14,7 @@ ghost use Rattle.xmltoproto.specs.Source.{note_line, bracketed, line};
 ghost use Rattle.xmltoproto.specs.Shapes.{note_in, word_in, option_in, proto_in, length_option, encoding_option};
 
 use crate::types::{Shape, shape_of};
-use conversions::convert::write_snake;
+use names::convert::write_snake;
 use escaping::write_quoted;
 use index::seen::Index;
 use printing::Output;

@@ -4,7 +4,7 @@
 ghost use Rattle.texts.specs.Choice.{pick};
 ghost use Rattle.texts.specs.Lists.{among};
 ghost use Rattle.printing.specs.Written.{Wrote};
-ghost use Rattle.conversions.specs.Conversions.{camel_to_snake};
+ghost use Rattle.names.specs.Conversions.{camel_to_snake};
 ghost use Rattle.model.specs.Schema.{item_at};
 ghost use Rattle.xmltoproto.specs.Types.{built_ins, built_in, as_named, proto_of};
 ghost use Rattle.xmltoproto.specs.Source.{line, field_text, group_text, message_text};
@@ -13,7 +13,7 @@ ghost use Rattle.xmltoproto.specs.Parts.{indent_of, group_head};
 use crate::line::{write_line, write_typed};
 use crate::types::{Shape, shape_of};
 use crate::walk::{ItemText, write_under};
-use conversions::convert::{write_singular, write_snake};
+use names::convert::{write_singular, write_snake};
 use index::ITEMS_1024;
 use index::seen::{Declaration, Index};
 use model::{FIELD, GROUP};

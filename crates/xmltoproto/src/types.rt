@@ -10,7 +10,7 @@ ghost use Rattle.xmltoproto.specs.Shapes.{proto_in, meaning_in};
 
 use charsets::is_compatible;
 use index::seen::Declaration;
-use words::same_name;
+use swar::same_name;
 
 /// How a type prints. A number is the length in its option.
 #[derive(Clone, Copy)]

@@ -1,4 +1,4 @@
-//! Records sources of the reference for crates/replay_source. The form of a line is described in its
+//! Records sources of the reference for crates/test_source. The form of a line is described in its
 //! src/main.rt.
 
 use std::collections::BTreeSet;

@@ -1,4 +1,4 @@
-//! A document as the reference's reader reads it, in the bytes that crates/probe describes: a mark of
+//! A document as the reference's reader reads it, in the bytes that crates/test_probe describes: a mark of
 //! 128 or more before each text, which is ASCII.
 
 use std::collections::{BTreeMap, HashMap};

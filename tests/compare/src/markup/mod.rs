@@ -1,4 +1,4 @@
-//! Suite `markup`: the events of the proved reader, through crates/probe, against the reference's.
+//! Suite `markup`: the events of the proved reader, through crates/test_probe, against the reference's.
 
 pub mod documents;
 pub mod events;

@@ -1,4 +1,4 @@
-//! Records events of the reference for crates/replay_markup. The form of a line is described in its
+//! Records events of the reference for crates/test_markup. The form of a line is described in its
 //! src/main.rt.
 
 use std::collections::BTreeSet;

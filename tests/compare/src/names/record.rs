@@ -1,4 +1,4 @@
-//! Records answers of the reference for crates/replay_names. The form of a line is described in its
+//! Records answers of the reference for crates/test_names. The form of a line is described in its
 //! src/main.rt.
 
 use std::path::Path;

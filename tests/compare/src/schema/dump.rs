@@ -1,5 +1,5 @@
 //! What the reference makes of a schema document: the model (all that the port keeps: no descriptions, no
-//! byteOrder) in the bytes that crates/probe/src/dump.rt describes.
+//! byteOrder) in the bytes that crates/test_probe/src/dump.rt describes.
 
 use reference::xmlschema::{XmlField, XmlSchema, XmlType};
 

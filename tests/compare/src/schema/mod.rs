@@ -1,4 +1,4 @@
-//! Suite `schema`: the model of a document by the proved library, through crates/probe, against the
+//! Suite `schema`: the model of a document by the proved library, through crates/test_probe, against the
 //! reference's.
 
 pub mod documents;

@@ -1,4 +1,4 @@
-//! Records models of the reference for crates/replay_schema. The form of a line is described in its
+//! Records models of the reference for crates/test_schema. The form of a line is described in its
 //! src/main.rt.
 
 use std::collections::BTreeSet;

@@ -1,5 +1,5 @@
 use Rattle.printing.specs.Standing.{Standing}
-use Rattle.conversions.specs.Conversions.{prefix_of}
+use Rattle.names.specs.Conversions.{prefix_of}
 use Rattle.model.specs.Schema.{item_at, under, a_value}
 use Rattle.model.specs.Search.{ahead}
 use Rattle.model.proofs.Searching.{owned_so}

@@ -1,8 +1,0 @@
-use lib.ListN.{length}
-use Rattle.conversions.specs.Rules.{cased_at}
-use Rattle.conversions.proofs.Storing.{Storing}
-use Rattle.conversions.proofs.convert.store.Given as goal
-
-abbrev pub invariant-loop-i : goal.invariant-loop-i
-invariant-loop-i g l =
-    Storing (cased_at g.C.Case.breaks g.C.Case.shown l.name) (length l.name) l.initial.out l.at l.out l.p l.i

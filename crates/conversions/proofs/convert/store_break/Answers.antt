@@ -1,8 +1,0 @@
-use Rattle.conversions.proofs.Storing.{break-yes, break-no}
-use Rattle.conversions.proofs.convert.store_break.Goals as goal
-
-pub returns-then-on : goal.returns-then-on
-returns-then-on c = break-yes c.if-on.true c.requires
-
-pub returns : goal.returns
-returns c = break-no c.if-on.false

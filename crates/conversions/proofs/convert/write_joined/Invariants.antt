@@ -1,7 +1,0 @@
-use Rattle.printing.specs.Repeated.{up_to}
-use Rattle.printing.specs.Written.{Wrote}
-use Rattle.conversions.specs.Rules.{joined_at}
-use Rattle.conversions.proofs.convert.write_joined.Given as goal
-
-abbrev pub invariant-loop-i : goal.invariant-loop-i
-invariant-loop-i g l = Wrote l.initial.out l.out (up_to (joined_at g.J.Join.shown l.name) l.i)

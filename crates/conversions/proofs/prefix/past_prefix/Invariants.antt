@@ -1,5 +1,0 @@
-use Rattle.conversions.proofs.Cutting.{Passing}
-use Rattle.conversions.proofs.prefix.past_prefix.Given as goal
-
-abbrev pub invariant-loop-i : goal.invariant-loop-i
-invariant-loop-i l = Passing l.value l.enum_name l.j l.i

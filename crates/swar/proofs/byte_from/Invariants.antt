@@ -1,0 +1,10 @@
+use Rattle.std.proofs.Common.{◌≡◌, ◌+◌, ◌-◌, length}
+use Rattle.texts.specs.Scan.{until, is}
+use Rattle.texts.proofs.Scanning.{Scanning}
+use Rattle.swar.proofs.byte_from.Given as goal
+
+abbrev pub invariant-loop-i : goal.invariant-loop-i
+invariant-loop-i l = Scanning (until (is l.x)) l.s l.at l.i × (l.last + 8 ≡ length l.s)
+
+abbrev pub decreases-loop-i : goal.decreases-loop-i
+decreases-loop-i l = length l.s - l.i

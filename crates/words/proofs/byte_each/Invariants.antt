@@ -1,6 +1,0 @@
-use Rattle.texts.specs.Scan.{until, is}
-use Rattle.texts.proofs.Scanning.{Scanning}
-use Rattle.words.proofs.byte_each.Given as goal
-
-abbrev pub invariant-loop-i : goal.invariant-loop-i
-invariant-loop-i l = Scanning (until (is l.x)) l.s l.at l.i

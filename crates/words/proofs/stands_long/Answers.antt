@@ -1,5 +1,0 @@
-use Rattle.words.proofs.Standing.{stands-not}
-use Rattle.words.proofs.stands_long.Goals as goal
-
-pub returns : goal.returns
-returns c = stands-not _ _ c.word_at.ensures _ _ _ c.if-word_at-front.false
