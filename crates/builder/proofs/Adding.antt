@@ -10,9 +10,9 @@ use Rattle.refusals.specs.declared.Refusal.TheVariants.{TooManyItems}
 use Rattle.tags.specs.Attributes.{raw_length}
 use Rattle.model.specs.Schema.{Item, Schema, item_at, no_item}
 use Rattle.builder.specs.Builder.{Outcome, on, refused, added, with_items}
-use Rattle.model.specs.Store.{entry_at, words_of, item_of, items_of, schema_of}
-use Rattle.builder.specs.Layout.{model_in, builder_in, stack_of, over, texted, first, Alike, Kept, Ready, Steady, Same, After, used_by}
-use Rattle.builder.specs.Taking.{Made, ReadAt, Numbered, numbered}
+use Rattle.model.specs.internal.Store.{entry_at, words_of, item_of, items_of, schema_of}
+use Rattle.builder.specs.internal.Layout.{model_in, builder_in, stack_of, over, texted, first, Alike, Kept, Ready, Steady, Same, After, used_by}
+use Rattle.builder.specs.internal.Taking.{Made, ReadAt, Numbered, numbered}
 use Rattle.model.specs.declared.Entry.{Entry}
 use Rattle.builder.specs.declared.state.State.{State}
 use Rattle.builder.specs.declared.work.Work.{Work}

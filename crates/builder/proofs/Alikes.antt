@@ -5,7 +5,7 @@ use Rattle.texts.specs.Text.{piece}
 use Rattle.texts.proofs.Stores.{take-sets, drop-sets, piece-below}
 use Rattle.tags.specs.Attributes.{attribute_at, raw_length, raw_lengths}
 use Rattle.tags.proofs.Ranges.{different, values-lie}
-use Rattle.builder.specs.Layout.{builder_in, texted, Alike, Kept, Tagged}
+use Rattle.builder.specs.internal.Layout.{builder_in, texted, Alike, Kept, Tagged}
 use Rattle.builder.specs.declared.state.State.{State}
 use Rattle.builder.specs.declared.work.Work.{Work}
 

@@ -11,8 +11,8 @@ use Rattle.entities.specs.Entities.{decoded}
 use Rattle.model.specs.Schema.{Schema, no_item, under, last, positions_from, a_value}
 use Rattle.model.specs.Search.{last_under}
 use Rattle.builder.specs.Builder.{Builder, on, refused, with_stack, with_text, with_schema, with_second, given_to, close_value, close_by, closed, collect, top, rest}
-use Rattle.model.specs.Store.{entry_at, words_of, item_of, items_of, schema_of}
-use Rattle.builder.specs.Layout.{model_in, builder_in, stack_of, over, texted, valued, given_at, higher, Alike, Kept, Ready, After}
+use Rattle.model.specs.internal.Store.{entry_at, words_of, item_of, items_of, schema_of}
+use Rattle.builder.specs.internal.Layout.{model_in, builder_in, stack_of, over, texted, valued, given_at, higher, Alike, Kept, Ready, After}
 use Rattle.elements.specs.Elements.{element_of}
 use Rattle.elements.specs.declared.Element.{Element}
 use Rattle.model.specs.declared.Entry.{Entry}

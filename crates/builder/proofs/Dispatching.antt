@@ -10,14 +10,14 @@ use Rattle.refusals.specs.declared.Refusal.{Refusal}
 use Rattle.refusals.specs.declared.Refusal.TheVariants.{BadNumber, TooDeep}
 use Rattle.tags.specs.declared.tag.Noted.{Noted}
 use Rattle.tags.specs.Attributes.{attribute_at, raw_length}
-use Rattle.tags.specs.Noting.{schema_keys}
+use Rattle.tags.specs.internal.Noting.{schema_keys}
 use Rattle.saxlite.specs.Event.{value_in}
 use Rattle.numbers.specs.Numbers.{number_of}
 use Rattle.model.specs.Schema.{Schema}
 use Rattle.builder.specs.Builder.{Builder, on, refused, Attributes, number_in, text_in, or_empty, with_schema, open_schema, open_by, opened, top, with_stack}
-use Rattle.model.specs.Store.{items_of, schema_of}
-use Rattle.builder.specs.Layout.{model_in, builder_in, texted, parent_composite, deeper, over, pushed, room, Alike, Ready, IsTag, After}
-use Rattle.builder.specs.Taking.{attributes_of, keys_for, TakenAt, Numbered, Opens, Finds}
+use Rattle.model.specs.internal.Store.{items_of, schema_of}
+use Rattle.builder.specs.internal.Layout.{model_in, builder_in, texted, parent_composite, deeper, over, pushed, room, Alike, Ready, IsTag, After}
+use Rattle.builder.specs.internal.Taking.{attributes_of, keys_for, TakenAt, Numbered, Opens, Finds}
 use Rattle.elements.specs.Elements.{element_of}
 use Rattle.elements.specs.declared.Element.{Element}
 use Rattle.builder.specs.declared.state.State.{State}

@@ -4,9 +4,9 @@ use Rattle.texts.specs.Text.{ascii, piece, same}
 use Rattle.texts.proofs.Choosing.{by-test, pick_yes, pick_no}
 use Rattle.texts.proofs.Comparing.{same-equal}
 use Rattle.tags.specs.declared.tag.Notes.{Notes}
-use Rattle.tags.specs.Noting.{field_keys, keys_of, NotedBy}
+use Rattle.tags.specs.internal.Noting.{field_keys, keys_of, NotedBy}
 use Rattle.elements.specs.Elements.{element_of, other_element_of}
-use Rattle.builder.specs.Taking.{keys_for}
+use Rattle.builder.specs.internal.Taking.{keys_for}
 use Rattle.elements.specs.declared.Element.{Element}
 
 other_keys : (name : List ℕ) → field_keys ≡ keys_for (other_element_of name)

@@ -5,8 +5,8 @@ use Rattle.texts.specs.Text.{ascii, piece, same}
 use Rattle.texts.proofs.Comparing.{equal-same}
 use Rattle.texts.proofs.Stores.{get_or-sets-above}
 use Rattle.builder.specs.Builder.{top, rest, with_stack}
-use Rattle.model.specs.Store.{entry_at, words_of, schema_of}
-use Rattle.builder.specs.Layout.{stack_at, stack_of, parent_composite, deeper, pushed, higher, over, model_in, builder_in, Kept, Ready}
+use Rattle.model.specs.internal.Store.{entry_at, words_of, schema_of}
+use Rattle.builder.specs.internal.Layout.{stack_at, stack_of, parent_composite, deeper, pushed, higher, over, model_in, builder_in, Kept, Ready}
 use Rattle.model.specs.declared.Entry.{Entry}
 use Rattle.builder.specs.declared.state.State.{State}
 use Rattle.builder.specs.declared.work.Work.{Work}

@@ -14,9 +14,9 @@ use Rattle.saxlite.specs.Event.{value_in}
 use Rattle.entities.proofs.Decoding.{decoded-length}
 use Rattle.entities.proofs.Copying.{plain-decoded}
 use Rattle.builder.specs.Builder.{or_empty, is_given}
-use Rattle.model.specs.Store.{item_of}
-use Rattle.builder.specs.Layout.{Steady}
-use Rattle.builder.specs.Taking.{TakenAt, ReadAt, Made, drafted_item, draft_length}
+use Rattle.model.specs.internal.Store.{item_of}
+use Rattle.builder.specs.internal.Layout.{Steady}
+use Rattle.builder.specs.internal.Taking.{TakenAt, ReadAt, Made, drafted_item, draft_length}
 use Rattle.model.specs.declared.Entry.{Entry}
 use Rattle.numbers.specs.Numbers.{is_digit, all_digits, bounded_from, digits_of, unsigned, number_of}
 use Rattle.builder.specs.declared.take.Taken.{Taken}

@@ -1,4 +1,3 @@
--- What one event makes of the builder. A customer reads Builder; Layout and Taking are internal.
+-- What one event makes of the builder.
 pub mod Builder
-pub mod Layout
-pub mod Taking
+pub mod internal

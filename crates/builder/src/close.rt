@@ -7,9 +7,9 @@ ghost use Rattle.texts.specs.Trim.{TrimmedTo};
 ghost use Rattle.entities.specs.Entities.{decoded};
 ghost use Rattle.model.specs.Schema.{a_value};
 ghost use Rattle.model.specs.Search.{last_under};
-ghost use Rattle.model.specs.Store.{schema_of};
+ghost use Rattle.model.specs.internal.Store.{schema_of};
 ghost use Rattle.builder.specs.Builder.{on, close_value, close_by, closed, collect};
-ghost use Rattle.builder.specs.Layout.{builder_in, given_at, over, Kept, Ready, After};
+ghost use Rattle.builder.specs.internal.Layout.{builder_in, given_at, over, Kept, Ready, After};
 
 use crate::state::{Current, Place, State};
 use crate::work::Work;

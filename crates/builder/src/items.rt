@@ -3,10 +3,10 @@
 
 ghost use Rattle.std.specs.Prelude.{◌≡◌, List, ℕ, ◌-◌, ◌≤◌};
 ghost use Rattle.model.specs.Schema.{item_at};
-ghost use Rattle.model.specs.Store.{entry_at, item_of};
+ghost use Rattle.model.specs.internal.Store.{entry_at, item_of};
 ghost use Rattle.builder.specs.Builder.{added};
-ghost use Rattle.builder.specs.Layout.{builder_in, room, Kept, Steady, After};
-ghost use Rattle.builder.specs.Taking.{drafted_item, Numbered, Reads, Adds};
+ghost use Rattle.builder.specs.internal.Layout.{builder_in, room, Kept, Steady, After};
+ghost use Rattle.builder.specs.internal.Taking.{drafted_item, Numbered, Reads, Adds};
 
 use crate::state::{Place, State};
 use crate::take::{Draft, read_number};
@@ -18,7 +18,7 @@ use texts::Range;
 // `number`, `put` and `add` are inlined, so that the state is not copied in and out of calls.
 impl<'d, 'a> Work<'d, 'a> {
     /// The number in a value of a tag; 0 if it is absent or empty. Refused (32) if it is invalid.
-    #[tactic(auto, unfolding(crate::specs::Taking::Reads), using(crate::proofs::Laws::adding))]
+    #[tactic(auto, unfolding(crate::specs::internal::Taking::Reads), using(crate::proofs::Laws::adding))]
     #[inline(always)]
     pub(crate) fn number(
         &mut self,
@@ -58,7 +58,7 @@ impl<'d, 'a> Work<'d, 'a> {
     }
 
     /// Adds the item of a draft: takes its texts, then puts its entry. Refused (35) at the limit.
-    #[tactic(auto, unfolding(crate::specs::Taking::Adds), using(crate::proofs::Laws::adding))]
+    #[tactic(auto, unfolding(crate::specs::internal::Taking::Adds), using(crate::proofs::Laws::adding))]
     #[inline(always)]
     pub(crate) fn add(&mut self, s: State, tag: &Tag, d: Draft) -> Result<State, Refusal>
         requires { Adds self.old s tag.now d }

@@ -1,7 +1,7 @@
 //! The builder: takes the reader's events into the model of a schema, one at a time.
 //!
 //! `state::State` is its state by value, and `work::Work` borrows the document and the two buffers;
-//! specs/Layout.antt says how the builder lies in both. Opening, closing and text (`open`,
+//! specs/internal/Layout.antt says how the builder lies in both. Opening, closing and text (`open`,
 //! `close`) each promise one equation with the definition of the same thing (specs/Builder.antt),
 //! refusals 30 and 32 to 35 included, and keep what the next step asks. Each requires that the
 //! state is kept and that the event's texts have room, which the crate above ensures.

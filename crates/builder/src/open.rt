@@ -6,11 +6,11 @@
 
 ghost use Rattle.std.specs.Prelude.{◌≡◌};
 ghost use Rattle.texts.specs.Text.{piece};
-ghost use Rattle.tags.specs.Noting.{schema_keys, type_keys, enum_keys, field_keys};
+ghost use Rattle.tags.specs.internal.Noting.{schema_keys, type_keys, enum_keys, field_keys};
 ghost use Rattle.saxlite.specs.Event.{attributes_in};
 ghost use Rattle.builder.specs.Builder.{open_schema, open_type, open_ref, open_composite, open_enum, open_value, open_message, open_group, open_field, open_by, opened};
-ghost use Rattle.builder.specs.Layout.{builder_in, parent_composite, room, Ready, IsTag, After};
-ghost use Rattle.builder.specs.Taking.{attributes_of, keys_for, Opens};
+ghost use Rattle.builder.specs.internal.Layout.{builder_in, parent_composite, room, Ready, IsTag, After};
+ghost use Rattle.builder.specs.internal.Taking.{attributes_of, keys_for, Opens};
 
 use crate::state::{Current, Place, State};
 use crate::take::{Draft, take_value};

@@ -1,6 +1,6 @@
-//! The builder's state by value. specs/Layout.antt says what lies in the buffers.
+//! The builder's state by value. specs/internal/Layout.antt says what lies in the buffers.
 ghost use Rattle.std.specs.Prelude.{◌≡◌};
-ghost use Rattle.builder.specs.Layout.{first, higher, model_in};
+ghost use Rattle.builder.specs.internal.Layout.{first, higher, model_in};
 
 use model::{Head, Model};
 

@@ -5,7 +5,7 @@ ghost use Rattle.std.specs.Prelude.{◌≡◌, List, ℕ, ◌+◌, ◌≤◌, eq
 ghost use Rattle.tags.specs.Attributes.{raw_length};
 ghost use Rattle.saxlite.specs.Event.{value_in};
 ghost use Rattle.builder.specs.Builder.{is_given};
-ghost use Rattle.builder.specs.Taking.{TakenAt, ReadAt, Made, drafted, drafted_item, draft_length};
+ghost use Rattle.builder.specs.internal.Taking.{TakenAt, ReadAt, Made, drafted, drafted_item, draft_length};
 
 use entities::decode_room;
 use model::Entry;

@@ -4,8 +4,8 @@
 ghost use Rattle.std.specs.Prelude.{◌≡◌, ◌+◌, ◌≤◌, ◌<◌, length};
 ghost use Rattle.texts.specs.Text.{piece, same};
 ghost use Rattle.builder.specs.Builder.{top};
-ghost use Rattle.builder.specs.Layout.{stack_of, builder_in, deeper, pushed, over, first, parent_composite, Kept};
-ghost use Rattle.builder.specs.Taking.{Finds};
+ghost use Rattle.builder.specs.internal.Layout.{stack_of, builder_in, deeper, pushed, over, first, parent_composite, Kept};
+ghost use Rattle.builder.specs.internal.Taking.{Finds};
 
 use crate::state::{Limits, Place, State};
 use model::word;

@@ -9,8 +9,8 @@ use Rattle.texts.proofs.Choosing.{is_true, and_left, and_right}
 use Rattle.texts.proofs.Comparing.{same-lengths}
 use Rattle.names.specs.Letters.{lowered}
 use Rattle.charsets.specs.Charset.{is_punctuation, cleaned, charsets, compatible}
-use Rattle.charsets.specs.Names.{is_name}
-use Rattle.charsets.specs.Letters.{Passed}
+use Rattle.charsets.specs.internal.Names.{is_name}
+use Rattle.charsets.specs.internal.Letters.{Passed}
 
 -- ---- punctuation is passed
 

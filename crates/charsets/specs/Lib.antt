@@ -1,4 +1,3 @@
 -- Rules: Printing. Which character encodings are UTF-8 compatible.
 pub mod Charset
-pub mod Names
-pub mod Letters
+pub mod internal

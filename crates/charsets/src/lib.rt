@@ -8,8 +8,8 @@
 
 ghost use Rattle.std.specs.Prelude.{◌≡◌, true, ◌+◌, ◌≤◌, length, drop};
 ghost use Rattle.charsets.specs.Charset.{is_punctuation, cleaned, charsets, compatible};
-ghost use Rattle.charsets.specs.Names.{is_name};
-ghost use Rattle.charsets.specs.Letters.{Passed, Letters};
+ghost use Rattle.charsets.specs.internal.Names.{is_name};
+ghost use Rattle.charsets.specs.internal.Letters.{Passed, Letters};
 
 use names::convert::lower;
 use texts::{is_among, part, trim};

@@ -4,7 +4,7 @@ use Rattle.texts.specs.Text.{ascii, piece, same, starts_with}
 use Rattle.texts.proofs.Choosing.{by-test}
 use Rattle.texts.proofs.Comparing.{same-lengths, same-equal, starts-yes}
 use Rattle.swar.specs.Word.{word_of}
-use Rattle.swar.specs.Standing.{ShortText, LongText, StandsShort, StandsLong}
+use Rattle.swar.specs.internal.Standing.{ShortText, LongText, StandsShort, StandsLong}
 use Rattle.swar.proofs.Digits.{front-is}
 use Rattle.elements.specs.Elements.{element_of, other_element_of}
 use Rattle.elements.specs.declared.Element.{Element}

@@ -9,7 +9,7 @@ use Rattle.texts.proofs.Scanning.{count_yes, count_no}
 use Rattle.swar.proofs.Copying.{sets-append}
 use Rattle.swar.proofs.Finding.{count_past}
 use Rattle.entities.specs.Entities.{front, decoded_past, decoded, DecodedInto}
-use Rattle.entities.specs.Copying.{PlainTo, RestInto}
+use Rattle.entities.specs.internal.Copying.{PlainTo, RestInto}
 use Rattle.entities.proofs.Decoding.{decoded-cons, decoding-short}
 
 -- ---- what lacks '&' stands for itself

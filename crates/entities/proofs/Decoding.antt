@@ -7,7 +7,7 @@ use Rattle.texts.proofs.Choosing.{pick_yes, pick_no, pick-by}
 use Rattle.texts.proofs.Comparing.{starts-length}
 use Rattle.entities.specs.declared.Unit.{Unit}
 use Rattle.entities.specs.Entities.{entity, front, decoded_past, decoded, DecodedInto}
-use Rattle.entities.specs.Copying.{RestInto}
+use Rattle.entities.specs.internal.Copying.{RestInto}
 
 -- ---- a unit is some bytes, and no more than there are
 

@@ -1,3 +1,3 @@
 -- Rules: Markup. The five entities; and what decoding has written so far.
 pub mod Entities
-pub mod Copying
+pub mod internal

@@ -13,7 +13,7 @@ ghost use Rattle.std.specs.Prelude.{◌≡◌, ◌+◌, ◌-◌, ◌≤◌, ◌<
 ghost use Rattle.std.proofs.lemmas.List.Edits.{sets};
 ghost use Rattle.texts.specs.Text.{piece};
 ghost use Rattle.entities.specs.Entities.{front, decoded, DecodedInto};
-ghost use Rattle.entities.specs.Copying.{PlainTo, RestInto};
+ghost use Rattle.entities.specs.internal.Copying.{PlainTo, RestInto};
 
 use swar::{both_lack, copy_few, lacks};
 

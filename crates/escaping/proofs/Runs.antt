@@ -13,7 +13,7 @@ use Rattle.printing.specs.Printed.{Printed, skipped}
 use Rattle.printing.proofs.Passing.{counted as told}
 use Rattle.printing.proofs.Writing.{written-append, written-nothing}
 use Rattle.escaping.specs.Escape.{escaped}
-use Rattle.escaping.specs.Escaping.{stands}
+use Rattle.escaping.specs.internal.Escaping.{stands}
 
 -- an escape that is longer than one byte is none of one byte
 past : (c : Bool) (x y : List ℕ) {z : List ℕ} →

@@ -1,3 +1,3 @@
 -- Rules: Printing. A text as Rust's `{:?}` quotes it.
 pub mod Escape
-pub mod Escaping
+pub mod internal

@@ -9,7 +9,7 @@ ghost use Rattle.texts.specs.Text.{ascii};
 ghost use Rattle.texts.specs.Lists.{each};
 ghost use Rattle.printing.specs.Written.{Wrote};
 ghost use Rattle.escaping.specs.Escape.{hex_digit, hex, escaped, quoted};
-ghost use Rattle.escaping.specs.Escaping.{shown_as, stands};
+ghost use Rattle.escaping.specs.internal.Escaping.{shown_as, stands};
 
 use printing::Output;
 use texts::part;
@@ -105,7 +105,7 @@ struct Lengths<'a> {
     ghost right: { (b : ℕ) → b < length noted.now → slice_index_or noted.now b 0 ≡ length (escaped b) },
 }
 
-#[tactic(auto, unfolding(crate::specs::Escaping::stands))]
+#[tactic(auto, unfolding(crate::specs::internal::Escaping::stands))]
 impl ByteTest for Lengths<'_> {
     ghost test = { stands };
 

@@ -7,7 +7,7 @@ use Rattle.texts.specs.Choice.{pick}
 use Rattle.ordered.specs.Numbered.{declares, numbered}
 use Rattle.index.specs.Declarations.{declared_by, declaration_of, number_of}
 use Rattle.index.specs.Blank.{kinds, per_item, mask_of, Blank}
-use Rattle.index.specs.Index.{fronted, place, HeadOf, Chained, Naming, Settling, Indexed}
+use Rattle.index.specs.internal.Index.{fronted, place, HeadOf, Chained, Naming, Settling, Indexed}
 use Rattle.index.proofs.Fronting.{fronted-length, fronted-other}
 use Rattle.index.proofs.Linking.{linked-start, linked_on, linked-off, linked-frame}
 use Rattle.index.proofs.Chaining.{chained-start, chained-on, chained-off, chained-aside, chained-frame}

@@ -5,10 +5,10 @@ use Rattle.model.specs.Schema.{Item, Schema, item_at, positions_from, last}
 use Rattle.model.proofs.Records.{by_less}
 use Rattle.model.proofs.Searching.{last-yes, last-no}
 use Rattle.ordered.specs.Numbered.{declares}
-use Rattle.ordered.specs.Ordered.{last_by}
+use Rattle.ordered.specs.internal.Ordered.{last_by}
 use Rattle.ordered.proofs.Numbering.{by_equal}
 use Rattle.index.specs.Blank.{per_item, mask_of}
-use Rattle.index.specs.Index.{code, fronted, place, hashed, last_hashed, Chained}
+use Rattle.index.specs.internal.Index.{code, fronted, place, hashed, last_hashed, Chained}
 use Rattle.index.proofs.Fronting.{fronted-head, fronted-at, fronted-other}
 
 -- ---- the last of the first n items that pass a test

@@ -9,7 +9,7 @@ use Rattle.index.specs.Blank.{kinds, per_item}
 use Rattle.index.specs.Declarations.{declared_by, declaration_of, number_of}
 use Rattle.index.specs.declared.seen.Declaration.{Declaration}
 use Rattle.index.specs.declared.seen.Declaration.TheVariants.{Named, Typed}
-use Rattle.index.specs.Index.{code, Indexed}
+use Rattle.index.specs.internal.Index.{code, Indexed}
 
 -- ---- positions
 

@@ -1,6 +1,6 @@
 -- An item put in front of a list of the index: what changes, and what stays.
 use Rattle.std.proofs.Common.{◌≡◌, ◌∙◌, List, ℕ, ◌+◌, ◌<◌, length, get_or, set, length-set, get_or-set_same, get_or-set_other}
-use Rattle.index.specs.Index.{fronted}
+use Rattle.index.specs.internal.Index.{fronted}
 
 module _ (ix : List ℕ) (head at i : ℕ) where
   pub fronted-length : length (fronted ix head at i) ≡ length ix

@@ -6,7 +6,7 @@ use Rattle.model.specs.Schema.{Schema}
 use Rattle.model.proofs.Records.{by_less}
 use Rattle.swar.specs.Word.{IsWord, IsHalf}
 use Rattle.index.specs.Blank.{per_item, mask_of}
-use Rattle.index.specs.Index.{short_word, mix, words_from, long_word, narrowed, hash, HashOf, place, HeadOf}
+use Rattle.index.specs.internal.Index.{short_word, mix, words_from, long_word, narrowed, hash, HashOf, place, HeadOf}
 
 -- ---- less than 8 bytes
 

@@ -6,7 +6,7 @@ use Rattle.model.proofs.Records.{by_less}
 use Rattle.model.proofs.Searching.{owned_so, first-yes, first-no}
 use Rattle.ordered.proofs.Numbering.{by_equal}
 use Rattle.index.specs.Blank.{kinds, per_item}
-use Rattle.index.specs.Index.{code, fronted, Linked}
+use Rattle.index.specs.internal.Index.{code, fronted, Linked}
 use Rattle.index.proofs.Fronting.{fronted-head, fronted-at, fronted-other}
 
 -- ---- one step of the model's search from an owner

@@ -1,4 +1,4 @@
 -- The index over a schema's items, and what a name is declared as.
 pub mod Blank
 pub mod Declarations
-pub mod Index
+pub mod internal

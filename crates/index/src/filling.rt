@@ -4,7 +4,7 @@ ghost use Rattle.std.specs.Prelude.{◌≡◌, ◌+◌, ◌≤◌, ◌<◌, IfSo
 ghost use Rattle.texts.specs.Choice.{pick};
 ghost use Rattle.ordered.specs.Numbered.{Added};
 ghost use Rattle.index.specs.Blank.{Blank};
-ghost use Rattle.index.specs.Index.{Chained, Naming, Settling};
+ghost use Rattle.index.specs.internal.Index.{Chained, Naming, Settling};
 ghost use Rattle.index.specs.Declarations.{declaration_of, number_of};
 
 use crate::{CHAIN, EACH, FIRST, LAST_KIND, STEPS, head_of, kept_at, put_front, word};

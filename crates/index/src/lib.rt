@@ -14,7 +14,7 @@ ghost use Rattle.std.specs.Prelude.{◌≡◌, ◌+◌, ◌≤◌, ◌<◌, leng
 ghost use Rattle.std.specs.Int.Bits.{bit_and};
 ghost use Rattle.model.specs.Schema.{item_at};
 ghost use Rattle.index.specs.Blank.{mask_of, Blank};
-ghost use Rattle.index.specs.Index.{kept_by, fronted, short_word, mix, long_word, narrowed, HashOf, HeadOf, Indexed};
+ghost use Rattle.index.specs.internal.Index.{kept_by, fronted, short_word, mix, long_word, narrowed, HashOf, HeadOf, Indexed};
 
 use crate::filling::Few;
 use model::view::View;

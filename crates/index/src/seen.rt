@@ -5,7 +5,7 @@ ghost use Rattle.texts.specs.Choice.{◌and◌, pick};
 ghost use Rattle.model.specs.Schema.{item_at, all_of, under, next_under, a_field};
 ghost use Rattle.model.specs.Search.{ahead};
 ghost use Rattle.index.specs.Blank.{Blank, kinds};
-ghost use Rattle.index.specs.Index.{code};
+ghost use Rattle.index.specs.internal.Index.{code};
 ghost use Rattle.index.specs.Declarations.{declaration_of, number_of};
 ghost use Rattle.index.specs.declared.seen.Declaration.{Declaration};
 
@@ -24,7 +24,7 @@ pub struct Index<'a> {
 
 impl<'a> Model for Index<'a> {
     ghost use Rattle.model.specs.Schema.{Schema};
-    ghost use Rattle.index.specs.Index.{Indexed};
+    ghost use Rattle.index.specs.internal.Index.{Indexed};
 
     ghost Value = { Schema };
 

@@ -5,7 +5,7 @@ use lib.Seq.{sets, set-append_left, set_at, get_or_at}
 use Rattle.texts.proofs.Choosing.{by-test}
 use Rattle.texts.proofs.Stores.{get_or-sets-below, get_or-sets-above, get_or-sets-in}
 use Rattle.model.specs.Schema.{no_item}
-use Rattle.model.specs.Store.{entry_at, words_of, item_of, items_of}
+use Rattle.model.specs.internal.Store.{entry_at, words_of, item_of, items_of}
 use Rattle.model.specs.declared.Entry.{Entry}
 
 -- case split: a < b, or not

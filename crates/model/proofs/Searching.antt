@@ -6,7 +6,7 @@ use Rattle.texts.specs.Text.{same}
 use Rattle.texts.proofs.Choosing.{by-test}
 use Rattle.model.specs.Schema.{Item, Schema, item_at, no_item, positions_from, first, last}
 use Rattle.model.specs.Search.{ahead}
-use Rattle.model.specs.Store.{items_of}
+use Rattle.model.specs.internal.Store.{items_of}
 use Rattle.model.proofs.Records.{by_less, length-items}
 
 -- the tests of the searches

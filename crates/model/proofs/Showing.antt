@@ -4,7 +4,7 @@ use lib.ListN.{get_or-eq_default}
 use Rattle.texts.specs.Choice.{pick}
 use Rattle.texts.specs.Text.{piece}
 use Rattle.model.specs.Schema.{Item, Schema, no_item, item_at}
-use Rattle.model.specs.Store.{entry_at, item_of, items_of, schema_of}
+use Rattle.model.specs.internal.Store.{entry_at, item_of, items_of, schema_of}
 use Rattle.model.specs.declared.Entry.{Entry}
 use Rattle.model.specs.declared.Model.{Model}
 use Rattle.model.proofs.Records.{length-items, get_or-items}

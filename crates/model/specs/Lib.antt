@@ -1,4 +1,4 @@
--- What a schema is, and how it lies in its buffers. A customer reads Schema.
+-- What a schema is, and how it lies in its buffers.
 pub mod Schema
 pub mod Search
-pub mod Store
+pub mod internal

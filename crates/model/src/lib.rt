@@ -14,7 +14,7 @@ pub mod view;
 
 ghost use Rattle.std.specs.Prelude.{◌≡◌, ◌+◌, ◌*◌, ◌≤◌, length, get_or};
 ghost use Rattle.std.proofs.lemmas.List.Edits.{sets};
-ghost use Rattle.model.specs.Store.{entry_at, words_of};
+ghost use Rattle.model.specs.internal.Store.{entry_at, words_of};
 
 // The kinds of items, numbered as in specs/Schema.antt. Numbers, not an enum: a record's kind is
 // whatever word the lent buffer holds, and searches compare with that word.

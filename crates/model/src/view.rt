@@ -6,7 +6,7 @@ ghost use Rattle.std.specs.Prelude.{◌≡◌, List, ℕ, ◌+◌, ◌<◌, ◌�
 ghost use Rattle.texts.specs.Choice.{pick};
 ghost use Rattle.texts.specs.Text.{piece};
 ghost use Rattle.model.specs.Schema.{item_at};
-ghost use Rattle.model.specs.Store.{entry_at, item_of, schema_of};
+ghost use Rattle.model.specs.internal.Store.{entry_at, item_of, schema_of};
 
 use crate::{Entry, Model, word};
 
@@ -20,7 +20,7 @@ pub struct View<'a> {
 
 impl<'a> std::marker::Model for View<'a> {
     ghost use Rattle.model.specs.Schema.{Schema};
-    ghost use Rattle.model.specs.Store.{schema_of};
+    ghost use Rattle.model.specs.internal.Store.{schema_of};
 
     ghost Value = { Schema };
 

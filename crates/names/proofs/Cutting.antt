@@ -6,7 +6,7 @@ use Rattle.texts.proofs.Comparing.{starts-append, starts-yes, starts-no}
 use Rattle.printing.specs.Repeated.{up_to}
 use Rattle.names.specs.Letters.{raised}
 use Rattle.names.specs.Conversions.{breaks_screaming, screaming_at, camel_to_screaming_snake, prefix_of, without_prefix}
-use Rattle.names.specs.Prefix.{past_text}
+use Rattle.names.specs.internal.Prefix.{past_text}
 
 -- ---- part by part
 

@@ -6,8 +6,8 @@ use Rattle.printing.specs.Repeated.{up_to}
 use Rattle.printing.proofs.Sequencing.{blank, ◌▸◌, length-printed, printed-yes, printed-no}
 use Rattle.printing.proofs.Passing.{stored}
 use Rattle.printing.proofs.Writing.{up_to-more}
-use Rattle.names.specs.Room.{Ample}
-use Rattle.names.specs.Rules.{cased_at, cased}
+use Rattle.names.specs.internal.Room.{Ample}
+use Rattle.names.specs.internal.Rules.{cased_at, cased}
 
 -- ---- an underscore, stored or not
 

@@ -1,8 +1,6 @@
 -- Rules: Names. The six conversions of a name, and what an entry for one answers.
 pub mod Letters
 pub mod Conversions
-pub mod Rules
-pub mod Prefix
-pub mod Room
 pub mod Entry
 pub mod Converted
+pub mod internal

@@ -10,8 +10,8 @@ ghost use Rattle.printing.specs.Printed.{Printed};
 ghost use Rattle.printing.specs.Written.{Wrote};
 ghost use Rattle.classes.specs.Class.{is_lower};
 ghost use Rattle.names.specs.Letters.{lowered, raised};
-ghost use Rattle.names.specs.Room.{Ample, Roomy};
-ghost use Rattle.names.specs.Rules.{cased_at, cased, joined_at, joined, camel_shown, pascal_shown};
+ghost use Rattle.names.specs.internal.Room.{Ample, Roomy};
+ghost use Rattle.names.specs.internal.Rules.{cased_at, cased, joined_at, joined, camel_shown, pascal_shown};
 ghost use Rattle.names.specs.Conversions.{breaks_snake, camel_to_snake, breaks_screaming, camel_to_screaming_snake, follows, snake_to_camel, screaming_snake_to_pascal};
 
 pub use crate::plurals::write_singular;
@@ -173,7 +173,7 @@ fn store<C: Case>(out: &mut [u8], at: usize, case: &C, name: &[u8]) -> usize
 }
 
 /// Writes what position `i` of a name gives.
-#[tactic(auto, unfolding(crate::specs::Rules::cased_at), using(printing::proofs::Writing::writing))]
+#[tactic(auto, unfolding(crate::specs::internal::Rules::cased_at), using(printing::proofs::Writing::writing))]
 fn write_at<C: Case>(out: &mut Output<'_>, case: &C, name: &[u8], i: usize)
     requires { i < length name.now }
     ensures { Wrote out.old out.new (cased_at C.breaks C.shown name.now i) }
@@ -184,7 +184,7 @@ fn write_at<C: Case>(out: &mut Output<'_>, case: &C, name: &[u8], i: usize)
 }
 
 /// Writes a name that may not fit: what does not is counted.
-#[tactic(auto, unfolding(crate::specs::Rules::cased), using(printing::proofs::Writing::writing))]
+#[tactic(auto, unfolding(crate::specs::internal::Rules::cased), using(printing::proofs::Writing::writing))]
 fn write_each<C: Case>(out: &mut Output<'_>, case: &C, name: &[u8])
     ensures { Wrote out.old out.new (cased C.breaks C.shown name.now) }
 {
@@ -227,7 +227,7 @@ fn write<C: Case>(out: &mut Output<'_>, case: &C, name: &[u8])
 }
 
 /// Prints a name in snake case.
-#[tactic(auto, unfolding(crate::specs::Conversions::camel_to_snake, crate::specs::Conversions::snake_at, crate::specs::Rules::cased, crate::specs::Rules::cased_at))]
+#[tactic(auto, unfolding(crate::specs::Conversions::camel_to_snake, crate::specs::Conversions::snake_at, crate::specs::internal::Rules::cased, crate::specs::internal::Rules::cased_at))]
 #[inline(always)]
 pub fn write_snake(out: &mut Output<'_>, name: &[u8])
     ensures { Wrote out.old out.new (camel_to_snake name.now) }
@@ -236,7 +236,7 @@ pub fn write_snake(out: &mut Output<'_>, name: &[u8])
 }
 
 /// Prints a name in screaming snake case.
-#[tactic(auto, unfolding(crate::specs::Conversions::camel_to_screaming_snake, crate::specs::Conversions::screaming_at, crate::specs::Rules::cased, crate::specs::Rules::cased_at))]
+#[tactic(auto, unfolding(crate::specs::Conversions::camel_to_screaming_snake, crate::specs::Conversions::screaming_at, crate::specs::internal::Rules::cased, crate::specs::internal::Rules::cased_at))]
 pub fn write_screaming(out: &mut Output<'_>, name: &[u8])
     ensures { Wrote out.old out.new (camel_to_screaming_snake name.now) }
 {
@@ -270,7 +270,7 @@ fn follows_underscore(name: &[u8], i: usize) -> bool
 #[derive(Clone, Copy)]
 struct Camel;
 
-#[tactic(auto, unfolding(crate::specs::Rules::camel_shown))]
+#[tactic(auto, unfolding(crate::specs::internal::Rules::camel_shown))]
 impl Join for Camel {
     ghost shown = { camel_shown };
 
@@ -287,7 +287,7 @@ impl Join for Camel {
 #[derive(Clone, Copy)]
 struct Pascal;
 
-#[tactic(auto, unfolding(crate::specs::Rules::pascal_shown))]
+#[tactic(auto, unfolding(crate::specs::internal::Rules::pascal_shown))]
 impl Join for Pascal {
     ghost shown = { pascal_shown };
 
@@ -304,7 +304,7 @@ impl Join for Pascal {
 }
 
 /// Writes what position `i` of a name gives: nothing for `_`.
-#[tactic(auto, unfolding(crate::specs::Rules::joined_at), using(printing::proofs::Writing::writing))]
+#[tactic(auto, unfolding(crate::specs::internal::Rules::joined_at), using(printing::proofs::Writing::writing))]
 fn write_joined_at<J: Join>(out: &mut Output<'_>, join: &J, name: &[u8], i: usize)
     requires { i < length name.now }
     ensures { Wrote out.old out.new (joined_at J.shown name.now i) }
@@ -315,7 +315,7 @@ fn write_joined_at<J: Join>(out: &mut Output<'_>, join: &J, name: &[u8], i: usiz
 }
 
 /// Writes a name without its `_`.
-#[tactic(auto, unfolding(crate::specs::Rules::joined), using(printing::proofs::Writing::writing))]
+#[tactic(auto, unfolding(crate::specs::internal::Rules::joined), using(printing::proofs::Writing::writing))]
 fn write_joined<J: Join>(out: &mut Output<'_>, join: &J, name: &[u8])
     ensures { Wrote out.old out.new (joined J.shown name.now) }
 {
@@ -325,7 +325,7 @@ fn write_joined<J: Join>(out: &mut Output<'_>, join: &J, name: &[u8])
 }
 
 /// Prints a name in camel case.
-#[tactic(auto, unfolding(crate::specs::Conversions::snake_to_camel, crate::specs::Conversions::camel_at, crate::specs::Rules::joined, crate::specs::Rules::joined_at, crate::specs::Rules::camel_shown))]
+#[tactic(auto, unfolding(crate::specs::Conversions::snake_to_camel, crate::specs::Conversions::camel_at, crate::specs::internal::Rules::joined, crate::specs::internal::Rules::joined_at, crate::specs::internal::Rules::camel_shown))]
 pub fn write_camel(out: &mut Output<'_>, name: &[u8])
     ensures { Wrote out.old out.new (snake_to_camel name.now) }
 {
@@ -333,7 +333,7 @@ pub fn write_camel(out: &mut Output<'_>, name: &[u8])
 }
 
 /// Prints a name in Pascal case.
-#[tactic(auto, unfolding(crate::specs::Conversions::screaming_snake_to_pascal, crate::specs::Conversions::pascal_at, crate::specs::Rules::joined, crate::specs::Rules::joined_at, crate::specs::Rules::pascal_shown))]
+#[tactic(auto, unfolding(crate::specs::Conversions::screaming_snake_to_pascal, crate::specs::Conversions::pascal_at, crate::specs::internal::Rules::joined, crate::specs::internal::Rules::joined_at, crate::specs::internal::Rules::pascal_shown))]
 pub fn write_pascal(out: &mut Output<'_>, name: &[u8])
     ensures { Wrote out.old out.new (screaming_snake_to_pascal name.now) }
 {

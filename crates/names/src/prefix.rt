@@ -5,7 +5,7 @@
 ghost use Rattle.std.specs.Prelude.{◌≡◌, [], ◌∷◌, ◌<◌, length};
 ghost use Rattle.printing.specs.Written.{Wrote};
 ghost use Rattle.names.specs.Conversions.{screaming_at, prefix_of, without_prefix, strip_enum_prefix};
-ghost use Rattle.names.specs.Prefix.{past_text};
+ghost use Rattle.names.specs.internal.Prefix.{past_text};
 
 use crate::convert::{Case, Screaming, write_pascal};
 use printing::Output;

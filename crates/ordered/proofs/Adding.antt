@@ -4,7 +4,7 @@ use Rattle.model.specs.Schema.{Schema, item_at, last_named, a_type, a_composite,
 use Rattle.model.proofs.Records.{by_less}
 use Rattle.std.specs.declared.cmp.Ordering.TheVariants.{Less, Equal, Greater}
 use Rattle.ordered.specs.Numbered.{declares, numbered, Added}
-use Rattle.ordered.specs.Ordered.{order, number_in, worth, name_at, Rising, Placed, Inserted, Ordered, Meeting}
+use Rattle.ordered.specs.internal.Ordered.{order, number_in, worth, name_at, Rising, Placed, Inserted, Ordered, Meeting}
 use Rattle.ordered.proofs.Comparing.{order-refl, greater-less}
 use Rattle.ordered.proofs.Numbering.{by_equal, number-none, number-all, number-aside, number-other, number-fresh, number-kept}
 

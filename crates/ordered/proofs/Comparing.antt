@@ -4,7 +4,7 @@ use Rattle.model.proofs.Records.{by_less}
 use Rattle.std.specs.declared.cmp.Ordering.TheVariants.{Less, Equal, Greater}
 use Rattle.std.specs.Cmp.Lexicographic.{slice_cmp}
 use Rattle.std.specs.Ordering.{nat_cmp}
-use Rattle.ordered.specs.Ordered.{order}
+use Rattle.ordered.specs.internal.Ordered.{order}
 
 -- ---- laws of an order
 

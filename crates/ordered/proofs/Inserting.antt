@@ -1,7 +1,7 @@
 -- Insertion: the items from there on move up, the last one first.
 use Rattle.std.proofs.Common.{◌≡◌, refl, ◌∙◌, List, ℕ, ◌+◌, ◌-◌, ◌≤◌, ◌<◌, arith, length, get_or, set, length-set, get_or-set_same, get_or-set_other}
 use Rattle.model.proofs.Records.{by_less}
-use Rattle.ordered.specs.Ordered.{Inserted}
+use Rattle.ordered.specs.internal.Ordered.{Inserted}
 
 -- those from j on have moved up
 pub record Moving (old : List ℕ) (n p : ℕ) (new : List ℕ) (j : ℕ) : Type 0 where

@@ -9,7 +9,7 @@ use Rattle.texts.proofs.Comparing.{same-equal, equal-same}
 use Rattle.model.specs.Schema.{Item, Schema, item_at, positions_from, last, last_named, a_type, a_composite, an_enum}
 use Rattle.model.proofs.Searching.{named_so, last-yes, last-no}
 use Rattle.ordered.specs.Numbered.{declares, numbered}
-use Rattle.ordered.specs.Ordered.{last_by, number_in, worth}
+use Rattle.ordered.specs.internal.Ordered.{last_by, number_in, worth}
 
 -- case split: two numbers are equal, or not
 pub by_equal {ℓ} : {X : Type ℓ} (a b : ℕ) → (a ≡ b → X) → ((a ≡ b → ⊥) → X) → X

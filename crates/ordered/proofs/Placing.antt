@@ -4,7 +4,7 @@ use Rattle.model.proofs.Records.{by_less}
 use Rattle.model.specs.Schema.{Schema, item_at}
 use Rattle.std.specs.declared.cmp.Ordering.{Ordering}
 use Rattle.std.specs.declared.cmp.Ordering.TheVariants.{Less, Equal, Greater}
-use Rattle.ordered.specs.Ordered.{order, name_at, Rising, Placed}
+use Rattle.ordered.specs.internal.Ordered.{order, name_at, Rising, Placed}
 use Rattle.ordered.proofs.Numbering.{by_equal}
 use Rattle.ordered.proofs.Comparing.{order_same, order_trans, less-greater, greater-less}
 

@@ -1,3 +1,3 @@
 -- What a name is declared as, and names in sorted order.
 pub mod Numbered
-pub mod Ordered
+pub mod internal

@@ -8,7 +8,7 @@
 ghost use Rattle.std.specs.Prelude.{◌≡◌, ◌+◌, ◌<◌, ◌≤◌, length, set};
 ghost use Rattle.model.specs.Schema.{last_named, an_enum, a_composite, a_type};
 ghost use Rattle.ordered.specs.Numbered.{declares, numbered};
-ghost use Rattle.ordered.specs.Ordered.{Rising, Placed, Inserted, Ordered, Meeting};
+ghost use Rattle.ordered.specs.internal.Ordered.{Rising, Placed, Inserted, Ordered, Meeting};
 
 use model::view::View;
 use model::{COMPOSITE, ENUM, TYPE};
@@ -101,7 +101,7 @@ pub struct Names<'a> {
 impl<'a> Model for Names<'a> {
     ghost use Rattle.std.specs.Prelude.{◌≤◌, length};
     ghost use Rattle.ordered.specs.Numbered.{Added};
-    ghost use Rattle.ordered.specs.Ordered.{Ordered};
+    ghost use Rattle.ordered.specs.internal.Ordered.{Ordered};
 
     ghost Value = { Added };
 

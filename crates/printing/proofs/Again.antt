@@ -5,7 +5,7 @@ use Rattle.texts.specs.Text.{piece}
 use Rattle.texts.proofs.Pieces.{length-piece}
 use Rattle.texts.proofs.Stores.{get_or-sets-below, take-sets, piece-stored, piece-below}
 use Rattle.printing.specs.Printed.{last, past, skipped, laid, Printed}
-use Rattle.printing.specs.Standing.{Standing}
+use Rattle.printing.specs.internal.Standing.{Standing}
 use Rattle.printing.proofs.Sequencing.{first_part, second-part, length-printed}
 use Rattle.printing.proofs.Finishing.{past-below, laid-sets}
 use Rattle.printing.proofs.Passing.{past-skipped, Copying, copying-start, copying-length, copying-within, copying-on, copying-end}

@@ -4,4 +4,4 @@ pub mod Written
 pub mod Decimal
 pub mod Output
 pub mod Repeated
-pub mod Standing
+pub mod internal

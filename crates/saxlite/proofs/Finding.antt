@@ -9,12 +9,12 @@ use Rattle.texts.proofs.Scanning.{Scanning, scan-start, byte-on, byte-stop, coun
 use lib.Pow.{are_bytes}
 use Rattle.swar.specs.Word.{word_of, IsHalf}
 use Rattle.swar.proofs.Digits.{word-tells, bytes-are, front-is}
-use Rattle.swar.specs.Standing.{ShortText, StandsShort, Lacks}
+use Rattle.swar.specs.internal.Standing.{ShortText, StandsShort, Lacks}
 use Rattle.swar.proofs.Standing.{power-some}
 use Rattle.swar.proofs.Pairing.{lacks-start}
 use Rattle.tags.specs.Find.{find_in, find_from}
 use Rattle.tags.proofs.Searching.{byte-stands, find-here, find-next, find_none, search-start, search-on, found_from, found_inside, found-past}
-use Rattle.saxlite.specs.Passing.{Stands, FoundAt, FirstAt, EndsAt}
+use Rattle.saxlite.specs.internal.Passing.{Stands, FoundAt, FirstAt, EndsAt}
 
 -- ---- a search goes on where the needle does not stand
 

@@ -1,9 +1,9 @@
 -- Laws of the reader: what it yields at a cursor, and that it moves on.
 use Rattle.std.proofs.Common.{Option, Some, None, Result, Ok, Err, ◌≡◌, refl, ap, ◌∙◌, false, List, ℕ, ◌≤◌, arith, length, rules}
 use Rattle.refusals.specs.declared.Refusal.{Refusal}
-use Rattle.saxlite.specs.Passing.{is_silent, Passed, PassedAll}
+use Rattle.saxlite.specs.internal.Passing.{is_silent, Passed, PassedAll}
 use Rattle.saxlite.specs.Reader.{to_come, Yields}
-use Rattle.saxlite.specs.Moving.{bare, owing, Here, Asked, Advances}
+use Rattle.saxlite.specs.internal.Moving.{bare, owing, Here, Asked, Advances}
 use Rattle.saxlite.specs.Events.{events_from}
 use Rattle.saxlite.specs.declared.event.Event.TheVariants.{Close}
 use Rattle.saxlite.specs.declared.event.Owed.{Owed}

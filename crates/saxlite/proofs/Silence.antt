@@ -10,7 +10,7 @@ use Rattle.tags.specs.Find.{find_from}
 use Rattle.tags.proofs.Searching.{stands-within, found_from, found_inside}
 use Rattle.saxlite.specs.Event.{broken}
 use Rattle.saxlite.specs.Events.{past, past_end, events_at, events_from}
-use Rattle.saxlite.specs.Passing.{Passed, is_silent, PassedSome, PassedAll, Stands, FoundAt, FirstAt, EndsAt, EndPassed}
+use Rattle.saxlite.specs.internal.Passing.{Passed, is_silent, PassedSome, PassedAll, Stands, FoundAt, FirstAt, EndsAt, EndPassed}
 use Rattle.saxlite.proofs.Finding.{scan-found}
 use Rattle.saxlite.proofs.Following.{from-on}
 

@@ -13,9 +13,9 @@ use Rattle.tags.specs.declared.beginning.Opening.{Opening}
 use Rattle.tags.specs.declared.beginning.Beginning.{Beginning}
 use Rattle.tags.specs.Names.{prefix_length, local_name}
 use Rattle.tags.specs.Attributes.{tag_at}
-use Rattle.tags.specs.Noting.{NotedBy}
-use Rattle.tags.specs.Known.{keys_by}
-use Rattle.tags.specs.Beginning.{Opens, BeginsAt}
+use Rattle.tags.specs.internal.Noting.{NotedBy}
+use Rattle.tags.specs.internal.Known.{keys_by}
+use Rattle.tags.specs.internal.Beginning.{Opens, BeginsAt}
 use Rattle.tags.proofs.Searching.{stands-within, stands_on, stands-fits, scan-within, scan-moves}
 use Rattle.tags.proofs.Naming.{local-range, lost-within, lost-fits}
 use Rattle.tags.proofs.Coding.{by-keys}
@@ -23,9 +23,9 @@ use Rattle.tags.proofs.Ranges.{ending-past, ending-inside}
 use Rattle.tags.proofs.Begun.{closing-within, closing-fits, closing-next-fits, closing-lost, closing-local-fits, closing-ends, closing-due, closing-stands, closing-prefix, begun-from, begun-lost, begun-fits}
 use Rattle.saxlite.specs.Event.{Events, opens, closes, next, attributes_in}
 use Rattle.saxlite.specs.Events.{text_at, close_at, open_by, open_at, events_at, events_from}
-use Rattle.saxlite.specs.Passing.{is_silent}
+use Rattle.saxlite.specs.internal.Passing.{is_silent}
 use Rattle.saxlite.specs.Reader.{owed_before}
-use Rattle.saxlite.specs.Moving.{bare, behind, owing, Here}
+use Rattle.saxlite.specs.internal.Moving.{bare, behind, owing, Here}
 use Rattle.saxlite.specs.declared.event.Event.TheVariants.{Text, Open, Close}
 use Rattle.saxlite.specs.declared.event.Owed.{Owed}
 use Rattle.saxlite.specs.declared.event.Cursor.{Cursor}

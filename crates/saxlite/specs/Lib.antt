@@ -1,8 +1,6 @@
--- Reading markup: the events of a document, and the reader that yields them. A customer reads
--- Event, Events, Reader and Fuel; Moving and Passing are internal.
+-- Reading markup: the events of a document, and the reader that yields them.
 pub mod Event
 pub mod Events
 pub mod Reader
 pub mod Fuel
-pub mod Moving
-pub mod Passing
+pub mod internal

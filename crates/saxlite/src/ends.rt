@@ -7,8 +7,8 @@
 
 ghost use Rattle.std.specs.Prelude.{◌≡◌, List, [], ◌∷◌, ℕ, ◌+◌, ◌%◌, ◌≤◌, ◌<◌, length};
 ghost use Rattle.texts.specs.Text.{ascii};
-ghost use Rattle.swar.specs.Standing.{ShortText};
-ghost use Rattle.saxlite.specs.Passing.{Stands, FoundAt, FirstAt, EndsAt};
+ghost use Rattle.swar.specs.internal.Standing.{ShortText};
+ghost use Rattle.saxlite.specs.internal.Passing.{Stands, FoundAt, FirstAt, EndsAt};
 
 use tags::scan::find;
 use swar::{byte_from, stands_short, text_from};

@@ -3,7 +3,7 @@
 
 ghost use Rattle.std.specs.Prelude.{◌≡◌};
 ghost use Rattle.saxlite.specs.Reader.{cursor_at};
-ghost use Rattle.saxlite.specs.Moving.{bare};
+ghost use Rattle.saxlite.specs.internal.Moving.{bare};
 
 use tags::tag::{Notes, nothing};
 

@@ -5,8 +5,8 @@
 ghost use Rattle.std.specs.Prelude.{◌≡◌, false, ◌+◌, ◌≤◌, ◌<◌, length, drop};
 ghost use Rattle.texts.specs.Text.{ascii, starts_with};
 ghost use Rattle.saxlite.specs.Events.{events_from, text_at, close_at, open_at};
-ghost use Rattle.saxlite.specs.Moving.{behind, Here};
-ghost use Rattle.saxlite.specs.Passing.{is_silent};
+ghost use Rattle.saxlite.specs.internal.Moving.{behind, Here};
+ghost use Rattle.saxlite.specs.internal.Passing.{is_silent};
 
 use crate::event::{Cursor, Event, Owed, Read, Told};
 use refusals::Refusal;

@@ -6,7 +6,7 @@
 
 ghost use Rattle.std.specs.Prelude.{◌≡◌, true, ◌+◌, ◌≤◌, length};
 ghost use Rattle.texts.specs.Text.{ascii};
-ghost use Rattle.saxlite.specs.Passing.{Passed, PassedSome, PassedAll, is_silent, Stands, EndPassed};
+ghost use Rattle.saxlite.specs.internal.Passing.{Passed, PassedSome, PassedAll, is_silent, Stands, EndPassed};
 
 use crate::ends::{
     CommentEnd, DeclarationEnd, InstructionEnd, MarkupEnd, bracket_from, comment_end,

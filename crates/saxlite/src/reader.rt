@@ -3,7 +3,7 @@
 
 ghost use Rattle.std.specs.Prelude.{◌≡◌, None};
 ghost use Rattle.saxlite.specs.Reader.{cursor_at, Yields};
-ghost use Rattle.saxlite.specs.Moving.{bare, Asked, Advances};
+ghost use Rattle.saxlite.specs.internal.Moving.{bare, Asked, Advances};
 ghost use Rattle.saxlite.specs.declared.event.Event.TheVariants.{Close};
 
 use crate::event::{Cursor, Event, Owed, Read, Told};

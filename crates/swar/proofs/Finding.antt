@@ -9,7 +9,7 @@ use Rattle.texts.proofs.Choosing.{by-test, pick_yes, pick_no}
 use Rattle.texts.proofs.Pieces.{length-piece}
 use Rattle.texts.proofs.Scanning.{Scanning, count_yes, count_no}
 use Rattle.swar.specs.Word.{word_of}
-use Rattle.swar.specs.Marks.{mark, Marked}
+use Rattle.swar.specs.internal.Marks.{mark, Marked}
 
 -- ---- the zero bits below the lowest mark of a word
 

@@ -6,7 +6,7 @@ use Rattle.texts.specs.Lists.{Every}
 use Rattle.texts.specs.Text.{piece}
 use Rattle.texts.proofs.Choosing.{by-test, pick_yes, pick_no}
 use Rattle.swar.specs.Word.{word_of, IsWord}
-use Rattle.swar.specs.Marks.{mark, Marked}
+use Rattle.swar.specs.internal.Marks.{mark, Marked}
 
 -- ---- an operation on words is one on each byte
 

@@ -8,8 +8,8 @@ use Rattle.texts.specs.Text.{starts_with}
 use Rattle.texts.proofs.Choosing.{by-test, pick_yes, pick_no}
 use Rattle.texts.proofs.Comparing.{starts-yes, starts-no, starts-append}
 use Rattle.swar.specs.Word.{word_of}
-use Rattle.swar.specs.Marks.{mark, Marked, flags, Flagged}
-use Rattle.swar.specs.Standing.{Lacks}
+use Rattle.swar.specs.internal.Marks.{mark, Marked, flags, Flagged}
+use Rattle.swar.specs.internal.Standing.{Lacks}
 use Rattle.swar.proofs.Finding.{unmarked-byte, marked-byte}
 
 -- ---- where a text stands among n places, a byte for each

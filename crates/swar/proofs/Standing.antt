@@ -5,7 +5,7 @@ use Rattle.texts.specs.Choice.{◌and◌}
 use Rattle.texts.specs.Text.{piece, starts_with}
 use Rattle.texts.proofs.Comparing.{starts-append}
 use Rattle.swar.specs.Word.{IsWord}
-use Rattle.swar.specs.Standing.{ShortText, LongText, StandsShort, StandsLong}
+use Rattle.swar.specs.internal.Standing.{ShortText, LongText, StandsShort, StandsLong}
 use Rattle.swar.proofs.Digits.{word-starts, word-starts-whole}
 
 -- a power of 256 is positive

@@ -1,4 +1,3 @@
 -- Eight bytes as one number.
 pub mod Word
-pub mod Marks
-pub mod Standing
+pub mod internal

@@ -15,8 +15,8 @@ ghost use Rattle.std.proofs.lemmas.List.Edits.{sets};
 ghost use Rattle.texts.specs.Text.{piece, same};
 ghost use Rattle.texts.specs.Scan.{scan, until, is};
 ghost use Rattle.swar.specs.Word.{IsWord, IsHalf};
-ghost use Rattle.swar.specs.Marks.{Marked, Flagged};
-ghost use Rattle.swar.specs.Standing.{StandsShort, StandsLong, Lacks};
+ghost use Rattle.swar.specs.internal.Marks.{Marked, Flagged};
+ghost use Rattle.swar.specs.internal.Standing.{StandsShort, StandsLong, Lacks};
 
 /// 1 in each of the eight bytes.
 const ONES: u64 = 0x0101_0101_0101_0101;

@@ -7,16 +7,16 @@ use Rattle.texts.specs.Scan.{count_while, scan, until}
 use Rattle.texts.proofs.Choosing.{is_true, and_left, and_right}
 use Rattle.texts.proofs.Scanning.{count_no, scan-from}
 use Rattle.classes.specs.Class.{is_space, is_tag_name_end}
-use Rattle.swar.specs.Standing.{StandsShort, StandsLong}
+use Rattle.swar.specs.internal.Standing.{StandsShort, StandsLong}
 use Rattle.swar.proofs.Standing.{power-some}
 use Rattle.tags.specs.declared.beginning.Opening.{Opening}
 use Rattle.tags.specs.declared.beginning.Beginning.{Beginning}
 use Rattle.tags.specs.declared.tag.TagKind.{TagKind}
 use Rattle.tags.specs.declared.tag.TagKind.TheVariants.{Schema, Other}
 use Rattle.tags.specs.Names.{prefix_length, local_name}
-use Rattle.tags.specs.Noting.{keys_of}
-use Rattle.tags.specs.Known.{keys_by}
-use Rattle.tags.specs.Beginning.{raw_name, tagged_text, Says, Opens, KnownShort, KnownLong, BeginsAt}
+use Rattle.tags.specs.internal.Noting.{keys_of}
+use Rattle.tags.specs.internal.Known.{keys_by}
+use Rattle.tags.specs.internal.Beginning.{raw_name, tagged_text, Says, Opens, KnownShort, KnownLong, BeginsAt}
 use Rattle.tags.proofs.Searching.{stands-within}
 use Rattle.tags.proofs.Naming.{prefix-within, lost-within, lost-fits, local-range}
 use Rattle.tags.proofs.Knowing.{up-each, starts-split, count-to}

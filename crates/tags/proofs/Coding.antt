@@ -18,8 +18,8 @@ use Rattle.tags.specs.declared.tag.TagKind.{TagKind}
 use Rattle.tags.specs.declared.tag.TagKind.TheVariants.{Schema, «Type», Enum, Other}
 use Rattle.tags.specs.Names.{prefix_length, local_name, is_xmlns}
 use Rattle.tags.specs.Attributes.{tag_part_at, tag_at, later, attribute_at}
-use Rattle.tags.specs.Noting.{Keys, no_notes, found_at, value_if_named, keys_of, NotedWith, NotedBy}
-use Rattle.tags.specs.Known.{known_name, keys_by, codes, CodesOf, Apart, QuickAt, NamedAs, Declares, NotedMore}
+use Rattle.tags.specs.internal.Noting.{Keys, no_notes, found_at, value_if_named, keys_of, NotedWith, NotedBy}
+use Rattle.tags.specs.internal.Known.{known_name, keys_by, codes, CodesOf, Apart, QuickAt, NamedAs, Declares, NotedMore}
 use Rattle.tags.proofs.Tagging.{Going, part-less, part-value, going_on, going_end, going-bad}
 use Rattle.tags.proofs.Looking.{found-value, Looking, looking-start, looking-on, looking-end, looking-bad}
 use Rattle.tags.proofs.Knowing.{up-each, count-to, goes, plain_name, known-plain, goes-all, goes_other}

@@ -6,13 +6,13 @@ use Rattle.texts.proofs.Scanning.{scan-stop}
 use Rattle.texts.proofs.Choosing.{by-test, both_true}
 use Rattle.texts.proofs.Comparing.{same-equal, same-lengths, starts-yes, starts-no, starts-append, starts-long}
 use Rattle.swar.specs.Word.{word_of}
-use Rattle.swar.specs.Standing.{ShortText, StandsShort}
+use Rattle.swar.specs.internal.Standing.{ShortText, StandsShort}
 use Rattle.swar.proofs.Digits.{front-is}
 use Rattle.classes.specs.Class.{is_space, is_tag_name_end, is_attribute_name_end}
 use Rattle.tags.specs.declared.tag.Notes.{Notes}
 use Rattle.tags.specs.Names.{is_xmlns}
-use Rattle.tags.specs.Noting.{Keys}
-use Rattle.tags.specs.Known.{NotedMore}
+use Rattle.tags.specs.internal.Noting.{Keys}
+use Rattle.tags.specs.internal.Known.{NotedMore}
 use Rattle.tags.proofs.Knowing.{starts-split}
 use Rattle.tags.proofs.Looking.{named-xmlns}
 

@@ -16,7 +16,7 @@ use Rattle.tags.specs.declared.known.Known.{Known}
 use Rattle.tags.specs.declared.part.TagPart.{TagPart}
 use Rattle.tags.specs.Names.{is_xmlns}
 use Rattle.tags.specs.Attributes.{quoted_at, tag_part_at}
-use Rattle.tags.specs.Known.{known_name, IsKnown, up_to, Named, QuickAt}
+use Rattle.tags.specs.internal.Known.{known_name, IsKnown, up_to, Named, QuickAt}
 use Rattle.tags.proofs.Searching.{stands-within}
 use Rattle.tags.proofs.Parting.{value-double, attribute-valued, part-attribute}
 

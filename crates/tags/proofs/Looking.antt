@@ -11,7 +11,7 @@ use Rattle.tags.specs.declared.part.TagPart.TheVariants.{Attribute as Part, TagE
 use Rattle.tags.specs.declared.tag.Notes.{Notes}
 use Rattle.tags.specs.Names.{prefix_length, is_xmlns}
 use Rattle.tags.specs.Attributes.{tag_part_at, Tag, with_part, tag_at, later, last_of, attribute_at}
-use Rattle.tags.specs.Noting.{found_at, noted_of, value_if_named}
+use Rattle.tags.specs.internal.Noting.{found_at, noted_of, value_if_named}
 use Rattle.tags.proofs.Naming.{local-of}
 use Rattle.tags.proofs.Tagging.{tag-part, tag-end, tag-bad}
 use Rattle.tags.proofs.Placeless.{any_part, any-end, any-bad}

@@ -5,9 +5,9 @@ use Rattle.texts.specs.Choice.{◌and◌}
 use Rattle.texts.proofs.Choosing.{is_true, and_left, and_right}
 use Rattle.texts.specs.Text.{ascii, starts_with}
 use Rattle.swar.specs.Word.{word_of}
-use Rattle.swar.specs.Standing.{ShortText, LongText, StandsShort, StandsLong}
+use Rattle.swar.specs.internal.Standing.{ShortText, LongText, StandsShort, StandsLong}
 use Rattle.swar.proofs.Standing.{power-some}
-use Rattle.tags.specs.Known.{known_name, known_text, IsKnown, ToldShort, ToldLong, ToldText}
+use Rattle.tags.specs.internal.Known.{known_name, known_text, IsKnown, ToldShort, ToldLong, ToldText}
 
 -- ---- the comparison with one name
 

@@ -3,17 +3,17 @@
 //! comparing one or two words of eight bytes finds it. Any other raw name is scanned.
 //!
 //! As in `known`, a text to compare is given by integers, and callers test for sixteen bytes.
-#![tactic(auto, unfolding(swar::specs::Word::word_of, crate::specs::Noting::keys_of, crate::specs::Names::prefix_length, texts::specs::Text::same), using(crate::proofs::Laws::beginning))]
+#![tactic(auto, unfolding(swar::specs::Word::word_of, crate::specs::internal::Noting::keys_of, crate::specs::Names::prefix_length, texts::specs::Text::same), using(crate::proofs::Laws::beginning))]
 
 ghost use Rattle.std.specs.Prelude.{◌≡◌, ◌+◌, ◌≤◌, length};
-ghost use Rattle.tags.specs.Beginning.{tagged_text, KnownBeginning, KnownShort, KnownLong, BeginsAt};
+ghost use Rattle.tags.specs.internal.Beginning.{tagged_text, KnownBeginning, KnownShort, KnownLong, BeginsAt};
 
 use crate::scan::raw_name;
 use crate::tag::TagKind::{Enum, Other, Schema, Type};
 use crate::tag::{TagKind, kind_of};
 use swar::{stands_long, stands_short};
 
-/// A known beginning: the code of its raw name (specs/Beginning.antt; a number, as in `known`),
+/// A known beginning: the code of its raw name (specs/internal/Beginning.antt; a number, as in `known`),
 /// which names matter there, and the lengths of the raw name and of its prefix.
 #[derive(Clone, Copy)]
 pub struct Opening {

@@ -9,12 +9,12 @@
 #![tactic(auto, unfolding(swar::specs::Word::word_of), using(crate::proofs::Laws::telling))]
 
 ghost use Rattle.std.specs.Prelude.{◌≡◌, ◌+◌, ◌≤◌, length};
-ghost use Rattle.tags.specs.Known.{KnownAt, keys_by, CodesOf, Apart, ToldShort, ToldLong, ToldText};
+ghost use Rattle.tags.specs.internal.Known.{KnownAt, keys_by, CodesOf, Apart, ToldShort, ToldLong, ToldText};
 
 use crate::tag::TagKind;
 use swar::{stands_long, stands_short};
 
-/// A known attribute: the code of its name (specs/Known.antt), and how far its value is from the
+/// A known attribute: the code of its name (specs/internal/Known.antt), and how far its value is from the
 /// space before the name, which is the name's length and 3: one addition finds the value. The code
 /// is a number, not an enum, since the proofs compute over all codes.
 #[derive(Clone, Copy)]

@@ -4,7 +4,7 @@
 
 ghost use Rattle.std.specs.Prelude.{◌≡◌, ℕ, ◌≤◌, length};
 ghost use Rattle.tags.specs.Attributes.{quoted_at, value_at};
-ghost use Rattle.tags.specs.Dropping.{Unchanged, next_of};
+ghost use Rattle.tags.specs.internal.Dropping.{Unchanged, next_of};
 
 use crate::scan::{attribute_name_end, is_xmlns_at, skip_space};
 use swar::byte_from;

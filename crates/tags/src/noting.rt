@@ -5,8 +5,8 @@ ghost use Rattle.std.specs.Prelude.{◌≡◌, false, [], ◌+◌, ◌<◌, ◌^
 ghost use Rattle.texts.specs.Choice.{pick};
 ghost use Rattle.texts.specs.Text.{piece};
 ghost use Rattle.tags.specs.Names.{is_xmlns};
-ghost use Rattle.tags.specs.Noting.{Keys, NotedWith};
-ghost use Rattle.tags.specs.Known.{known_name, keys_by, CodesOf, Apart, NamedAs, Declares, NotedMore};
+ghost use Rattle.tags.specs.internal.Noting.{Keys, NotedWith};
+ghost use Rattle.tags.specs.internal.Known.{known_name, keys_by, CodesOf, Apart, NamedAs, Declares, NotedMore};
 
 use crate::known::Codes;
 use crate::scan::{is_xmlns_at, prefix_len};

@@ -3,7 +3,7 @@
 
 ghost use Rattle.std.specs.Prelude.{◌≡◌, ◌+◌, ◌≤◌, length};
 ghost use Rattle.tags.specs.Attributes.{quoted_at, value_at, attribute_part_at, tag_part_at};
-ghost use Rattle.tags.specs.Known.{QuickAt};
+ghost use Rattle.tags.specs.internal.Known.{QuickAt};
 
 use crate::known::known_at;
 use crate::scan::{attribute_name_end, skip_space};
@@ -152,7 +152,7 @@ pub fn tag_part(doc: &[u8], at: usize, place: usize) -> Result<TagPart, Refusal>
     attribute_part(doc, i, place)
 }
 
-/// A part of a tag, and the code of the attribute's name if it is known (specs/Known.antt).
+/// A part of a tag, and the code of the attribute's name if it is known (specs/internal/Known.antt).
 #[derive(Clone, Copy)]
 pub struct Quick {
     pub code: Option<usize>,

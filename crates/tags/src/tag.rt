@@ -6,8 +6,8 @@ ghost use Rattle.texts.specs.Choice.{pick};
 ghost use Rattle.texts.specs.Text.{piece};
 ghost use Rattle.tags.specs.Names.{is_xmlns};
 ghost use Rattle.tags.specs.Attributes.{tag_at, attribute_at};
-ghost use Rattle.tags.specs.Noting.{Keys, no_notes, found_at, noted_of, NotedWith, NotedBy, keys_of};
-ghost use Rattle.tags.specs.Known.{known_name, keys_by, CodesOf, Apart, NamedAs, Declares, NotedMore};
+ghost use Rattle.tags.specs.internal.Noting.{Keys, no_notes, found_at, noted_of, NotedWith, NotedBy, keys_of};
+ghost use Rattle.tags.specs.internal.Known.{known_name, keys_by, CodesOf, Apart, NamedAs, Declares, NotedMore};
 
 use crate::known::codes_of;
 use crate::namespaces::past_declarations;
@@ -16,7 +16,7 @@ use crate::part::{Ending, Quick, TagPart, quick_part, tag_part};
 use refusals::Refusal;
 use texts::Range;
 
-/// Tags by the attribute names that matter in them (`keys_by`, specs/Known.antt).
+/// Tags by the attribute names that matter in them (`keys_by`, specs/internal/Known.antt).
 #[derive(Clone, Copy)]
 pub enum TagKind {
     Schema,

@@ -10,9 +10,9 @@ use Rattle.charsets.specs.Charset.{compatible}
 use Rattle.model.specs.Schema.{Item, Schema, item_at, all_of, under, a_member, a_ref, an_enum, a_value, a_message, a_group, a_field}
 use Rattle.xmltoproto.specs.Types.{Form, form, form_of, built_in, chars, is_char, is_byte, is_raw, Meaning, meaning}
 use Rattle.xmltoproto.specs.Composites.{printed_composites}
-use Rattle.xmltoproto.specs.Shapes.{meaning_in}
+use Rattle.xmltoproto.specs.internal.Shapes.{meaning_in}
 use Rattle.wiresheet.specs.Sheet.{named, kind_of, kind_by, value_of, enum_of, member_of, ref_of, composite_of, field_of, group_of, message_of, sheet, shown, kind_shown, enum_shown, composite_shown, field_shown, group_shown, message_shown, sheet_lines}
-use Rattle.wiresheet.specs.SheetLines.{value_shown, part_shown, group_line, schema_line}
+use Rattle.wiresheet.specs.internal.SheetLines.{value_shown, part_shown, group_line, schema_line}
 use Rattle.xmltoproto.specs.declared.types.Sense.{Sense}
 use Rattle.xmltoproto.specs.declared.types.Sense.TheVariants as sense
 use Rattle.xmltoproto.proofs.Sources.{form-seen}

@@ -9,7 +9,7 @@ ghost use Rattle.model.specs.Schema.{Schema, item_at, under, all_of};
 ghost use Rattle.xmltoproto.specs.Types.{form, form_of, meaning};
 ghost use Rattle.xmltoproto.specs.Composites.{is_printed};
 ghost use Rattle.wiresheet.specs.Sheet.{named, kind_of, kind_by, value_of, enum_of, member_of, ref_of, composite_of, field_of, group_of, message_of, sheet, kind_shown, enum_shown, composite_shown, field_shown, group_shown, message_shown, sheet_lines};
-ghost use Rattle.wiresheet.specs.SheetLines.{value_shown, part_shown, group_line, schema_line};
+ghost use Rattle.wiresheet.specs.internal.SheetLines.{value_shown, part_shown, group_line, schema_line};
 
 use charsets::is_compatible;
 use names::convert::{write_screaming, write_singular, write_snake};

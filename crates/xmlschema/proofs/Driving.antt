@@ -5,18 +5,18 @@ use Rattle.refusals.specs.declared.Refusal.TheVariants.{OpenElements}
 use Rattle.saxlite.specs.Event.{Event, Events, broken, done, next}
 use Rattle.saxlite.specs.Events.{events}
 use Rattle.saxlite.specs.Reader.{cursor_at, event_in, to_come, Yields}
-use Rattle.saxlite.specs.Moving.{takes, Inside, NotedIn, left, Moves, Advances}
+use Rattle.saxlite.specs.internal.Moving.{takes, Inside, NotedIn, left, Moves, Advances}
 use Rattle.saxlite.specs.declared.event.Told.{Told}
 use Rattle.saxlite.specs.declared.reader.Reader.{Reader}
-use Rattle.model.specs.Store.{items_of, schema_of}
+use Rattle.model.specs.internal.Store.{items_of, schema_of}
 use Rattle.builder.specs.Builder.{Builder, on, refused}
-use Rattle.builder.specs.Layout.{builder_in, stack_of, first, model_in, Kept, Ready, Same, After}
+use Rattle.builder.specs.internal.Layout.{builder_in, stack_of, first, model_in, Kept, Ready, Same, After}
 use Rattle.builder.specs.declared.state.Limits.{Limits}
 use Rattle.builder.specs.declared.state.State.{State}
 use Rattle.builder.specs.declared.work.Work.{Work}
 use Rattle.builder.proofs.Stacking.{length-stack}
 use Rattle.xmlschema.specs.Whole.{Whole, step, accepted, refused_by, built, empty, ending, reading}
-use Rattle.xmlschema.specs.Driving.{with_state, Driving}
+use Rattle.xmlschema.specs.internal.Driving.{with_state, Driving}
 
 -- before the first event
 pub drive-start : {r : Reader} {w : Work} → Kept w first → r.doc.now ≡ w.doc.now → r.cursor ≡ cursor_at 0 → Driving r w first

@@ -6,11 +6,11 @@ use Rattle.tags.specs.declared.tag.Notes.{Notes}
 use Rattle.entities.specs.Entities.{decoded}
 use Rattle.saxlite.specs.Event.{attributes_in}
 use Rattle.saxlite.specs.Reader.{event_in}
-use Rattle.saxlite.specs.Moving.{takes, Inside, NotedIn}
+use Rattle.saxlite.specs.internal.Moving.{takes, Inside, NotedIn}
 use Rattle.saxlite.specs.declared.event.Event.{Event}
 use Rattle.saxlite.specs.declared.event.Event.TheVariants.{Text, Open, Close}
 use Rattle.builder.specs.Builder.{Builder, on, opened, closed, collect}
-use Rattle.builder.specs.Layout.{Ready, IsTag, After}
+use Rattle.builder.specs.internal.Layout.{Ready, IsTag, After}
 use Rattle.builder.specs.declared.state.State.{State}
 use Rattle.builder.specs.declared.work.Work.{Work}
 use Rattle.xmlschema.specs.Whole.{step}

@@ -1,5 +1,5 @@
--- Reading a whole document. A customer reads Whole, Read and Tracking; Driving is internal.
+-- Reading a whole document.
 pub mod Whole
 pub mod Read
 pub mod Tracking
-pub mod Driving
+pub mod internal

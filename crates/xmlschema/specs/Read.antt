@@ -1,7 +1,7 @@
 -- Rules: Limits and refusals. What reading a document answers, and what the work buffers hold then.
 use Rattle.std.specs.Prelude.{◌≡◌, List, ◌⊎◌, ℕ, ◌<◌, length, Result, Ok, Err}
 use Rattle.refusals.specs.declared.Refusal.{Refusal}
-use Rattle.model.specs.Store.{schema_of}
+use Rattle.model.specs.internal.Store.{schema_of}
 use Rattle.model.specs.declared.Model.{Model}
 use Rattle.xmlschema.specs.Whole.{Whole, accepted, refused_by, answer_of}
 

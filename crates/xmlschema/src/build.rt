@@ -4,7 +4,7 @@
 ghost use Rattle.std.specs.Prelude.{◌≡◌, ◌≤◌, length};
 ghost use Rattle.xmlschema.specs.Whole.{reading};
 ghost use Rattle.xmlschema.specs.Read.{shown, ReadInto};
-ghost use Rattle.xmlschema.specs.Driving.{with_state, Takes, Stepped};
+ghost use Rattle.xmlschema.specs.internal.Driving.{with_state, Takes, Stepped};
 
 use builder::state::{Limits, State};
 use builder::work::{Tag, Work};

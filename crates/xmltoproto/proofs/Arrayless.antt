@@ -9,7 +9,7 @@ use Rattle.model.specs.Schema.{Schema, item_at, no_item, all_of, under, last_nam
 use Rattle.xmltoproto.specs.Types.{form_of, built_in, built_ins, is_array, is_declared, type_or, meaning}
 use Rattle.xmltoproto.specs.Composites.{is_printed}
 use Rattle.xmltoproto.specs.Arrays.{first_from, refused_composite, is_array_type, holds_array, refused_message, array_refusal}
-use Rattle.xmltoproto.specs.Refusing.{refusing, Arrayless}
+use Rattle.xmltoproto.specs.internal.Refusing.{refusing, Arrayless}
 
 -- ---- a test that holds of nothing
 

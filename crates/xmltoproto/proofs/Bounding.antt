@@ -7,7 +7,7 @@ use Rattle.printing.specs.Decimal.{decimal}
 use Rattle.model.specs.Schema.{Item, Schema, item_at, positions_from, all_of, under, a_member, a_ref, a_composite, an_enum, a_value, a_message, a_group, a_field}
 use Rattle.xmltoproto.specs.Composites.{is_printed, printed_composites}
 use Rattle.xmltoproto.specs.Source.{package_line, header, value_text, enum_text, member_text, ref_text, part_texts, composite_text, field_text, group_text, message_text, source}
-use Rattle.xmltoproto.specs.Bound.{enum_most, value_most, composite_most, member_most, ref_most, message_most, group_most, field_most, share}
+use Rattle.xmltoproto.specs.internal.Bound.{enum_most, value_most, composite_most, member_most, ref_most, message_most, group_most, field_most, share}
 use Rattle.model.proofs.Searching.{owned_so}
 use Rattle.xmltoproto.proofs.Looping.{at_most}
 use Rattle.xmltoproto.proofs.Lengths.{pick-most, snake-most, singular-most}

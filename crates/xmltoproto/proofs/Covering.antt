@@ -9,7 +9,7 @@ use Rattle.index.specs.declared.seen.Declaration.TheVariants.{Named, Typed}
 use Rattle.model.specs.Schema.{Item, Schema, item_at}
 use Rattle.xmltoproto.specs.Types.{form_of, built_in}
 use Rattle.xmltoproto.specs.Source.{source}
-use Rattle.xmltoproto.specs.Bound.{named_most, note_most, typed_most, value_most, field_by, field_most, share, Covers}
+use Rattle.xmltoproto.specs.internal.Bound.{named_most, note_most, typed_most, value_most, field_by, field_most, share, Covers}
 use Rattle.xmltoproto.proofs.Owning.{sum_to}
 use Rattle.xmltoproto.proofs.Bounding.{source-most}
 

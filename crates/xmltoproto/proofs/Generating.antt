@@ -13,7 +13,7 @@ use Rattle.printing.proofs.Finishing.{no_room, wrote, wrote-output}
 use Rattle.model.specs.Schema.{Schema}
 use Rattle.xmltoproto.specs.Source.{source}
 use Rattle.xmltoproto.specs.Arrays.{array_refusal}
-use Rattle.xmltoproto.specs.Refusing.{refusing}
+use Rattle.xmltoproto.specs.internal.Refusing.{refusing}
 use Rattle.xmltoproto.specs.Generate.{generated, Generated}
 
 some-refused : (o : Option Refusal) (q : Refusal) → Err q ≡ refusing o → o ≡ Some q

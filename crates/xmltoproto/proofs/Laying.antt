@@ -8,7 +8,7 @@ use Rattle.printing.proofs.Writing.{◌▹◌}
 use Rattle.escaping.specs.Escape.{quoted}
 use Rattle.xmltoproto.specs.Types.{Proto, note_on}
 use Rattle.xmltoproto.specs.Source.{note_line, bracketed, line}
-use Rattle.xmltoproto.specs.Shapes.{length_option, encoding_option}
+use Rattle.xmltoproto.specs.internal.Shapes.{length_option, encoding_option}
 
 note-text : (i e : List ℕ) → i ++ ascii "// SBE characterEncoding " ++ quoted e ++ ascii " is not UTF-8 compatible, so this field is bytes.\n" ≡ note_line i (note_on e)
 unfolding note_line note_on

@@ -14,7 +14,7 @@ use Rattle.index.specs.declared.seen.Declaration.TheVariants.{Named, Typed}
 use Rattle.model.specs.Schema.{Item, Schema, item_at}
 use Rattle.xmltoproto.specs.Types.{Form, Proto, form_of, built_ins, built_in, is_char, chars, is_raw, as_named, of_length, note_on, narrow, as_primitive, proto_of, proto_by}
 use Rattle.xmltoproto.specs.Source.{value_text, note_line, bracketed, line, member_text, ref_text, field_text}
-use Rattle.xmltoproto.specs.Bound.{named_most, note_most, typed_most, value_most, member_most, ref_most, field_by, field_most}
+use Rattle.xmltoproto.specs.internal.Bound.{named_most, note_most, typed_most, value_most, member_most, ref_most, field_by, field_most}
 use Rattle.xmltoproto.proofs.Typing.{declared_so, declared-means}
 use Rattle.xmltoproto.proofs.Lengths.{snake-most, screaming-most, prefix-most, decimal-most, quoted-most}
 

@@ -8,7 +8,7 @@ use Rattle.printing.specs.declared.Output.{Output}
 use Rattle.model.specs.Schema.{Item, Schema, positions_from, all_of, under, a_member, a_ref}
 use Rattle.model.proofs.Searching.{owned_so}
 use Rattle.xmltoproto.specs.Arrays.{first_from}
-use Rattle.xmltoproto.specs.Parts.{Members}
+use Rattle.xmltoproto.specs.internal.Parts.{Members}
 use Rattle.printing.proofs.Writing.{written-append, written-nothing, length-written}
 
 -- ---- f of each position of l, of which `left` are still to come: once they are written, all are

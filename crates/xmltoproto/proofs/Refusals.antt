@@ -6,8 +6,8 @@ use Rattle.model.specs.Schema.{Item, Schema, item_at, all_of, under, a_member, a
 use Rattle.xmltoproto.specs.Types.{form, form_of, built_in, is_char, is_byte, is_array, meaning}
 use Rattle.xmltoproto.specs.Composites.{is_printed}
 use Rattle.xmltoproto.specs.Arrays.{first_from, refused_composite, is_array_type, holds_array, refused_message, array_refusal}
-use Rattle.xmltoproto.specs.Shapes.{meaning_in}
-use Rattle.xmltoproto.specs.Refusing.{refusing}
+use Rattle.xmltoproto.specs.internal.Shapes.{meaning_in}
+use Rattle.xmltoproto.specs.internal.Refusing.{refusing}
 use Rattle.xmltoproto.specs.declared.types.Sense.{Sense}
 use Rattle.xmltoproto.specs.declared.types.Sense.TheVariants as sense
 

@@ -7,7 +7,7 @@ use Rattle.printing.specs.Decimal.{decimal}
 use Rattle.printing.specs.Printed.{skipped}
 use Rattle.printing.specs.Written.{Wrote}
 use Rattle.printing.specs.declared.Output.{Output}
-use Rattle.printing.specs.Standing.{Standing}
+use Rattle.printing.specs.internal.Standing.{Standing}
 use Rattle.printing.proofs.Writing.{◌▹◌}
 use Rattle.xmltoproto.proofs.Outputs.{blank, printed-of}
 use Rattle.printing.proofs.Again.{standing-within}
@@ -20,8 +20,8 @@ use Rattle.model.specs.Schema.{Item, Schema, no_item, item_at, positions_from, a
 use Rattle.xmltoproto.specs.Types.{built_ins, form, form_of, built_in, as_named, proto_of, proto_by, Meaning, typed, unknown, meaning}
 use Rattle.xmltoproto.specs.Composites.{is_printed, printed_composites}
 use Rattle.xmltoproto.specs.Source.{package_line, header, value_text, line, member_text, ref_text, part_texts, field_text, group_text, message_text}
-use Rattle.xmltoproto.specs.Shapes.{proto_in}
-use Rattle.xmltoproto.specs.Parts.{Members}
+use Rattle.xmltoproto.specs.internal.Shapes.{proto_in}
+use Rattle.xmltoproto.specs.internal.Parts.{Members}
 use Rattle.xmltoproto.specs.declared.types.Shape.{Shape}
 use Rattle.xmltoproto.specs.declared.types.Shape.TheVariants as shape
 use Rattle.xmltoproto.proofs.Typing.{undeclared-shape, declared_so, means}

@@ -4,7 +4,7 @@ ghost use Rattle.texts.specs.Lists.{any};
 ghost use Rattle.model.specs.Schema.{Schema, item_at, under, all_of};
 ghost use Rattle.xmltoproto.specs.Types.{form_of, is_array, meaning};
 ghost use Rattle.xmltoproto.specs.Arrays.{first_from, refused_composite, is_array_type, holds_array, refused_message, array_refusal};
-ghost use Rattle.xmltoproto.specs.Refusing.{refusing, Arrayless};
+ghost use Rattle.xmltoproto.specs.internal.Refusing.{refusing, Arrayless};
 
 use crate::composites::is_printed;
 use crate::types::{Sense, is_array, sense_of};

@@ -1,6 +1,6 @@
 //! An upper bound of the source's length, in one pass over the items that looks at no text.
 //!
-//! Each item counts with the most that it may print, printed or not (specs/Bound.antt); the
+//! Each item counts with the most that it may print, printed or not (specs/internal/Bound.antt); the
 //! constants are the lengths of the fixed text around names and numbers. The sum is a bound since
 //! each item has one owner (proofs/Owning.antt).
 ghost use Rattle.std.specs.Prelude.{◌≡◌, ◌≤◌, ◌<◌, ◌^◌, length};
@@ -8,7 +8,7 @@ ghost use Rattle.printing.specs.Decimal.{decimal};
 ghost use Rattle.model.specs.Schema.{item_at, a_field};
 ghost use Rattle.xmltoproto.specs.Types.{form_of};
 ghost use Rattle.xmltoproto.specs.Source.{source};
-ghost use Rattle.xmltoproto.specs.Bound.{named_most, note_most, typed_most, value_most, field_most, share, Covers};
+ghost use Rattle.xmltoproto.specs.internal.Bound.{named_most, note_most, typed_most, value_most, field_most, share, Covers};
 
 use index::seen::{Declaration, Index};
 use model::{COMPOSITE, ENUM, FIELD, GROUP, MEMBER, MESSAGE, REF, VALUE};

@@ -8,7 +8,7 @@ ghost use Rattle.printing.specs.Written.{Wrote};
 ghost use Rattle.model.specs.Schema.{item_at, under, a_member, a_ref};
 ghost use Rattle.xmltoproto.specs.Composites.{is_printed};
 ghost use Rattle.xmltoproto.specs.Source.{member_text, ref_text, part_texts, composite_text};
-ghost use Rattle.xmltoproto.specs.Parts.{Members};
+ghost use Rattle.xmltoproto.specs.internal.Parts.{Members};
 
 use crate::line::{write_line, write_typed};
 use crate::types::Shape;

@@ -9,7 +9,7 @@ ghost use Rattle.std.specs.Prelude.{◌≡◌};
 ghost use Rattle.texts.specs.Lists.{each};
 ghost use Rattle.printing.specs.Written.{Wrote};
 ghost use Rattle.printing.specs.Printed.{past};
-ghost use Rattle.printing.specs.Standing.{Standing};
+ghost use Rattle.printing.specs.internal.Standing.{Standing};
 ghost use Rattle.names.specs.Conversions.{prefix_of};
 ghost use Rattle.model.specs.Schema.{item_at, under, a_value};
 ghost use Rattle.xmltoproto.specs.Source.{value_text, enum_text};

@@ -9,9 +9,9 @@ ghost use Rattle.printing.specs.Written.{Wrote};
 ghost use Rattle.names.specs.Conversions.{camel_to_snake};
 ghost use Rattle.model.specs.Schema.{item_at};
 ghost use Rattle.xmltoproto.specs.Types.{note_on, form_of, proto_of};
-ghost use Rattle.xmltoproto.specs.Parts.{indent_of};
+ghost use Rattle.xmltoproto.specs.internal.Parts.{indent_of};
 ghost use Rattle.xmltoproto.specs.Source.{note_line, bracketed, line};
-ghost use Rattle.xmltoproto.specs.Shapes.{note_in, word_in, option_in, proto_in, length_option, encoding_option};
+ghost use Rattle.xmltoproto.specs.internal.Shapes.{note_in, word_in, option_in, proto_in, length_option, encoding_option};
 
 use crate::types::{Shape, shape_of};
 use names::convert::write_snake;
@@ -145,7 +145,7 @@ fn write_encoding(out: &mut Output<'_>, primitive: &[u8])
 }
 
 /// Writes the option of a shape, if it has one, and ends the line.
-#[tactic(auto, unfolding(crate::specs::Source::bracketed, crate::specs::Shapes::length_option, crate::specs::Shapes::encoding_option), using(printing::proofs::Writing::writing))]
+#[tactic(auto, unfolding(crate::specs::Source::bracketed, crate::specs::internal::Shapes::length_option, crate::specs::internal::Shapes::encoding_option), using(printing::proofs::Writing::writing))]
 fn write_end(out: &mut Output<'_>, shape: Shape, primitive: &[u8])
     ensures { Wrote out.old out.new (bracketed (option_in shape primitive.now) ++ ascii ";\n") }
 {

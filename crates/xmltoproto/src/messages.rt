@@ -8,7 +8,7 @@ ghost use Rattle.names.specs.Conversions.{camel_to_snake};
 ghost use Rattle.model.specs.Schema.{item_at};
 ghost use Rattle.xmltoproto.specs.Types.{built_ins, built_in, as_named, proto_of};
 ghost use Rattle.xmltoproto.specs.Source.{line, field_text, group_text, message_text};
-ghost use Rattle.xmltoproto.specs.Parts.{indent_of, group_head};
+ghost use Rattle.xmltoproto.specs.internal.Parts.{indent_of, group_head};
 
 use crate::line::{write_line, write_typed};
 use crate::types::{Shape, shape_of};
@@ -87,7 +87,7 @@ impl ItemText for FieldLine {
 }
 
 /// Writes a group's message as far as its last field.
-#[tactic(auto, unfolding(crate::specs::Parts::group_head), using(printing::proofs::Writing::writing))]
+#[tactic(auto, unfolding(crate::specs::internal::Parts::group_head), using(printing::proofs::Writing::writing))]
 fn write_group_head(out: &mut Output<'_>, s: &Index<'_>, g: u32)
     ensures { Wrote out.old out.new (group_head s.now g) }
 {
@@ -103,7 +103,7 @@ struct GroupText;
 impl ItemText for GroupText {
     ghost text = { λ t s i. group_text s i };
 
-    #[tactic(auto, unfolding(crate::specs::Parts::group_head, crate::specs::Source::group_text), using(printing::proofs::Writing::writing))]
+    #[tactic(auto, unfolding(crate::specs::internal::Parts::group_head, crate::specs::Source::group_text), using(printing::proofs::Writing::writing))]
     fn write(&self, out: &mut Output<'_>, s: &Index<'_>, i: u32) {
         let name = s.name(i);
         write_group_head(out, s, i);

@@ -6,7 +6,7 @@ ghost use Rattle.texts.specs.Lists.{among};
 ghost use Rattle.model.specs.Schema.{Schema};
 ghost use Rattle.index.specs.Declarations.{declaration_of};
 ghost use Rattle.xmltoproto.specs.Types.{built_ins, chars, is_byte, is_raw, is_array, as_primitive, form, proto_of, meaning};
-ghost use Rattle.xmltoproto.specs.Shapes.{proto_in, meaning_in};
+ghost use Rattle.xmltoproto.specs.internal.Shapes.{proto_in, meaning_in};
 
 use charsets::is_compatible;
 use index::seen::Declaration;

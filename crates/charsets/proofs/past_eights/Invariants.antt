@@ -1,5 +1,5 @@
 use Rattle.std.proofs.Common.{◌-◌, length}
-use Rattle.charsets.specs.Letters.{Passed}
+use Rattle.charsets.specs.internal.Letters.{Passed}
 use Rattle.charsets.proofs.past_eights.Given as goal
 
 abbrev pub invariant-loop-i : goal.invariant-loop-i

@@ -1,5 +1,5 @@
 use Rattle.std.proofs.Common.{◌-◌, length}
-use Rattle.entities.specs.Copying.{PlainTo}
+use Rattle.entities.specs.internal.Copying.{PlainTo}
 use Rattle.entities.proofs.copy_plain.Given as goal
 
 abbrev pub invariant-loop-i : goal.invariant-loop-i

@@ -1,4 +1,4 @@
-use Rattle.model.specs.Store.{entry_at}
+use Rattle.model.specs.internal.Store.{entry_at}
 use Rattle.model.proofs.entry_at.Goals as goal
 
 pub returns : goal.returns

@@ -1,5 +1,5 @@
 use lib.ListN.{take}
-use Rattle.swar.specs.Marks.{Flagged}
+use Rattle.swar.specs.internal.Marks.{Flagged}
 use Rattle.swar.proofs.marks_of.Given as goal
 
 abbrev pub invariant-loop-k : goal.invariant-loop-k

@@ -1,5 +1,5 @@
 use Rattle.std.proofs.Common.{◌-◌, length}
-use Rattle.swar.specs.Standing.{Lacks}
+use Rattle.swar.specs.internal.Standing.{Lacks}
 use Rattle.swar.proofs.text_from.Given as goal
 
 abbrev pub invariant-loop-i : goal.invariant-loop-i

@@ -1,5 +1,5 @@
 use lib.ListN.{length}
-use Rattle.names.specs.Rules.{cased_at}
+use Rattle.names.specs.internal.Rules.{cased_at}
 use Rattle.names.proofs.Storing.{Storing}
 use Rattle.names.proofs.convert.store.Given as goal
 

@@ -1,6 +1,6 @@
 use Rattle.printing.specs.Repeated.{up_to}
 use Rattle.printing.specs.Written.{Wrote}
-use Rattle.names.specs.Rules.{cased_at}
+use Rattle.names.specs.internal.Rules.{cased_at}
 use Rattle.names.proofs.convert.write_each.Given as goal
 
 abbrev pub invariant-loop-i : goal.invariant-loop-i

@@ -1,5 +1,5 @@
 use Rattle.std.proofs.Common.{◌≡◌, ◌+◌, ◌-◌, length}
-use Rattle.saxlite.specs.Passing.{Passed}
+use Rattle.saxlite.specs.internal.Passing.{Passed}
 use Rattle.saxlite.proofs.passing.past_declarations.Given as goal
 
 abbrev pub invariant-loop-i : goal.invariant-loop-i

@@ -1,5 +1,5 @@
 use Rattle.std.proofs.Common.{◌-◌, length}
-use Rattle.tags.specs.Dropping.{Unchanged}
+use Rattle.tags.specs.internal.Dropping.{Unchanged}
 use Rattle.tags.proofs.namespaces.past_row.Given as goal
 
 abbrev pub invariant-loop-i : goal.invariant-loop-i

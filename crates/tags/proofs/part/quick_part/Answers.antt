@@ -1,6 +1,6 @@
 -- `search` closes these goals with the rule set named here; `using(..)` with that set does not.
 use Prim.Native.Nat.{◌+◌}
-use Rattle.tags.specs.Known.{IsKnown}
+use Rattle.tags.specs.internal.Known.{IsKnown}
 use Rattle.tags.proofs.Laws.{laws}
 use Rattle.tags.proofs.part.quick_part.Goals as goal
 

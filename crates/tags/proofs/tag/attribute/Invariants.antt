@@ -1,5 +1,5 @@
 use Rattle.std.proofs.Common.{◌-◌, length}
-use Rattle.tags.specs.Noting.{found_at}
+use Rattle.tags.specs.internal.Noting.{found_at}
 use Rattle.tags.proofs.Looking.{Looking}
 use Rattle.tags.proofs.tag.attribute.Given as goal
 

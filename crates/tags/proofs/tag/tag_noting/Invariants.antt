@@ -1,5 +1,5 @@
 use Rattle.std.proofs.Common.{◌-◌, length}
-use Rattle.tags.specs.Known.{keys_by, CodesOf, Apart}
+use Rattle.tags.specs.internal.Known.{keys_by, CodesOf, Apart}
 use Rattle.tags.proofs.Tagging.{Going}
 use Rattle.tags.proofs.Coding.{LookingAll}
 use Rattle.tags.proofs.tag.tag_noting.Given as goal

@@ -1,6 +1,6 @@
-use Rattle.saxlite.specs.Moving.{left}
-use Rattle.builder.specs.Layout.{Same}
-use Rattle.xmlschema.specs.Driving.{Driving}
+use Rattle.saxlite.specs.internal.Moving.{left}
+use Rattle.builder.specs.internal.Layout.{Same}
+use Rattle.xmlschema.specs.internal.Driving.{Driving}
 use Rattle.xmlschema.proofs.build.read_tested.Given as goal
 
 abbrev pub invariant-loop-told : goal.invariant-loop-told

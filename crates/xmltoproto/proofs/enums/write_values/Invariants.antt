@@ -1,4 +1,4 @@
-use Rattle.printing.specs.Standing.{Standing}
+use Rattle.printing.specs.internal.Standing.{Standing}
 use Rattle.names.specs.Conversions.{prefix_of}
 use Rattle.model.specs.Schema.{item_at, under, a_value}
 use Rattle.model.specs.Search.{ahead}

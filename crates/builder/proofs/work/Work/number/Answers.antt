@@ -1,4 +1,4 @@
-use Rattle.builder.specs.Taking.{Reads}
+use Rattle.builder.specs.internal.Taking.{Reads}
 use Rattle.builder.proofs.Adding.{number-some, number-none}
 use Rattle.builder.proofs.work.Work.number.Goals as goal
 

@@ -1,5 +1,5 @@
 use Rattle.std.proofs.Common.{◌≡◌, ◌≤◌, length}
-use Rattle.index.specs.Index.{Settling}
+use Rattle.index.specs.internal.Index.{Settling}
 use Rattle.index.proofs.filling.Few.put_settled.Given as goal
 
 abbrev pub invariant-loop-i : goal.invariant-loop-i

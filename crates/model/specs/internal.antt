@@ -1,0 +1,2 @@
+-- Internal: what the contracts between functions cite. No customer has to read these.
+pub mod Store

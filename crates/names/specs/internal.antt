@@ -1,0 +1,4 @@
+-- Internal: what the contracts between functions cite. No customer has to read these.
+pub mod Rules
+pub mod Prefix
+pub mod Room

@@ -1,0 +1,94 @@
+-- What is known of an event beside what it says: where it lies, and that the reader has moved on.
+use Rattle.std.specs.Prelude.{◌≡◌, Bool, List, ℕ, ◌+◌, ◌*◌, ◌-◌, ◌≤◌, ◌<◌, length, Option, Some, None, Result, Ok, Err, IfOk, IfSome}
+use Rattle.texts.specs.Choice.{pick}
+use Rattle.texts.specs.Text.{piece}
+use Rattle.refusals.specs.declared.Refusal.{Refusal}
+use Rattle.tags.specs.declared.tag.Notes.{Notes}
+use Rattle.tags.specs.declared.part.Ending.{Ending}
+use Rattle.tags.specs.Attributes.{tag_at}
+use Rattle.tags.specs.internal.Noting.{keys_of, no_notes, NotedBy}
+use Rattle.saxlite.specs.Event.{Events, done, broken}
+use Rattle.saxlite.specs.Reader.{cursor_at, to_come, told_before}
+use Rattle.saxlite.specs.declared.event.Event.{Event as Found}
+use Rattle.saxlite.specs.declared.event.Event.TheVariants.{Text, Open, Close}
+use Rattle.saxlite.specs.declared.event.Told.{Told}
+use Rattle.saxlite.specs.declared.event.Owed.{Owed}
+use Rattle.saxlite.specs.declared.event.Cursor.{Cursor}
+use Rattle.saxlite.specs.declared.event.Read.{Read}
+
+-- an event without notes, behind which the reader goes on at `behind`
+abbrev pub bare : Found → ℕ → ℕ → Read
+bare event place behind = record { told = record { event = event; place = place; noted = no_notes }; cursor = cursor_at behind }
+
+-- where the reader goes on behind an open tag: a self-closed one owes its close
+abbrev pub behind : Ending → Owed → Cursor
+behind ending o = record { at = ending.next; owed = pick ending.self_closed (Some o) None }
+
+-- ---- what an answer says of the events that were to come
+
+abbrev pub read_in : List ℕ → Result Read Refusal → Events
+read_in doc (Ok r) = told_before doc r.told (to_come doc r.cursor)
+read_in doc (Err refusal) = broken refusal
+
+abbrev pub asked_in : List ℕ → Result (Option Read) Refusal → Events
+asked_in doc (Ok None) = done
+asked_in doc (Ok (Some r)) = told_before doc r.told (to_come doc r.cursor)
+asked_in doc (Err refusal) = broken refusal
+
+-- ---- what is known of an event beside that
+
+-- how many bytes of the text buffer it may take
+abbrev pub takes : Found → ℕ
+takes (Text from len) = len
+takes (Open name n attributes end) = end - attributes
+takes (Close name n) = 0
+
+-- the tag whose attributes begin at one position ends at the other
+pub record Tagged (doc : List ℕ) (attributes end : ℕ) : Type 0 where
+  pub place : ℕ
+  pub closed : Bool
+  pub is : (tag_at doc attributes place).ending ≡ Ok (record { next = end; self_closed = closed })
+
+-- where an open tag lies in the document
+abbrev pub Inside : List ℕ → Found → Type 0
+Inside doc (Text from len) = Unit {0}
+Inside doc (Open name n attributes end) = Tagged doc attributes end × (name + n ≤ length doc)
+Inside doc (Close name n) = Unit {0}
+
+-- the notes of an open tag: the values of the four names that matter to its element
+abbrev pub NotedIn : List ℕ → Found → Notes → Type 0
+NotedIn doc (Open name n attributes end) noted = NotedBy (keys_of (piece doc name n)) doc attributes noted
+NotedIn doc (Text from len) noted = Unit {0}
+NotedIn doc (Close name n) noted = Unit {0}
+
+-- how many events are left at most: two for each byte, and an owed close
+abbrev pub owing : Option Owed → ℕ
+owing None = 0
+owing (Some o) = 1
+
+abbrev pub left : List ℕ → Cursor → ℕ
+left doc c = 2 * (length doc - c.at) + owing c.owed
+
+-- the event t leads from the cursor c on to c', within the document, and fewer events are left
+pub record Moves (doc : List ℕ) (c : Cursor) (t : Told) (c' : Cursor) : Type 0 where
+  pub grows : c.at + takes t.event ≤ c'.at
+  pub less : left doc c' < left doc c
+  pub within : c.at ≤ length doc → c'.at ≤ length doc
+  pub inside : Inside doc t.event
+  pub noted : NotedIn doc t.event t.noted
+
+-- ---- what functions over the document and a place promise
+
+-- r is the event at `at`, or its refusal, and es are the events from there
+pub record Here (es : Events) (doc : List ℕ) (at : ℕ) (r : Result Read Refusal) : Type 0 where
+  pub is : es ≡ read_in doc r
+  pub moves : IfOk r (λ x. Moves doc (cursor_at at) x.told x.cursor)
+
+-- r is what is read at the cursor c
+pub record Asked (doc : List ℕ) (c : Cursor) (r : Result (Option Read) Refusal) : Type 0 where
+  pub is : to_come doc c ≡ asked_in doc r
+  pub moves : IfOk r (λ o. IfSome o (λ x. Moves doc c x.told x.cursor))
+
+-- what a reader tells moves it on
+abbrev pub Advances : List ℕ → Cursor → Cursor → Result (Option Told) Refusal → Type 0
+Advances doc c c' o = IfOk o (λ x. IfSome x (λ t. Moves doc c t c'))

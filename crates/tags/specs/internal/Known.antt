@@ -1,0 +1,127 @@
+-- Attributes with well-known names, which have codes from 1 on.
+use Rattle.std.specs.Prelude.{◌≡◌, Bool, true, false, List, [], ◌∷◌, ◌++◌, ℕ, zero, suc, ◌+◌, ◌<◌, T, eqb, leb, length, drop, Option, Some, None, Result, Ok, Err}
+use Rattle.texts.specs.Choice.{pick, ◌and◌}
+use Rattle.texts.specs.Text.{ascii, piece, same, starts_with}
+use Rattle.refusals.specs.declared.Refusal.{Refusal}
+use Rattle.swar.specs.internal.Standing.{ShortText, LongText}
+use Rattle.tags.specs.declared.known.Known.{Known}
+use Rattle.tags.specs.declared.known.Codes.{Codes}
+use Rattle.tags.specs.declared.part.TagPart.{TagPart}
+use Rattle.tags.specs.declared.part.TagPart.TheVariants.{Attribute as Part, TagEnd}
+use Rattle.tags.specs.declared.part.Quick.{Quick}
+use Rattle.tags.specs.declared.tag.TagKind.{TagKind}
+use Rattle.tags.specs.declared.tag.TagKind.TheVariants.{Schema, «Type», Enum, Other}
+use Rattle.tags.specs.declared.tag.Notes.{Notes}
+use Rattle.tags.specs.Names.{is_xmlns}
+use Rattle.tags.specs.Attributes.{tag_part_at, later}
+use Rattle.tags.specs.internal.Noting.{Keys, schema_keys, type_keys, enum_keys, field_keys, found_at, value_if_named}
+
+-- the k-th of some texts, from 0 on
+abbrev pub nth : List (List ℕ) → ℕ → List ℕ
+nth [] k = []
+nth (w ∷ ws) zero = w
+nth (w ∷ ws) (suc k) = nth ws k
+
+-- the name of a code
+abbrev pub known_name : ℕ → List ℕ
+known_name = nth ([] ∷ ascii "name" ∷ ascii "id" ∷ ascii "type" ∷ ascii "length" ∷ ascii "primitiveType" ∷ ascii "encodingType" ∷ ascii "characterEncoding" ∷ ascii "version" ∷ ascii "package" ∷ ascii "description" ∷ ascii "semanticType" ∷ ascii "offset" ∷ ascii "blockLength" ∷ ascii "presence" ∷ ascii "sinceVersion" ∷ ascii "byteOrder" ∷ ascii "semanticVersion" ∷ [])
+
+-- with '=' and '"' behind it, as it is nearly always written
+abbrev pub known_text : ℕ → List ℕ
+known_text code = known_name code ++ ascii "=\""
+
+-- k's text stands at `at`; its skip counts from the byte before `at` to the value
+pub record IsKnown (doc : List ℕ) (at : ℕ) (k : Known) : Type 0 where
+  pub above : 0 < k.code
+  pub below : k.code < 18
+  pub stands : starts_with (known_text k.code) (drop at doc) ≡ true
+  pub ahead : k.skip ≡ length (known_name k.code) + 3
+
+-- none, or a known attribute at `at`
+abbrev pub KnownAt : List ℕ → ℕ → Option Known → Type 0
+KnownAt doc at None = Unit {0}
+KnownAt doc at (Some k) = IsKnown doc at k
+
+-- such a text of at most one word, by its integers
+pub record ToldShort (code skip modulus front : ℕ) : Type 0 where
+  pub above : 0 < code
+  pub below : code < 18
+  pub ahead : skip ≡ length (known_name code) + 3
+  pub text : ShortText (known_text code) modulus front
+
+-- one of two words
+pub record ToldLong (code skip front modulus back : ℕ) : Type 0 where
+  pub above : 0 < code
+  pub below : code < 18
+  pub ahead : skip ≡ length (known_name code) + 3
+  pub text : LongText (known_text code) front modulus back
+
+-- and a longer one, as it stands
+pub record ToldText (code skip : ℕ) (w : List ℕ) : Type 0 where
+  pub above : 0 < code
+  pub below : code < 18
+  pub ahead : skip ≡ length (known_name code) + 3
+  pub text : w ≡ known_text code
+
+-- ---- the names that matter in a tag, by its kind, and their codes
+
+-- the four names by kind
+abbrev pub keys_by : TagKind → Keys
+keys_by Schema = schema_keys
+keys_by «Type» = type_keys
+keys_by Enum = enum_keys
+keys_by Other = field_keys
+
+-- the test p holds of 1 to n
+abbrev pub up_to : ℕ → (ℕ → Bool) → Bool
+up_to zero p = true
+up_to (suc n) p = p (suc n) and up_to n p
+
+-- c is the code of the name `key`, 0 if `key` is not known; codes above 9 matter in no tag
+abbrev pub codes : List ℕ → ℕ → Bool
+codes key c = leb c 9 and up_to 17 (λ k. pick (eqb k c) (same (known_name k) key) (pick (same (known_name k) key) false true))
+
+-- c holds the codes of the four names
+pub record CodesOf (k : Keys) (c : Codes) : Type 0 where
+  pub first : T (codes k.first c.first)
+  pub second : T (codes k.second c.second)
+  pub third : T (codes k.third c.third)
+  pub fourth : T (codes k.fourth c.fourth)
+
+-- the codes differ (third and fourth may both be 0): an attribute has at most one of the names
+pub record Apart (c : Codes) : Type 0 where
+  pub first-second : eqb c.first c.second ≡ false
+  pub first-third : eqb c.first c.third ≡ false
+  pub first-fourth : eqb c.first c.fourth ≡ false
+  pub second-third : eqb c.second c.third ≡ false
+  pub second-fourth : eqb c.second c.fourth ≡ false
+  pub third-fourth : 0 < c.third → eqb c.third c.fourth ≡ false
+
+-- ---- a part of a tag
+
+-- if the part is an attribute, its raw name is that of the code
+abbrev pub Named : List ℕ → ℕ → Result TagPart Refusal → Type 0
+Named doc code (Ok (Part name n value len next)) = (0 < code) × (code < 18) × (piece doc name n ≡ known_name code)
+Named doc code (Ok (TagEnd ending)) = Unit {0}
+Named doc code (Err refusal) = Unit {0}
+
+-- r is the part of a tag that is due at `at`, and its code, if any, is that of the name
+pub record QuickAt (doc : List ℕ) (at place : ℕ) (r : Quick) : Type 0 where
+  pub is : r.part ≡ tag_part_at doc at place
+  pub named : (code : ℕ) → r.code ≡ Some code → Named doc code r.part
+
+-- the raw name, n bytes at `name`, is that of the code, if there is one
+pub record NamedAs (doc : List ℕ) (name n : ℕ) (code : Option ℕ) : Type 0 where
+  pub named : (k : ℕ) → code ≡ Some k → (0 < k) × (k < 18) × (piece doc name n ≡ known_name k)
+
+-- true says that the raw name declares a namespace; false, without a code, that it does not
+pub record Declares (doc : List ℕ) (name n : ℕ) (code : Option ℕ) (r : Bool) : Type 0 where
+  pub yes : r ≡ true → is_xmlns (piece doc name n) ≡ true
+  pub no : r ≡ false → code ≡ None → is_xmlns (piece doc name n) ≡ false
+
+-- r are the notes `was` with one more attribute, of that raw name, under the four names
+pub record NotedMore (raw : List ℕ) (value len : ℕ) (k : Keys) (was r : Notes) : Type 0 where
+  pub first : found_at r.first r.len1 ≡ later (value_if_named raw value len k.first) (found_at was.first was.len1)
+  pub second : found_at r.second r.len2 ≡ later (value_if_named raw value len k.second) (found_at was.second was.len2)
+  pub third : found_at r.third r.len3 ≡ later (value_if_named raw value len k.third) (found_at was.third was.len3)
+  pub fourth : found_at r.fourth r.len4 ≡ later (value_if_named raw value len k.fourth) (found_at was.fourth was.len4)
