@@ -36,7 +36,7 @@ const SUITES: &[(&str, Run)] = &[
 /// Writes recorded answers into a folder; false where that fails.
 type Record = fn(&Path) -> bool;
 
-/// What is recorded for crates/replay_NAME, by NAME.
+/// What is recorded for crates/test_NAME, by NAME.
 const RECORDS: &[(&str, Record)] = &[
     ("names", names::record::write),
     ("markup", markup::record::write),
@@ -48,7 +48,7 @@ const RECORDS: &[(&str, Record)] = &[
 fn command(words: &[&str]) -> bool {
     match words {
         ["record", folder] => {
-            RECORDS.iter().all(|(name, write)| write(&Path::new(folder).join(format!("replay_{name}"))))
+            RECORDS.iter().all(|(name, write)| write(&Path::new(folder).join(format!("test_{name}"))))
         }
         ["survey"] => survey::run(),
         ["bench"] => bench::run(),
