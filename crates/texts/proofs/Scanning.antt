@@ -6,10 +6,10 @@ use lib.Bits.{bit_or, or_add_and, and_le_l, and_le_r}
 use Rattle.texts.specs.Scan.{count_while, scan, until, is, is_ascii}
 
 pub count_yes : (p : ℕ → Bool) (x : ℕ) (xs : List ℕ) → p x ≡ true → count_while p (x ∷ xs) ≡ suc (count_while p xs)
-count_yes p x xs t = rw (t, count_while)
+count_yes p x xs t = rw t (omega arith)
 
 pub count_no : (p : ℕ → Bool) (x : ℕ) (xs : List ℕ) → p x ≡ false → count_while p (x ∷ xs) ≡ 0
-count_no p x xs t = rw (t, count_while)
+count_no p x xs t = rw t
 
 -- a loop that scans s from `at` has come to i
 pub record Scanning (p : ℕ → Bool) (s : List ℕ) (at i : ℕ) : Type 0 where
