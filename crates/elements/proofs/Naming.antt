@@ -2,10 +2,9 @@
 use Rattle.std.proofs.Common.{◌≡◌, refl, sym, ap, ◌∙◌, Bool, true, false, not, List, [], ◌∷◌, ◌++◌, ℕ, ◌+◌, ◌≤◌, arith, T, ltb, leb→le, ltb→lt, length, drop, length-take, length-drop, take-append-drop, eq-eqb}
 use Rattle.texts.specs.Text.{ascii, piece, same, starts_with}
 use Rattle.texts.proofs.Choosing.{by-test}
-use Rattle.texts.proofs.Comparing.{same-lengths, same-equal, starts-yes}
+use Rattle.texts.proofs.Comparing.{same-lengths, same-equal, starts-yes, front-is}
 use Rattle.swar.specs.Word.{word_of}
 use Rattle.swar.specs.internal.Standing.{ShortText, LongText, StandsShort, StandsLong}
-use Rattle.swar.proofs.Digits.{front-is}
 use Rattle.elements.specs.Elements.{element_of, other_element_of}
 use Rattle.elements.specs.declared.Element.{Element}
 use Rattle.elements.specs.declared.Element.TheVariants.{MessageSchema, «Type», Ref, Composite, Enum, ValidValue, Message, Group, Field, Other}

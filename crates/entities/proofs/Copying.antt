@@ -5,9 +5,8 @@ use lib.Seq.{sets, length-sets, take-length, drop-length, set_comm}
 use Rattle.texts.specs.Scan.{count_while, scan, until, is}
 use Rattle.texts.specs.Text.{piece}
 use Rattle.texts.proofs.Choosing.{by-test, pick_no}
-use Rattle.texts.proofs.Scanning.{count_yes, count_no}
+use Rattle.texts.proofs.Scanning.{count_yes, count_no, count_past}
 use Rattle.swar.proofs.Copying.{sets-append}
-use Rattle.swar.proofs.Finding.{count_past}
 use Rattle.entities.specs.Entities.{front, decoded_past, decoded, DecodedInto}
 use Rattle.entities.specs.internal.Copying.{PlainTo, RestInto}
 use Rattle.entities.proofs.Decoding.{decoded-cons, decoding-short}

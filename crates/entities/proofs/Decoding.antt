@@ -1,9 +1,10 @@
 -- Laws of entities and of decoding.
-use Rattle.std.proofs.Common.{◌≡◌, refl, sym, subst, ◌∙◌, Bool, true, false, List, [], ◌∷◌, ℕ, zero, suc, ◌+◌, ◌-◌, ◌≤◌, ◌<◌, ◌^◌, zero-le, suc-le-suc, add-one, arith, eqb, length, drop, get_or, set, length-set, length-drop, drop_of_length-le, drop-cons, drop-drop, Fits, w64, eq-eqb, ne_eqb, le-leb, Option, Some, None}
+use Rattle.std.proofs.Common.{◌≡◌, refl, sym, subst, ◌∙◌, true, List, [], ◌∷◌, ℕ, zero, suc, ◌+◌, ◌-◌, ◌≤◌, ◌<◌, ◌^◌, zero-le, suc-le-suc, add-one, arith, eqb, length, drop, get_or, set, length-set, length-drop, drop_of_length-le, drop-cons, drop-drop, Fits, w64, le-leb, Option, Some, None}
 use lib.Seq.{sets}
 use borrow.Author.Tests.{lt-leb}
+use Rattle.texts.specs.Choice.{pick}
 use Rattle.texts.specs.Text.{ascii, starts_with}
-use Rattle.texts.proofs.Choosing.{pick_yes, pick_no, pick-by}
+use Rattle.texts.proofs.Choosing.{pick-by}
 use Rattle.texts.proofs.Comparing.{starts-length}
 use Rattle.entities.specs.declared.Unit.{Unit}
 use Rattle.entities.specs.Entities.{entity, front, decoded_past, decoded, DecodedInto}
@@ -35,48 +36,9 @@ front-sized x xs = pick-by (Sized (length xs)) (eqb x 38) (λ t. entity-sized xs
 
 -- ---- which unit stands at a place
 
-module _ (s : List ℕ) (at : ℕ) (h : at < length s) where
-  unit-here : {u : Unit} → front (get_or s at 0 ∷ drop (suc at) s) ≡ u → u ≡ front (drop at s)
-  unit-here e = sym (rw (drop-cons s at 0) e)
-
-  pub unit-plain : (get_or s at 0 ≡ 38 → ⊥) → record { byte = get_or s at 0; len = 1 } ≡ front (drop at s)
-  unfolding front
-  unit-plain n = unit-here (pick_no (eqb (get_or s at 0) 38) _ _ (ne_eqb _ _ n))
-
-  -- after a '&': each b is what the comparison with a name says
-  module _ (a : get_or s at 0 ≡ 38) where
-    unit-amp : {u : Unit} → entity (drop (at + 1) s) ≡ u → u ≡ front (drop at s)
-    unfolding front
-    unit-amp e = unit-here (pick_yes (eqb (get_or s at 0) 38) _ _ (eq-eqb _ _ a) ∙ (rw add-one at e))
-
-    module _ {b₁ : Bool} (e₁ : b₁ ≡ starts_with (ascii "lt;") (drop (at + 1) s)) where
-      pub unit-lt : b₁ ≡ true → record { byte = 60; len = 4 } ≡ front (drop at s)
-      unfolding entity
-      unit-lt t = unit-amp (rw (← e₁, pick_yes))
-
-      module _ (n₁ : b₁ ≡ false) {b₂ : Bool} (e₂ : b₂ ≡ starts_with (ascii "gt;") (drop (at + 1) s)) where
-        pub unit-gt : b₂ ≡ true → record { byte = 62; len = 4 } ≡ front (drop at s)
-        unfolding entity
-        unit-gt t = unit-amp (rw (← e₁, ← e₂, pick_no, pick_yes))
-
-        module _ (n₂ : b₂ ≡ false) {b₃ : Bool} (e₃ : b₃ ≡ starts_with (ascii "quot;") (drop (at + 1) s)) where
-          pub unit-quot : b₃ ≡ true → record { byte = 34; len = 6 } ≡ front (drop at s)
-          unfolding entity
-          unit-quot t = unit-amp (simp (← e₁, ← e₂, ← e₃, pick_no, pick_yes))
-
-          module _ (n₃ : b₃ ≡ false) {b₄ : Bool} (e₄ : b₄ ≡ starts_with (ascii "apos;") (drop (at + 1) s)) where
-            pub unit-apos : b₄ ≡ true → record { byte = 39; len = 6 } ≡ front (drop at s)
-            unfolding entity
-            unit-apos t = unit-amp (simp (← e₁, ← e₂, ← e₃, ← e₄, pick_no, pick_yes))
-
-            module _ (n₄ : b₄ ≡ false) {b₅ : Bool} (e₅ : b₅ ≡ starts_with (ascii "amp;") (drop (at + 1) s)) where
-              pub unit-and : b₅ ≡ true → record { byte = 38; len = 5 } ≡ front (drop at s)
-              unfolding entity
-              unit-and t = unit-amp (simp (← e₁, ← e₂, ← e₃, ← e₄, ← e₅, pick_no, pick_yes))
-
-              pub unit-bare : b₅ ≡ false → record { byte = 38; len = 1 } ≡ front (drop at s)
-              unfolding entity
-              unit-bare t = unit-amp (simp (← e₁, ← e₂, ← e₃, ← e₄, ← e₅, pick_no))
+pub unit-here : (s : List ℕ) (at : ℕ) → at < length s → front (drop at s) ≡ pick (eqb (get_or s at 0) 38) (entity (drop (at + 1) s)) (record { byte = get_or s at 0; len = 1 })
+unfolding front
+unit-here s at h = rw (drop-cons s at 0 h, add-one)
 
 -- ---- decoding
 

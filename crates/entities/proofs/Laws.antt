@@ -1,6 +1,9 @@
 -- The laws of units and of decoding as one rule set, for the `tactic` attribute of src/lib.rt;
 -- those of copying are another (Copying.antt).
 use borrow.Author.Rules.{rules}
-use Rattle.entities.proofs.Decoding.{unit-plain, unit-lt, unit-gt, unit-quot, unit-apos, unit-and, unit-bare, unit-add, unit-less, decoding-start, decoding-on, decoding-end, decoding-not, decoding-short, decoding-same}
+use Rattle.entities.proofs.Decoding.{unit-here, unit-add, unit-less, decoding-start, decoding-on, decoding-end, decoding-not, decoding-short, decoding-same}
 
-pub ruleset laws = (unit-plain, unit-lt, unit-gt, unit-quot, unit-apos, unit-and, unit-bare, unit-add, unit-less, decoding-start, decoding-on, decoding-end, decoding-not, decoding-short, decoding-same, rules)
+pub ruleset laws = (unit-add, unit-less, decoding-start, decoding-on, decoding-end, decoding-not, decoding-short, decoding-same, rules)
+
+-- what stands at a place of a text
+pub ruleset units = (unit-here, rules)

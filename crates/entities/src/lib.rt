@@ -26,6 +26,7 @@ pub struct Unit {
 }
 
 /// The entity or the byte at `at`.
+#[tactic(auto, unfolding(crate::specs::Entities::entity), using(crate::proofs::Laws::units))]
 fn unit_at(s: &[u8], at: usize) -> Unit
     requires { at < length s.now }
     ensures { result ≡ front (drop at s.now) }

@@ -4,11 +4,11 @@ use Rattle.texts.specs.Choice.{◌and◌}
 use Rattle.texts.specs.Text.{ascii, piece, starts_with}
 use Rattle.texts.specs.Scan.{count_while, scan, until, is}
 use Rattle.texts.proofs.Choosing.{by-test}
-use Rattle.texts.proofs.Comparing.{starts-yes, starts-no, starts-append}
+use Rattle.texts.proofs.Comparing.{starts-yes, starts-no, starts-append, front-is}
 use Rattle.texts.proofs.Scanning.{Scanning, scan-start, byte-on, byte-stop, count_yes, count_no}
 use lib.Pow.{are_bytes}
 use Rattle.swar.specs.Word.{word_of, IsHalf}
-use Rattle.swar.proofs.Digits.{word-tells, bytes-are, front-is}
+use Rattle.swar.proofs.Digits.{word-tells, bytes-are}
 use Rattle.swar.specs.internal.Standing.{ShortText, StandsShort, Lacks}
 use Rattle.swar.proofs.Standing.{power-some}
 use Rattle.swar.proofs.Pairing.{lacks-start}

@@ -1,5 +1,5 @@
 -- Laws of comparing two names by numbers: from the front on, and last by one that ends with them.
-use Rattle.std.proofs.Common.{◌≡◌, refl, sym, ap, ap₂, ◌∙◌, true, false, List, ◌++◌, ℕ, ◌+◌, ◌-◌, ◌≤◌, ◌<◌, arith, eqb, length, take, drop, length-drop, take-append-drop, take_all, take-take, take-add, eq-eqb, ne_eqb}
+use Rattle.std.proofs.Common.{◌≡◌, sym, ap, ap₂, ◌∙◌, true, false, List, ◌++◌, ℕ, ◌+◌, ◌-◌, ◌≤◌, ◌<◌, arith, eqb, length, take, drop, length-drop, take-append-drop, take_all, take-take, take-add, eq-eqb, ne_eqb}
 use Rattle.texts.specs.Lists.{Every}
 use Rattle.texts.specs.Text.{piece, same}
 use Rattle.texts.proofs.Choosing.{by-test}
@@ -13,7 +13,7 @@ module _ (a b : List ℕ) (i n : ℕ) {x y : ℕ} (u : x ≡ word_of (piece a i 
   one_name : same a b ≡ true → x ≡ y
   one_name t = u ∙ ap (λ s. word_of (piece s i n)) (same-equal a b t) ∙ sym v
 
-  differ : (x ≡ y → ⊥) → false ≡ same a b
+  pub differ : (x ≡ y → ⊥) → false ≡ same a b
   differ d = by-test (same a b) (λ t. absurd (d (one_name t))) (λ f. sym f)
 
   module _ (k : length (piece a i n) ≡ length (piece b i n)) (h : Every (λ b. b < 256) (piece a i n)) (l : Every (λ b. b < 256) (piece b i n)) where
@@ -36,31 +36,15 @@ module _ (a b : List ℕ) (i n : ℕ) {x y : ℕ} (u : x ≡ word_of (piece a i 
         whole : x ≡ y → a ≡ b
         whole e = sym (take-append-drop i a) ∙ ap₂ ◌++◌ before (sym (ends a ea) ∙ tell e ∙ ends b eb) ∙ take-append-drop i b
 
--- ---- words: a loop has compared k bytes, and they are the same
+-- ---- words, where a loop has compared k bytes, and halves
 
-pub record Alike (a b : List ℕ) (k : ℕ) : Type 0 where
-  pub front : take k a ≡ take k b
-
-pub alike-start : {a b : List ℕ} → Alike a b 0
-alike-start = record { front = refl }
-
-module _ {a b : List ℕ} {k : ℕ} (inv : Alike a b k) where
-  pub alike-on : {x y : ℕ} → IsWord (piece a k 8) x → IsWord (piece b k 8) y → x ≡ y → Alike a b (k + 8)
-  alike-on u v e =
-      let p = tell a b k 8 u.is v.is (u.eight ∙ sym v.eight) u.bytes v.bytes e in
-      record { front = take-add k 8 a ∙ ap₂ ◌++◌ inv.front p ∙ sym (take-add k 8 b) }
+module _ (a b : List ℕ) (k : ℕ) (front : take k a ≡ take k b) where
+  pub alike-on : {x y : ℕ} → IsWord (piece a k 8) x → IsWord (piece b k 8) y → x ≡ y → take (k + 8) a ≡ take (k + 8) b
+  alike-on u v e = take-add k 8 a ∙ ap₂ ◌++◌ front (tell a b k 8 u.is v.is (u.eight ∙ sym v.eight) u.bytes v.bytes e) ∙ sym (take-add k 8 b)
 
   pub words-decide : 8 ≤ length a → length a ≡ length b → length a ≤ k + 8 → {x y : ℕ} → IsWord (piece a (length a - 8) 8) x → IsWord (piece b (length a - 8) 8) y → eqb x y ≡ same a b
   words-decide h e l u v =
-      decide a b (length a - 8) 8 u.is v.is (u.eight ∙ sym v.eight) u.bytes v.bytes (omega arith) (omega arith) k (omega arith) inv.front
-
-pub words-differ : (a b : List ℕ) (i : ℕ) {x y : ℕ} → IsWord (piece a i 8) x → IsWord (piece b i 8) y → (x ≡ y → ⊥) → false ≡ same a b
-words-differ a b i u v d = differ a b i 8 u.is v.is d
-
--- ---- halves
-
-pub halves-differ : (a b : List ℕ) (i : ℕ) {x y : ℕ} → IsHalf (piece a i 4) x → IsHalf (piece b i 4) y → (x ≡ y → ⊥) → false ≡ same a b
-halves-differ a b i u v d = differ a b i 4 u.is v.is d
+      decide a b (length a - 8) 8 u.is v.is (u.eight ∙ sym v.eight) u.bytes v.bytes (omega arith) (omega arith) k (omega arith) front
 
 pub halves-decide : (a b : List ℕ) → 4 ≤ length a → length a < 8 → length a ≡ length b → {x y : ℕ} → IsHalf (piece a 0 4) x → IsHalf (piece b 0 4) y → x ≡ y
     → {z w : ℕ} → IsHalf (piece a (length a - 4) 4) z → IsHalf (piece b (length a - 4) 4) w → eqb z w ≡ same a b

@@ -3,8 +3,8 @@ use borrow.Author.Rules.{rules}
 use Rattle.texts.proofs.Comparing.{same-lengths}
 use Rattle.texts.proofs.Scanning.{scan-start, scan-end, byte-on, byte-stop}
 use Rattle.swar.proofs.Lanes.{marks-fit, marks-less, marks-made, low-less, low-made}
-use Rattle.swar.proofs.Finding.{zeros-fit, word-lacks, word_on, word-stop, word_fits, word-within, scan-rest}
+use Rattle.swar.proofs.Finding.{zeros-fit, word-lacks, word-stop, word_fits, word-within}
 use Rattle.swar.proofs.Standing.{stands-short, stands-long, stands-not}
-use Rattle.swar.proofs.Alike.{alike-start, alike-on, words-differ, words-decide, halves-differ, halves-decide}
+use Rattle.swar.proofs.Alike.{words-decide, halves-decide}
 
-pub ruleset laws = (scan-start, scan-end, byte-on, byte-stop, marks-fit, marks-less, marks-made, low-less, low-made, zeros-fit, word-lacks, word_on, word-stop, word_fits, word-within, scan-rest, stands-short, stands-long, stands-not, same-lengths, alike-start, alike-on, words-differ, words-decide, halves-differ, halves-decide, rules)
+pub ruleset laws = (scan-start, scan-end, byte-on, byte-stop, marks-fit, marks-less, marks-made, low-less, low-made, zeros-fit, word-lacks, word-stop, word_fits, word-within, stands-short, stands-long, stands-not, same-lengths, words-decide, halves-decide, rules)

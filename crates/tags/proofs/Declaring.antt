@@ -4,10 +4,9 @@ use Rattle.texts.specs.Text.{ascii, piece, same, starts_with}
 use Rattle.texts.specs.Scan.{count_while, scan, until}
 use Rattle.texts.proofs.Scanning.{scan-stop}
 use Rattle.texts.proofs.Choosing.{by-test, both_true}
-use Rattle.texts.proofs.Comparing.{same-equal, same-lengths, starts-yes, starts-no, starts-append, starts-long}
+use Rattle.texts.proofs.Comparing.{same-equal, same-lengths, starts-yes, starts-no, starts-append, starts-long, front-is}
 use Rattle.swar.specs.Word.{word_of}
 use Rattle.swar.specs.internal.Standing.{ShortText, StandsShort}
-use Rattle.swar.proofs.Digits.{front-is}
 use Rattle.classes.specs.Class.{is_space, is_tag_name_end, is_attribute_name_end}
 use Rattle.tags.specs.declared.tag.Notes.{Notes}
 use Rattle.tags.specs.Names.{is_xmlns}

@@ -8,8 +8,7 @@ use Rattle.texts.specs.Lists.{all}
 use Rattle.texts.specs.Text.{ascii, piece, same, starts_with}
 use Rattle.texts.specs.Scan.{count_while, scan, until, is}
 use Rattle.texts.proofs.Choosing.{by-test, pick-by, and_left, and_right}
-use Rattle.texts.proofs.Comparing.{starts-no}
-use Rattle.swar.proofs.Digits.{front-is}
+use Rattle.texts.proofs.Comparing.{starts-no, front-is}
 use Rattle.texts.proofs.Scanning.{count_yes, count_no}
 use Rattle.classes.specs.Class.{is_space, is_tag_name_end, is_attribute_name_end}
 use Rattle.tags.specs.declared.known.Known.{Known}

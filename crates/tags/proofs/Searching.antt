@@ -1,9 +1,10 @@
 -- Laws of searching: what stands at a position, what the loop of `find` keeps, where a find lies.
-use Rattle.std.proofs.Common.{Some, None, ◌≡◌, refl, sym, ◌∙◌, Bool, true, false, List, [], ◌∷◌, ℕ, ◌+◌, ◌≤◌, ◌<◌, ◌^◌, zero-le, suc-le-suc, arith, add-one, leb, ltb, T, leb→le, lit<, length, drop, get_or, drop_of_length-le, length-drop, drop-cons, Fits, w64, eq-eqb}
+use Rattle.std.proofs.Common.{Some, None, ◌≡◌, refl, sym, ◌∙◌, Bool, true, false, List, [], ◌∷◌, ℕ, suc, ◌+◌, ◌≤◌, ◌<◌, ◌^◌, arith, add-one, leb, ltb, T, leb→le, lit<, length, drop, get_or, drop_of_length-le, length-drop, drop-cons, Fits, w64, eq-eqb}
+use Rattle.std.proofs.lemmas.List.Sums.{prefix_len-le-length}
 use Rattle.texts.specs.Text.{starts_with}
-use Rattle.texts.specs.Scan.{count_while, scan, until, is}
+use Rattle.texts.specs.Scan.{scan, until, is}
 use Rattle.texts.proofs.Choosing.{by-test}
-use Rattle.texts.proofs.Comparing.{starts-length}
+use Rattle.texts.proofs.Comparing.{starts-length, starts-yes}
 use Rattle.texts.proofs.Scanning.{Scanning, scan-start, byte-on}
 use Rattle.tags.specs.Find.{find_in, find_from}
 
@@ -23,15 +24,11 @@ module _ {b : Bool} (w doc : List ℕ) (i k : ℕ) (e : b ≡ starts_with w (dro
 -- one byte that stands at a position
 pub byte-stands : (b : ℕ) (doc : List ℕ) (i : ℕ) → i < length doc → get_or doc i 0 ≡ b → starts_with (b ∷ []) (drop i doc) ≡ true
 unfolding starts_with
-byte-stands b doc i h e = rw (drop-cons doc i 0 h, eq-eqb (get_or doc i 0) b e, starts_with)
+byte-stands b doc i h e = rw (drop-cons doc i 0 h) (starts-yes b (get_or doc i 0) [] (drop (suc i) doc) (eq-eqb (get_or doc i 0) b e))
 
 -- a scan from within the document ends there; one for a byte moves if that is not at its start
-count-within : (p : ℕ → Bool) (s : List ℕ) → count_while p s ≤ length s
-count-within p [] = zero-le
-count-within p (x ∷ xs) = by-test (p x) (λ t. rw (t, count_while) (suc-le-suc (count-within p xs))) (λ f. rw (f, count_while) zero-le)
-
 pub scan-within : (p : ℕ → Bool) (doc : List ℕ) (at : ℕ) → at ≤ length doc → scan p doc at ≤ length doc
-scan-within p doc at h = omega (arith, count-within p (drop at doc), length-drop at doc)
+scan-within p doc at h = omega (arith, prefix_len-le-length p (drop at doc), length-drop at doc)
 
 pub scan-moves : (b : ℕ) (doc : List ℕ) (at : ℕ) → at < length doc → starts_with (b ∷ []) (drop at doc) ≡ false → at < scan (until (is b)) doc at
 scan-moves b doc at h f =

@@ -1,13 +1,12 @@
 -- Laws of trimming: the loop over the back, and how front and back make the whole.
-use Rattle.std.proofs.Common.{◌≡◌, refl, sym, ap, ◌∙◌, Bool, true, false, List, [], ◌∷◌, ◌++◌, ℕ, suc, ◌+◌, ◌-◌, ◌≤◌, ◌<◌, zero-le, suc-le-suc, zero-add, arith, eqb, length, take, drop, get_or, length-take, length-drop, take-suc, take_all, take-take, drop-drop, le-leb, ne_eqb}
+use Rattle.std.proofs.Common.{◌≡◌, refl, sym, ap, ◌∙◌, Bool, true, false, List, [], ◌∷◌, ◌++◌, ℕ, suc, ◌+◌, ◌-◌, ◌≤◌, ◌<◌, zero-add, arith, eqb, length, take, drop, get_or, length-take, length-drop, take-suc, take_all, take-take, drop-drop, le-leb, ne_eqb}
 use lib.Seq.{take-length}
 use borrow.Author.Tests.{lt-leb}
+use Rattle.std.proofs.lemmas.List.Sums.{prefix_len-le-length}
 use Rattle.texts.specs.Choice.{pick, ◌and◌}
 use Rattle.texts.specs.Text.{piece, same}
 use Rattle.texts.specs.Scan.{count_while, scan}
 use Rattle.texts.specs.Trim.{is_blank, trimmed_front, trimmed_back, trimmed, TrimmedTo, KeptTo}
-use Rattle.texts.proofs.Choosing.{by-test}
-use Rattle.texts.proofs.Scanning.{count_yes, count_no}
 use Rattle.texts.proofs.Stores.{piece-below}
 
 -- ---- a byte
@@ -92,17 +91,9 @@ module _ (s : List ℕ) (a n : ℕ) (rest : List ℕ) (ea : a ≡ scan is_blank 
   unfolding trimmed trimmed_front
   trim-is e = e ∙ k.is ∙ ap trimmed_back (front ∙ ap (λ j. drop j s) (ea ∙ zero-add (count_while is_blank s)))
 
--- a scan from the start ends within the text
-count-within : (p : ℕ → Bool) (s : List ℕ) → count_while p s ≤ length s
-count-within p [] = zero-le
-count-within p (x ∷ s) =
-    by-test (p x)
-    (λ t. rw (count_yes p x s t) (suc-le-suc (count-within p s)))
-    (λ f. rw (count_no p x s f) zero-le)
-
 module _ (s : List ℕ) (from len a : ℕ) (whole : List ℕ) (ew : whole ≡ piece s from len) (ea : a ≡ scan is_blank whole 0) where
   within : a ≤ length whole
-  within = omega (arith, count-within is_blank whole, ea)
+  within = omega (arith, prefix_len-le-length is_blank whole, ea)
 
   -- `from + a` is no more than `from` or the text's length, and so does not overflow
   pub trim-fits : (m : ℕ) → from ≤ m → length s ≤ m → from + a ≤ m

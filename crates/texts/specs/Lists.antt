@@ -1,5 +1,6 @@
 -- Functions on lists: vocabulary for all rules.
 use Rattle.std.specs.Prelude.{Bool, true, false, List, [], ◌∷◌, ◌++◌, ℕ, ◌+◌}
+use Rattle.std.specs.List.{list_any}
 use Rattle.texts.specs.Choice.{◌or◌, ◌and◌}
 use Rattle.texts.specs.Text.{same}
 
@@ -35,5 +36,4 @@ Every P (a ∷ l) = P a × Every P l
 
 -- the text w is one of these
 unfoldable pub among : List ℕ → List (List ℕ) → Bool
-among w [] = false
-among w (v ∷ l) = same w v or among w l
+among w l = list_any (same w) l

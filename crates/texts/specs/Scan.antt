@@ -1,10 +1,10 @@
 -- Where a run of bytes that pass a test ends: vocabulary for all rules.
-use Rattle.std.specs.Prelude.{Bool, true, false, not, List, [], ◌∷◌, ℕ, suc, ◌+◌, eqb, ltb, drop}
+use Rattle.std.specs.Prelude.{Bool, not, List, ℕ, ◌+◌, eqb, ltb, drop}
+use Rattle.std.specs.List.{prefix_len}
 
 -- how many bytes at the front pass the test
 abbrev pub count_while : (ℕ → Bool) → List ℕ → ℕ
-count_while p [] = 0
-count_while p (x ∷ xs) = elim (p x) [ true ↦ suc (count_while p xs) | false ↦ 0 ]
+count_while p s = prefix_len p s
 
 -- the first place from `at` on whose byte fails the test, or the end; `at` if it is past the end
 abbrev pub scan : (ℕ → Bool) → List ℕ → ℕ → ℕ

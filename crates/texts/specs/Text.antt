@@ -1,5 +1,7 @@
 -- Literals, pieces, equality and prefixes of texts: vocabulary for all rules.
-use Rattle.std.specs.Prelude.{Bool, true, false, List, [], ◌∷◌, ℕ, eqb, take, drop}
+use Rattle.std.specs.Prelude.{Bool, List, [], ◌∷◌, ℕ, nat_eq, take, drop}
+use Rattle.std.specs.Str.{bytes_eq}
+use Rattle.std.specs.List.{starts_with as has_front}
 use Prim.Native.Char.{code}
 use Prim.Native.String.{String, [] as none, ◌∷◌ as ◌then◌}
 
@@ -14,13 +16,8 @@ piece s a n = take n (drop a s)
 
 -- two texts have the same bytes
 unfoldable pub same : List ℕ → List ℕ → Bool
-same [] [] = true
-same [] (y ∷ ys) = false
-same (x ∷ xs) [] = false
-same (x ∷ xs) (y ∷ ys) = elim (eqb x y) [ true ↦ same xs ys | false ↦ false ]
+same a b = bytes_eq a b
 
 -- the text n stands at the front of s
 unfoldable pub starts_with : List ℕ → List ℕ → Bool
-starts_with [] s = true
-starts_with (n ∷ ns) [] = false
-starts_with (n ∷ ns) (x ∷ xs) = elim (eqb x n) [ true ↦ starts_with ns xs | false ↦ false ]
+starts_with n s = has_front nat_eq s n

@@ -45,6 +45,7 @@ pub fn byte_at(s: &[u8], i: usize) -> u8
 }
 
 /// Whether two texts have the same bytes.
+#[tactic(auto, unfolding(crate::specs::Text::same))]
 pub fn equal(a: &[u8], b: &[u8]) -> bool
     ensures { result ≡ same a.now b.now }
 {
@@ -65,14 +66,14 @@ pub fn is_among(s: &[u8], texts: &[&[u8]]) -> bool
 }
 
 /// Whether `needle` stands in `s` at `at`. Past the end only an empty one does.
+#[tactic(auto, unfolding(crate::specs::Text::starts_with))]
 pub fn starts_with(s: &[u8], at: usize, needle: &[u8]) -> bool
     ensures { result ≡ starts_with needle.now (drop at s.now) }
 {
     if s.len() <= at {
         return needle.is_empty();
     }
-    let rest = part(s, at, s.len());
-    rest.starts_with(needle)
+    s[at..].starts_with(needle)
 }
 
 // ---- ASCII

@@ -12,11 +12,11 @@ mark x b = pick (eqb b x) 128 0
 pub record Marked (x : ℕ) (s : List ℕ) (i m : ℕ) : Type 0 where
   pub is : m ≡ word_of (map (mark x) (piece s i 8))
 
--- for each of the first n places of u: 128 if the text stands there, else 0
-unfoldable pub flags : List ℕ → ℕ → List ℕ → List ℕ
-flags text zero u = []
-flags text (suc n) u = pick (starts_with text u) 128 0 ∷ flags text n (drop 1 u)
+-- the first n places of u, each as what is left of u there
+unfoldable pub places : ℕ → List ℕ → List (List ℕ)
+places zero u = []
+places (suc n) u = u ∷ places n (drop 1 u)
 
 -- m has the high bit of each of the 8 places from i on where the text stands, and no other bit
 pub record Flagged (text s : List ℕ) (i m : ℕ) : Type 0 where
-  pub is : m ≡ word_of (flags text 8 (drop i s))
+  pub is : m ≡ word_of (map (λ u. pick (starts_with text u) 128 0) (places 8 (drop i s)))

@@ -1,9 +1,9 @@
-use Rattle.std.proofs.Common.{◌-◌, length}
-use Rattle.texts.proofs.Scanning.{Scanning}
+use Rattle.std.proofs.Common.{◌≡◌, ◌-◌, length}
+use Rattle.texts.specs.Scan.{scan}
 use Rattle.texts.proofs.scan.past_eights.Given as goal
 
 abbrev pub invariant-loop-i : goal.invariant-loop-i
-invariant-loop-i g l = Scanning g.T.ByteTest.test l.s l.from l.i
+invariant-loop-i g l = scan g.T.ByteTest.test l.s l.i ≡ scan g.T.ByteTest.test l.s l.from
 
 abbrev pub decreases-loop-i : goal.decreases-loop-i
 decreases-loop-i g l = length l.s - l.i
