@@ -11,6 +11,7 @@ use Rattle.tags.specs.Attributes.{raw_length}
 use Rattle.model.specs.Schema.{Item, Schema, item_at, no_item}
 use Rattle.builder.specs.Builder.{Outcome, on, refused, added, with_items}
 use Rattle.model.specs.internal.Store.{entry_at, words_of, item_of, items_of, schema_of}
+use Rattle.builder.specs.Limits.{max_items}
 use Rattle.builder.specs.internal.Layout.{model_in, builder_in, stack_of, over, texted, first, Alike, Kept, Ready, Steady, Same, After, used_by}
 use Rattle.builder.specs.internal.Taking.{Made, ReadAt, Numbered, numbered}
 use Rattle.model.specs.declared.Entry.{Entry}
@@ -55,9 +56,9 @@ after-then p a = record { is = a.is; kept = a.kept; used = a.used; same = same-t
 
 -- ---- the first state
 
-pub first_kept : {w : Work} → w.limits.items ≤ 1024 → w.limits.depth ≤ 64 → length w.doc.now ≤ 32768 → 16384 ≤ length w.records.now → 65536 ≤ length w.text.now → Kept w first
+pub first_kept : {w : Work} → length w.doc.now ≤ 32768 → 16384 ≤ length w.records.now → 65536 ≤ length w.text.now → Kept w first
 unfolding schema_of items_of
-first_kept i d h k t =
+first_kept h k t =
     record {
       deep = omega arith;
       many = omega arith;
@@ -67,8 +68,6 @@ first_kept i d h k t =
       records = k;
       bytes = t;
       document = h;
-      items = i;
-      depth = d;
       stable = λ x a. refl;
     }
 
@@ -106,7 +105,7 @@ module _ (w : Work) (s : State) (place : ℕ) (e : Entry) (k : Kept w s) where
   unfolding added
   put-full c it = rw (counted-items w s, le-leb w.limits.items s.place.count c)
 
-  module _ (st : Steady s.place.low e.encoding w.text.now e) (h : s.place.low ≤ e.encoding) (g : e.encoding ≤ s.place.high) (c : s.place.count < w.limits.items) where
+  module _ (st : Steady s.place.low e.encoding w.text.now e) (h : s.place.low ≤ e.encoding) (g : e.encoding ≤ s.place.high) (c : s.place.count < w.limits.items) (m : w.limits.items ≤ max_items) where
     abbrev after : State
     after = record { place = record { depth = s.place.depth; count = s.place.count + 1; low = s.place.low; high = e.encoding; start = s.place.start }; current = s.current; head = s.head }
 
@@ -118,7 +117,6 @@ module _ (w : Work) (s : State) (place : ℕ) (e : Entry) (k : Kept w s) where
     unfolding schema_of
     schema-now t a =
         let v = k.stable t (alike-wider w.text.now t s.place.low e.encoding s.place.high g a) in
-        let m = k.items in
         let pk : piece t s.head.name s.head.len ≡ piece w.text.now s.head.name s.head.len = ap (λ (x : Schema). x.package_name) v in
         let it : items_of s.place.count w.records.now t ≡ items_of s.place.count w.records.now w.text.now = ap (λ (x : Schema). x.items) v in
         rw (items-put s.place.count w.records.now t e (omega (arith, k.records)), it, pk, st.item t a)
@@ -126,7 +124,6 @@ module _ (w : Work) (s : State) (place : ℕ) (e : Entry) (k : Kept w s) where
     pub put-fine : After (added w.limits place (item_of w.text.now e) (builder_in w s)) w s (s.place.high - e.encoding) (over w rec') (Ok after)
     unfolding added
     put-fine =
-        let m = k.items in
         let sk : stack_of s.place.depth rec' w.doc.now ≡ stack_of s.place.depth w.records.now w.doc.now = stack-put s.place.depth s.place.count w.records.now w.doc.now e (omega arith) in
         let n : length (builder_in w s).schema.items ≡ s.place.count = counted-items w s in
         record {
@@ -141,8 +138,6 @@ module _ (w : Work) (s : State) (place : ℕ) (e : Entry) (k : Kept w s) where
                 records = rw (length-sets w.records.now (15 * s.place.count) (words_of e)) k.records;
                 bytes = k.bytes;
                 document = k.document;
-                items = k.items;
-                depth = k.depth;
                 stable = λ t a. schema-now t a ∙ sym (schema-now w.text.now alike_self);
               };
           used = omega (arith, k.top);

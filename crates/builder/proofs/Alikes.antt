@@ -47,8 +47,6 @@ module _ (w : Work) (s : State) (t : List ℕ) (k : Kept w s) (a : Alike s.place
         records = k.records;
         bytes = omega (arith, k.bytes);
         document = k.document;
-        items = k.items;
-        depth = k.depth;
         stable = λ u b. k.stable u (alike-trans a b) ∙ sym (k.stable t a);
       }
 

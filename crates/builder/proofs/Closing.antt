@@ -139,8 +139,6 @@ module _ {w : Work} {s : State} (k : Kept w s) where
               records = rw (given-long w s k v z owner) k.records;
               bytes = k.bytes;
               document = k.document;
-              items = k.items;
-              depth = k.depth;
               stable = λ t b. given-schema w s k v z owner t b ∙ sym (given-schema w s k v z owner w.text.now alike_self);
             };
         used = omega arith;
@@ -156,7 +154,7 @@ module _ {w : Work} {s : State} (k : Kept w s) where
   closed-current c =
       record {
         is = refl;
-        kept = record { deep = k.deep; many = k.many; begun = k.begun; apart = k.apart; top = k.top; records = k.records; bytes = k.bytes; document = k.document; items = k.items; depth = k.depth; stable = k.stable };
+        kept = record { deep = k.deep; many = k.many; begun = k.begun; apart = k.apart; top = k.top; records = k.records; bytes = k.bytes; document = k.document; stable = k.stable };
         used = omega arith;
         same = same_self;
       }
@@ -241,8 +239,6 @@ module _ {w : Work} {s : State} (from len : ℕ) (r : Ready w s len) where
                 records = k.records;
                 bytes = rw (et, length-sets w.text.now s.place.low (decoded (piece w.doc.now from len))) k.bytes;
                 document = k.document;
-                items = k.items;
-                depth = k.depth;
                 stable = λ u b. k.stable u (alike-trans alike (alike-lower t u s.place.low (s.place.low + n) s.place.high (omega arith) b)) ∙ sym (k.stable t alike);
               };
           used = omega (arith, short);

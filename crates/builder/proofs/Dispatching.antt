@@ -16,6 +16,7 @@ use Rattle.numbers.specs.Numbers.{number_of}
 use Rattle.model.specs.Schema.{Schema}
 use Rattle.builder.specs.Builder.{Builder, on, refused, Attributes, number_in, text_in, or_empty, with_schema, open_schema, open_by, opened, top, with_stack}
 use Rattle.model.specs.internal.Store.{items_of, schema_of}
+use Rattle.builder.specs.Limits.{max_depth}
 use Rattle.builder.specs.internal.Layout.{model_in, builder_in, texted, parent_composite, deeper, over, pushed, room, Alike, Ready, IsTag, After}
 use Rattle.builder.specs.internal.Taking.{attributes_of, keys_for, TakenAt, Numbered, Opens, Finds}
 use Rattle.elements.specs.Elements.{element_of}
@@ -113,8 +114,6 @@ module _ {w : Work} {s : State} {tag : Tag} (o : Opens schema_keys w s tag) {f :
                   records = k.records;
                   bytes = omega (arith, q.long, k.bytes);
                   document = k.document;
-                  items = k.items;
-                  depth = k.depth;
                   stable = λ u a. schema-now u a ∙ sym (schema-now t alike_self);
                 };
             used = omega (arith, q.start, k.top, third-room o ef);
@@ -133,9 +132,9 @@ opened-by : (w : Work) (place : ℕ) (name : List ℕ) (a : Attributes) (b : Bui
 unfolding opened
 opened-by w place name a b h = rw h
 
-module _ {w : Work} {s : State} {tag : Tag} (r : Ready w s (room tag)) (g : IsTag w.doc.now tag) (d : s.place.depth < w.limits.depth) {e : Element} (ee : e ≡ element_of (piece w.doc.now tag.name tag.len)) {p : State} (ep : p ≡ deeper s) {w₁ : Work} (ew : w₁ ≡ over w (pushed w.records.now s.place.depth tag.name tag.len)) where
+module _ {w : Work} {s : State} {tag : Tag} (r : Ready w s (room tag)) (g : IsTag w.doc.now tag) (d : s.place.depth < w.limits.depth) (m : w.limits.depth ≤ max_depth) {e : Element} (ee : e ≡ element_of (piece w.doc.now tag.name tag.len)) {p : State} (ep : p ≡ deeper s) {w₁ : Work} (ew : w₁ ≡ over w (pushed w.records.now s.place.depth tag.name tag.len)) where
   deep : s.place.depth < 64
-  deep = omega (arith, r.kept.depth)
+  deep = omega arith
 
   pub pushed-opens : Opens (keys_for e) w₁ p tag
   pushed-opens =

@@ -22,7 +22,7 @@ pub ready-current : {w : Work} {s : State} {n : ℕ} {c : Current} → Ready w s
 ready-current r =
     let k = r.kept in
     record {
-      kept = record { deep = k.deep; many = k.many; begun = k.begun; apart = k.apart; top = k.top; records = k.records; bytes = k.bytes; document = k.document; items = k.items; depth = k.depth; stable = k.stable };
+      kept = record { deep = k.deep; many = k.many; begun = k.begun; apart = k.apart; top = k.top; records = k.records; bytes = k.bytes; document = k.document; stable = k.stable };
       room = r.room;
     }
 
@@ -48,7 +48,7 @@ abbrev pub emptied : State → Current → State
 emptied s c = record { place = record { depth = s.place.depth; count = s.place.count; low = s.place.low; high = s.place.high; start = s.place.low }; current = c; head = s.head }
 
 pub kept-emptied : {w : Work} {s : State} {c : Current} → Kept w s → Kept w (emptied s c)
-kept-emptied k = record { deep = k.deep; many = k.many; begun = omega arith; apart = k.apart; top = k.top; records = k.records; bytes = k.bytes; document = k.document; items = k.items; depth = k.depth; stable = k.stable }
+kept-emptied k = record { deep = k.deep; many = k.many; begun = omega arith; apart = k.apart; top = k.top; records = k.records; bytes = k.bytes; document = k.document; stable = k.stable }
 
 pub ready-emptied : {w : Work} {s : State} {n : ℕ} {c : Current} → Ready w s n → Ready w (emptied s c) n
 ready-emptied r = record { kept = kept-emptied r.kept; room = r.room }

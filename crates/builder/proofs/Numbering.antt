@@ -14,7 +14,7 @@ use Rattle.builder.specs.Builder.{Builder, Outcome, on, refused, added, open_typ
 use Rattle.builder.specs.internal.Layout.{builder_in, parent_composite, room, After}
 use Rattle.builder.specs.internal.Taking.{attributes_of, Numbered, numbered, Opens, Finds, drafted, drafted_item}
 use Rattle.numbers.specs.Numbers.{number_of}
-use Rattle.builder.specs.declared.state.Limits.{Limits}
+use Rattle.builder.specs.Limits.{Limits}
 use Rattle.builder.specs.declared.state.State.{State}
 use Rattle.builder.specs.declared.take.Draft.{Draft}
 use Rattle.builder.specs.declared.work.Tag.{Tag}

@@ -9,7 +9,7 @@ use Rattle.model.specs.Schema.{Item, item_at, a_type, a_member, a_ref, a_composi
 use Rattle.builder.specs.Builder.{Builder, Outcome, on, refused, added, and_then, plain_item, type_item, text_in, open_type, open_ref, open_composite, open_enum, open_value, open_message, open_group, open_field, Attributes, number_in, now_composite, now_enum, now_message, now_group, with_text, next_position}
 use Rattle.builder.specs.internal.Layout.{builder_in, room, After}
 use Rattle.builder.specs.internal.Taking.{attributes_of, Opens, Finds, drafted, drafted_item}
-use Rattle.builder.specs.declared.state.Limits.{Limits}
+use Rattle.builder.specs.Limits.{Limits}
 use Rattle.builder.specs.declared.state.State.{State}
 use Rattle.builder.specs.declared.take.Draft.{Draft}
 use Rattle.builder.specs.declared.work.Tag.{Tag}

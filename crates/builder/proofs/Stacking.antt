@@ -75,8 +75,6 @@ module _ (w : Work) (s : State) (from len n : ℕ) (r : Ready w s n) (d : s.plac
               records = rw (length-set, length-set) k.records;
               bytes = k.bytes;
               document = k.document;
-              items = k.items;
-              depth = k.depth;
               stable = λ t a. schema t ∙ k.stable t a ∙ sym (schema w.text.now);
             };
         room = r.room;
@@ -113,7 +111,7 @@ parent-same w s e f g = g ∙ ap (λ x. same x (ascii "composite")) (f ∙ ap (�
 
 module _ (w : Work) (s : State) where
   pub pop_kept : Kept w s → Kept w (higher s)
-  pop_kept k = record { deep = omega (arith, k.deep); many = k.many; begun = k.begun; apart = k.apart; top = k.top; records = k.records; bytes = k.bytes; document = k.document; items = k.items; depth = k.depth; stable = k.stable }
+  pop_kept k = record { deep = omega (arith, k.deep); many = k.many; begun = k.begun; apart = k.apart; top = k.top; records = k.records; bytes = k.bytes; document = k.document; stable = k.stable }
 
   pub pop-builder : builder_in w (higher s) ≡ with_stack (rest (builder_in w s).stack) (builder_in w s)
   pop-builder = rw (rest-stack s.place.depth w.records.now w.doc.now)

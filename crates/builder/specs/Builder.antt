@@ -12,7 +12,7 @@ use Rattle.model.specs.Schema.{Item, Schema, item_at, under, last, a_type, a_mem
 use Rattle.elements.specs.Elements.{element_of}
 use Rattle.elements.specs.declared.Element.{Element}
 use Rattle.elements.specs.declared.Element.TheVariants as element
-use Rattle.builder.specs.declared.state.Limits.{Limits}
+use Rattle.builder.specs.Limits.{Limits}
 
 -- the current composite, enum, message and group, as positions among the items; each may be none
 pub record Currents : Type 0 where

@@ -12,6 +12,7 @@
 
 pub mod close;
 mod items;
+pub mod limits;
 pub mod open;
 pub mod state;
 mod take;

@@ -4,13 +4,6 @@ ghost use Rattle.builder.specs.internal.Layout.{first, higher, model_in};
 
 use model::{Head, Model};
 
-/// How many items there may be, and how many elements may be open.
-#[derive(Clone, Copy)]
-pub struct Limits {
-    pub items: u32,
-    pub depth: usize,
-}
-
 /// How much of the buffers is in use: `depth` open names and `count` items, and of the text buffer
 /// what is below `low`, where the collected text begins at `start`, and what is from `high` on.
 #[derive(Clone, Copy)]

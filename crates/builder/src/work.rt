@@ -7,11 +7,12 @@ ghost use Rattle.builder.specs.Builder.{top};
 ghost use Rattle.builder.specs.internal.Layout.{stack_of, builder_in, deeper, pushed, over, first, parent_composite, Kept};
 ghost use Rattle.builder.specs.internal.Taking.{Finds};
 
-use crate::state::{Limits, Place, State};
+use crate::limits::Limits;
+use crate::state::{Place, State};
 use model::word;
+use swar::same_name;
 use tags::tag::{Noted, Notes, noted_of};
 use texts::{equal, part};
-use swar::same_name;
 
 /// The document, and the two buffers for what is read of it: items and open names, and texts.
 #[derive(Drop)]
@@ -51,7 +52,7 @@ impl<'d, 'a> Work<'d, 'a> {
         records: &'a mut [u32],
         text: &'a mut [u8],
     ) -> Work<'d, 'a>
-        requires { (limits.items ≤ 1024) × (limits.depth ≤ 64) × (length doc.now ≤ 32768) × (16384 ≤ length records.old) × (65536 ≤ length text.old) }
+        requires { (length doc.now ≤ 32768) × (16384 ≤ length records.old) × (65536 ≤ length text.old) }
         ensures is { result ≡ record { limits = limits; doc = doc.entry; records = records.entry; text = text.entry } }
         ensures kept { Kept result first }
     {

@@ -4,7 +4,8 @@ use Rattle.texts.specs.Scan.{scan, is_ascii}
 use Rattle.refusals.specs.declared.Refusal.{Refusal}
 use Rattle.refusals.specs.declared.Refusal.TheVariants.{TooLong, NoWorkSpace, NotAscii}
 use Rattle.model.specs.declared.Model.{Model}
-use Rattle.xmlschema.specs.Whole.{reading, the_limits, answer_of}
+use Rattle.builder.specs.Limits.{highest}
+use Rattle.xmlschema.specs.Whole.{reading, answer_of}
 use Rattle.xmlschema.specs.Read.{shown, ReadInto}
 
 module _ (doc rec text : List ℕ) where
@@ -28,7 +29,7 @@ module _ (doc rec text : List ℕ) where
         unfolding answer_of
         answer-high l = record { is = rw (le-ltb 32768 (length doc) h, le-ltb (length rec) 16384 k, le-ltb (length text) 65536 t, ← e, lt-ltb at (length doc) l); untouched = λ z. (refl, refl) }
 
-        pub answer-read : length doc ≤ at → {r : Result Model Refusal} {rec' text' : List ℕ} → shown r rec' text' ≡ reading the_limits doc → ReadInto doc rec text r rec' text'
+        pub answer-read : length doc ≤ at → {r : Result Model Refusal} {rec' text' : List ℕ} → shown r rec' text' ≡ reading highest doc → ReadInto doc rec text r rec' text'
         unfolding answer_of
         answer-read l q =
             record {

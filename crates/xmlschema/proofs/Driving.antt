@@ -11,7 +11,7 @@ use Rattle.saxlite.specs.declared.reader.Reader.{Reader}
 use Rattle.model.specs.internal.Store.{items_of, schema_of}
 use Rattle.builder.specs.Builder.{Builder, on, refused}
 use Rattle.builder.specs.internal.Layout.{builder_in, stack_of, first, model_in, Kept, Ready, Same, After}
-use Rattle.builder.specs.declared.state.Limits.{Limits}
+use Rattle.builder.specs.Limits.{Limits}
 use Rattle.builder.specs.declared.state.State.{State}
 use Rattle.builder.specs.declared.work.Work.{Work}
 use Rattle.builder.proofs.Stacking.{length-stack}

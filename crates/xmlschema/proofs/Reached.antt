@@ -17,7 +17,7 @@ use Rattle.model.specs.Schema.{Item, Schema, no_item, item_at, positions_from, u
 use Rattle.builder.specs.Builder.{Builder, Outcome, on, refused, Attributes, text_in, number_in, with_stack, with_text, with_schema, with_items, with_second, now_composite, now_enum, now_message, now_group, next_position, added, and_then, with_number, type_item, plain_item, open_schema, member_to, open_type, ref_to, open_ref, open_composite, open_enum, value_to, open_value, open_message, group_to, open_group, field_under, field_in, field_to, open_field, open_by, opened, top, rest, given_to, value_of_enum, close_value, close_by, closed, collect}
 use Rattle.xmlschema.specs.Whole.{step, empty}
 use Rattle.xmlschema.specs.Tracking.{Reached, start, further, HasValue, ValuesFound}
-use Rattle.builder.specs.declared.state.Limits.{Limits}
+use Rattle.builder.specs.Limits.{Limits}
 use Rattle.elements.specs.Elements.{element_of, other_element_of}
 use Rattle.elements.specs.declared.Element.{Element}
 use Rattle.elements.specs.declared.Element.TheVariants as element

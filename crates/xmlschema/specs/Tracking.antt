@@ -8,7 +8,7 @@ use Rattle.model.specs.Schema.{Schema, under, last, a_value}
 use Rattle.elements.specs.Elements.{element_of}
 use Rattle.elements.specs.declared.Element.TheVariants.{ValidValue}
 use Rattle.builder.specs.Builder.{Builder, on, top}
-use Rattle.builder.specs.declared.state.Limits.{Limits}
+use Rattle.builder.specs.Limits.{Limits}
 use Rattle.xmlschema.specs.Whole.{step, empty}
 
 -- after some of a document's events the builder is this one, and these events are still to come

@@ -8,7 +8,7 @@ use Rattle.saxlite.specs.Event.{Event, Events, text, opens, closes, done, broken
 use Rattle.saxlite.specs.Events.{events}
 use Rattle.model.specs.Schema.{Schema}
 use Rattle.builder.specs.Builder.{Builder, Outcome, on, refused, opened, closed, collect}
-use Rattle.builder.specs.declared.state.Limits.{Limits}
+use Rattle.builder.specs.Limits.{Limits, highest}
 
 -- what an event makes of the builder; refusals hold its place
 abbrev pub step : Limits → ℕ → Event → Builder → Outcome
@@ -47,10 +47,6 @@ ending doc (refused refusal) = refused_by refusal
 abbrev pub reading : Limits → List ℕ → Whole
 reading l doc = ending doc (built l (events doc) empty)
 
--- how many items there may be, and how many open elements
-abbrev pub the_limits : Limits
-the_limits = record { items = 1024; depth = 64 }
-
 -- 1, 2, 10, then what reading gives; records and bytes are the lengths of the two buffers
 unfoldable pub answer_of : List ℕ → ℕ → ℕ → Whole
 answer_of doc records bytes =
@@ -58,4 +54,4 @@ answer_of doc records bytes =
     pick (ltb 32768 (length doc)) (refused_by TooLong)
     (pick (ltb records 16384 or ltb bytes 65536) (refused_by NoWorkSpace)
     (pick (ltb high (length doc)) (refused_by (NotAscii high))
-    (reading the_limits doc)))
+    (reading highest doc)))

@@ -6,17 +6,14 @@ ghost use Rattle.xmlschema.specs.Whole.{reading};
 ghost use Rattle.xmlschema.specs.Read.{shown, ReadInto};
 ghost use Rattle.xmlschema.specs.internal.Driving.{with_state, Takes, Stepped};
 
-use builder::state::{Limits, State};
+use builder::limits::Limits;
+use builder::state::State;
 use builder::work::{Tag, Work};
 use model::Model;
 use refusals::Refusal;
 use saxlite::event::{Event, Told};
 use saxlite::reader::Reader;
 use texts::ascii_end;
-
-const MAX_ITEMS: u32 = 1024;
-
-const MAX_DEPTH: usize = 64;
 
 const MAX_DOCUMENT: usize = 32768;
 
@@ -66,7 +63,7 @@ fn step(s: &mut State, w: &mut Work<'_, '_>, told: Told) -> Result<(), Refusal>
 /// Reads a document that is tested already, as the buffers are. Refused with 11 to 20, 30 to 35.
 #[inline(never)]
 fn read_tested(l: Limits, doc: &[u8], rec: &mut [u32], text: &mut [u8]) -> Result<Model, Refusal>
-    requires { (length doc.now ≤ 32768) × (16384 ≤ length rec.old) × (65536 ≤ length text.old) × (l.items ≤ 1024) × (l.depth ≤ 64) }
+    requires { (length doc.now ≤ 32768) × (16384 ≤ length rec.old) × (65536 ≤ length text.old) }
     ensures { shown result rec.new text.new ≡ reading l doc.now }
 {
     let mut work = Work::new(l, doc, rec, text);
@@ -100,9 +97,5 @@ pub fn read_schema(doc: &[u8], rec: &mut [u32], text: &mut [u8]) -> Result<Model
     if at < doc.len() {
         return Err(Refusal::NotAscii { at });
     }
-    let l = Limits {
-        items: MAX_ITEMS,
-        depth: MAX_DEPTH,
-    };
-    read_tested(l, doc, rec, text)
+    read_tested(Limits::highest(), doc, rec, text)
 }

@@ -114,8 +114,6 @@ pub record Kept (w : Work) (s : State) : Type 0 where
   pub records : 16384 ≤ length w.records.now
   pub bytes : 65536 ≤ length w.text.now
   pub document : length w.doc.now ≤ 32768
-  pub items : w.limits.items ≤ 1024
-  pub depth : w.limits.depth ≤ 64
   pub stable : (t : List ℕ) → Alike s.place.low s.place.high w.text.now t → schema_of (model_in s) w.records.now t ≡ schema_of (model_in s) w.records.now w.text.now
 
 -- how many bytes of the text buffer are in use

@@ -1,0 +1,41 @@
+//! How many items there may be, and how many elements may be open.
+ghost use Rattle.std.specs.Prelude.{◌≡◌};
+ghost use Rattle.builder.specs.Limits.{highest};
+
+use std::marker::Model;
+
+const MAX_ITEMS: u32 = 1024;
+
+const MAX_DEPTH: usize = 64;
+
+/// Limits, never above `MAX_ITEMS` and `MAX_DEPTH`. Contracts see them as two numbers.
+#[derive(Clone, Copy)]
+pub struct Limits {
+    pub(crate) items: u32,
+    pub(crate) depth: usize,
+}
+
+impl Model for Limits {
+    ghost use Rattle.std.specs.Prelude.{◌≤◌};
+    ghost use Rattle.builder.specs.Limits.{Limits, max_items, max_depth};
+
+    ghost Value = { Limits };
+
+    ghost view = { λ l. record { items = l.items; depth = l.depth } };
+
+    ghost inverse = { λ l. record { items = l.items; depth = l.depth } };
+
+    ghost invariant = { λ l. (l.items ≤ max_items) × (l.depth ≤ max_depth) };
+}
+
+impl Limits {
+    /// The highest that there are.
+    pub fn highest() -> Limits
+        ensures { result ≡ highest }
+    {
+        Limits {
+            items: MAX_ITEMS,
+            depth: MAX_DEPTH,
+        }
+    }
+}
