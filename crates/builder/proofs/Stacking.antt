@@ -6,7 +6,7 @@ use Rattle.texts.proofs.Comparing.{equal-same}
 use Rattle.texts.proofs.Stores.{get_or-sets-above}
 use Rattle.builder.specs.Builder.{top, rest, with_stack}
 use Rattle.model.specs.internal.Store.{entry_at, words_of, schema_of}
-use Rattle.builder.specs.internal.Layout.{stack_at, stack_of, parent_composite, deeper, pushed, higher, over, model_in, builder_in, Kept, Ready}
+use Rattle.builder.specs.internal.Layout.{stack_at, stack_of, parent_composite, pushed, with_name, popped, over, model_in, builder_in, Sound, Ready}
 use Rattle.model.specs.declared.Entry.{Entry}
 use Rattle.builder.specs.declared.state.State.{State}
 use Rattle.builder.specs.declared.work.Work.{Work}
@@ -30,7 +30,7 @@ length-stack (suc d) rec doc = ap suc (length-stack d rec doc)
 pub stack-put : (d i : ℕ) (rec doc : List ℕ) (e : Entry) → i < 1024 → stack_of d (sets rec (15 * i) (words_of e)) doc ≡ stack_of d rec doc
 stack-put d i rec doc e h = stack-frame d rec _ doc (λ k b. get_or-sets-above (words_of e) rec (15 * i) (15360 + k) (omega arith))
 
-stack_push : (d from n : ℕ) (rec doc : List ℕ) → 15360 + 2 * d + 2 ≤ length rec → stack_of (d + 1) (pushed rec d from n) doc ≡ piece doc from n ∷ stack_of d rec doc
+stack_push : (d from n : ℕ) (rec doc : List ℕ) → 15360 + 2 * d + 2 ≤ length rec → stack_of (d + 1) (with_name rec d from n) doc ≡ piece doc from n ∷ stack_of d rec doc
 unfolding stack_of
 stack_push d from n rec doc h =
     let r = set rec (stack_at d) from in
@@ -48,24 +48,24 @@ rest-stack (suc d) rec doc = ap (λ k. stack_of k rec doc) (let z : suc d - 1 �
 
 -- ---- a name pushed
 
-module _ (w : Work) (s : State) (from len n : ℕ) (r : Ready w s n) (d : s.place.depth < 64) where
+module _ (w : Work) (s : State) (from len n : ℕ) (r : Ready w s n) (d : s.usage.depth < 64) where
   abbrev rec₁ : List ℕ
-  rec₁ = pushed w.records.now s.place.depth from len
+  rec₁ = with_name w.records.now s.usage.depth from len
 
-  entries : (j : ℕ) → j < s.place.count → entry_at rec₁ j ≡ entry_at w.records.now j
+  entries : (j : ℕ) → j < s.usage.items → entry_at rec₁ j ≡ entry_at w.records.now j
   entries j h =
-      let m = r.kept.many in
-      entry_set (set w.records.now (stack_at s.place.depth) from) (stack_at s.place.depth + 1) len j (omega arith) ∙ entry_set w.records.now (stack_at s.place.depth) from j (omega arith)
+      let m = r.sound.many in
+      entry_set (set w.records.now (stack_at s.usage.depth) from) (stack_at s.usage.depth + 1) len j (omega arith) ∙ entry_set w.records.now (stack_at s.usage.depth) from j (omega arith)
 
   schema : (t : List ℕ) → schema_of (model_in s) rec₁ t ≡ schema_of (model_in s) w.records.now t
   unfolding schema_of
-  schema t = rw (items-frame s.place.count w.records.now rec₁ t entries)
+  schema t = rw (items-frame s.usage.items w.records.now rec₁ t entries)
 
-  pub push-ready : Ready (over w rec₁) (deeper s) n
+  pub push-ready : Ready (over w rec₁) (pushed s) n
   push-ready =
-      let k = r.kept in
+      let k = r.sound in
       record {
-        kept =
+        sound =
             record {
               deep = omega arith;
               many = k.many;
@@ -80,9 +80,9 @@ module _ (w : Work) (s : State) (from len n : ℕ) (r : Ready w s n) (d : s.plac
         room = r.room;
       }
 
-  pub push-builder : builder_in (over w rec₁) (deeper s) ≡ with_stack (piece w.doc.now from len ∷ (builder_in w s).stack) (builder_in w s)
+  pub push-builder : builder_in (over w rec₁) (pushed s) ≡ with_stack (piece w.doc.now from len ∷ (builder_in w s).stack) (builder_in w s)
   push-builder =
-      let k : stack_of (s.place.depth + 1) rec₁ w.doc.now ≡ piece w.doc.now from len ∷ stack_of s.place.depth w.records.now w.doc.now = stack_push s.place.depth from len w.records.now w.doc.now (omega (arith, r.kept.records)) in
+      let k : stack_of (s.usage.depth + 1) rec₁ w.doc.now ≡ piece w.doc.now from len ∷ stack_of s.usage.depth w.records.now w.doc.now = stack_push s.usage.depth from len w.records.now w.doc.now (omega (arith, r.sound.records)) in
       rw (k, schema w.text.now)
 
 -- ---- the innermost name, and a name popped
@@ -106,12 +106,12 @@ pub top-same : (doc rec : List ℕ) (d name len : ℕ) {v w : List ℕ} → v �
 top-same doc rec d name len e f g = rw (← e, ← f) g
 
 -- the parent's name is the innermost one of those below
-pub parent-same : (w : Work) (s : State) {d : ℕ} → d ≡ s.place.depth - 1 → {v : List ℕ} → v ≡ top (stack_of d w.records.now w.doc.now) → {b : Bool} → b ≡ same v (ascii "composite") → b ≡ parent_composite (builder_in w s)
-parent-same w s e f g = g ∙ ap (λ x. same x (ascii "composite")) (f ∙ ap (λ k. top (stack_of k w.records.now w.doc.now)) e ∙ ap top (rest-stack s.place.depth w.records.now w.doc.now))
+pub parent-same : (w : Work) (s : State) {d : ℕ} → d ≡ s.usage.depth - 1 → {v : List ℕ} → v ≡ top (stack_of d w.records.now w.doc.now) → {b : Bool} → b ≡ same v (ascii "composite") → b ≡ parent_composite (builder_in w s)
+parent-same w s e f g = g ∙ ap (λ x. same x (ascii "composite")) (f ∙ ap (λ k. top (stack_of k w.records.now w.doc.now)) e ∙ ap top (rest-stack s.usage.depth w.records.now w.doc.now))
 
 module _ (w : Work) (s : State) where
-  pub pop_kept : Kept w s → Kept w (higher s)
-  pop_kept k = record { deep = omega (arith, k.deep); many = k.many; begun = k.begun; apart = k.apart; top = k.top; records = k.records; bytes = k.bytes; document = k.document; stable = k.stable }
+  pub pop-sound : Sound w s → Sound w (popped s)
+  pop-sound k = record { deep = omega (arith, k.deep); many = k.many; begun = k.begun; apart = k.apart; top = k.top; records = k.records; bytes = k.bytes; document = k.document; stable = k.stable }
 
-  pub pop-builder : builder_in w (higher s) ≡ with_stack (rest (builder_in w s).stack) (builder_in w s)
-  pop-builder = rw (rest-stack s.place.depth w.records.now w.doc.now)
+  pub pop-builder : builder_in w (popped s) ≡ with_stack (rest (builder_in w s).stack) (builder_in w s)
+  pop-builder = rw (rest-stack s.usage.depth w.records.now w.doc.now)

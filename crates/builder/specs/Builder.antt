@@ -237,15 +237,15 @@ opened l place name a b =
 abbrev pub with_second : List ℕ → Item → Item
 with_second v it = record it { second = v }
 
--- the value v given to the item at a position, if there is one
-abbrev pub given_to : Option ℕ → List ℕ → Schema → Schema
-given_to None v s = s
-given_to (Some i) v s = with_items (set s.items i (with_second v (item_at s i))) s
+-- v as the second text of the item at a position, if there is one
+abbrev pub with_second_at : Option ℕ → List ℕ → Schema → Schema
+with_second_at None v s = s
+with_second_at (Some i) v s = with_items (set s.items i (with_second v (item_at s i))) s
 
--- the collected text, trimmed, given to the last value of the current enum, if there is one
+-- the collected text, trimmed, is the last value of the current enum, if there is one
 abbrev pub value_of_enum : Option ℕ → Builder → Builder
 value_of_enum None b = b
-value_of_enum (Some e) b = with_schema (given_to (last (under a_value e b.schema)) (trimmed b.collected) b.schema) b
+value_of_enum (Some e) b = with_schema (with_second_at (last (under a_value e b.schema)) (trimmed b.collected) b.schema) b
 
 -- validValue: that, then the collected text is emptied, and text is no longer collected
 unfoldable pub close_value : Builder → Builder

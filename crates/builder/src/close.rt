@@ -9,9 +9,9 @@ ghost use Rattle.model.specs.Schema.{a_value};
 ghost use Rattle.model.specs.Search.{last_under};
 ghost use Rattle.model.specs.internal.Store.{schema_of};
 ghost use Rattle.builder.specs.Builder.{on, close_value, close_by, closed, collect};
-ghost use Rattle.builder.specs.internal.Layout.{builder_in, given_at, over, Kept, Ready, After};
+ghost use Rattle.builder.specs.internal.Layout.{builder_in, valued_at, over, Sound, Ready, After};
 
-use crate::state::{Current, Place, State};
+use crate::state::{Current, State, Usage};
 use crate::work::Work;
 use elements::{Element, element_at};
 use entities::decode_room;
@@ -29,9 +29,9 @@ impl<'d, 'a> Work<'d, 'a> {
     }
 
     /// Makes a range of the text buffer the value of an enum's last value, if it has one.
-    fn give(&mut self, s: State, owner: u32, value: Range)
-        requires { Kept self.old s × (value.from + value.len ≤ 65536) }
-        ensures { self.new ≡ over self.old (given_at (last_under a_value owner (builder_in self.old s).schema.items) value self.old.records.now) }
+    fn put_value(&mut self, s: State, owner: u32, value: Range)
+        requires { Sound self.old s × (value.from + value.len ≤ 65536) }
+        ensures { self.new ≡ over self.old (valued_at (last_under a_value owner (builder_in self.old s).schema.items) value self.old.records.now) }
     {
         if let Some(i) = self.last_value(s, owner) {
             let e = Entry {
@@ -45,23 +45,23 @@ impl<'d, 'a> Work<'d, 'a> {
 
     /// The range of the collected text, trimmed.
     fn collected(&self, s: State) -> Range
-        requires { Kept self.now s }
-        ensures { TrimmedTo self.now.text.now s.place.start (s.place.low - s.place.start) result }
+        requires { Sound self.now s }
+        ensures { TrimmedTo self.now.text.now s.usage.collected_from (s.usage.collected_to - s.usage.collected_from) result }
     {
-        let start = s.place.start;
-        trim_range(self.text, start, s.place.low - start)
+        let start = s.usage.collected_from;
+        trim_range(self.text, start, s.usage.collected_to - start)
     }
 
     /// Closes a validValue: the collected text, trimmed, is given to the last value of the current
     /// enum, then emptied, and text is collected no more.
     fn close_value(&mut self, s: State) -> State
-        requires { Kept self.old s }
+        requires { Sound self.old s }
         ensures { After (on (close_value (builder_in self.old s))) self.old s 0 self.new (Ok result) }
     {
         let cleared = State {
-            place: Place {
-                start: s.place.low,
-                ..s.place
+            usage: Usage {
+                collected_from: s.usage.collected_to,
+                ..s.usage
             },
             current: Current {
                 collecting: false,
@@ -69,17 +69,17 @@ impl<'d, 'a> Work<'d, 'a> {
             },
             ..s
         };
-        let Some(enumer) = s.current.enumer else {
+        let Some(enumeration) = s.current.enumeration else {
             return cleared;
         };
         let value = self.collected(s);
-        self.give(s, enumer, value);
+        self.put_value(s, enumeration, value);
         cleared
     }
 
     /// Closes the element `e`, whose name is popped already.
     fn close_by(&mut self, s: State, e: Element) -> State
-        requires { Kept self.old s }
+        requires { Sound self.old s }
         ensures { After (on (close_by e (builder_in self.old s))) self.old s 0 self.new (Ok result) }
     {
         let current = match e {
@@ -91,7 +91,7 @@ impl<'d, 'a> Work<'d, 'a> {
                 ..s.current
             },
             Element::Enum => Current {
-                enumer: None,
+                enumeration: None,
                 ..s.current
             },
             Element::Message => Current {
@@ -116,7 +116,7 @@ impl<'d, 'a> Work<'d, 'a> {
         name: usize,
         len: usize,
     ) -> Result<State, Refusal>
-        requires { Kept self.old s }
+        requires { Sound self.old s }
         ensures { After (closed place (piece self.old.doc.now name len) (builder_in self.old s)) self.old s 0 self.new result }
     {
         if !self.is_open(s, name, len) {
@@ -132,11 +132,11 @@ impl<'d, 'a> Work<'d, 'a> {
         ensures { After (on (collect (decoded (piece self.old.doc.now from len)) (builder_in self.old s))) self.old s len self.new (Ok result) }
     {
         if s.current.collecting {
-            let n = decode_room(self.doc, from, len, self.text, s.place.low);
+            let n = decode_room(self.doc, from, len, self.text, s.usage.collected_to);
             return State {
-                place: Place {
-                    low: s.place.low + n,
-                    ..s.place
+                usage: Usage {
+                    collected_to: s.usage.collected_to + n,
+                    ..s.usage
                 },
                 ..s
             };

@@ -12,24 +12,17 @@ use model::Entry;
 use numbers::{digit_at, number_of};
 use texts::{Range, part};
 
-/// A range of the text buffer.
-#[derive(Clone, Copy)]
-pub struct Taken {
-    pub from: usize,
-    pub len: usize,
-}
-
 /// Decodes a value that was found into the text buffer, where it gets as many bytes below `high` as
 /// it takes raw. An absent value is an empty text.
-pub fn take_value(doc: &[u8], found: Option<Range>, text: &mut [u8], high: usize) -> Taken
+pub fn take_value(doc: &[u8], found: Option<Range>, text: &mut [u8], high: usize) -> Range
     requires { (raw_length found ≤ high) × (high ≤ length text.old) }
     ensures { TakenAt found doc.now text.old high result text.new }
 {
     match found {
-        None => Taken { from: high, len: 0 },
+        None => Range { from: high, len: 0 },
         Some(value) => {
             let at = high - value.len;
-            Taken {
+            Range {
                 from: at,
                 len: decode_room(doc, value.from, value.len, text, at),
             }

@@ -4,11 +4,11 @@
 ghost use Rattle.std.specs.Prelude.{◌≡◌, ◌+◌, ◌≤◌, ◌<◌, length};
 ghost use Rattle.texts.specs.Text.{piece, same};
 ghost use Rattle.builder.specs.Builder.{top};
-ghost use Rattle.builder.specs.internal.Layout.{stack_of, builder_in, deeper, pushed, over, first, parent_composite, Kept};
+ghost use Rattle.builder.specs.internal.Layout.{stack_of, builder_in, pushed, with_name, over, initial, parent_composite, Sound};
 ghost use Rattle.builder.specs.internal.Taking.{Finds};
 
 use crate::limits::Limits;
-use crate::state::{Place, State};
+use crate::state::{State, Usage};
 use model::word;
 use swar::same_name;
 use tags::tag::{Noted, Notes, noted_of};
@@ -54,7 +54,7 @@ impl<'d, 'a> Work<'d, 'a> {
     ) -> Work<'d, 'a>
         requires { (length doc.now ≤ 32768) × (16384 ≤ length records.old) × (65536 ≤ length text.old) }
         ensures is { result ≡ record { limits = limits; doc = doc.entry; records = records.entry; text = text.entry } }
-        ensures kept { Kept result first }
+        ensures sound { Sound result initial }
     {
         Work {
             limits,
@@ -66,17 +66,17 @@ impl<'d, 'a> Work<'d, 'a> {
 
     /// Pushes a name, the `len` bytes at `from`: it is the innermost open one from now on.
     pub(crate) fn push(&mut self, s: State, from: usize, len: usize) -> State
-        requires { (s.place.depth < 64) × (16384 ≤ length self.old.records.now) × (from + len ≤ 32768) }
-        ensures { (result ≡ deeper s) × (self.new ≡ over self.old (pushed self.old.records.now s.place.depth from len)) }
+        requires { (s.usage.depth < 64) × (16384 ≤ length self.old.records.now) × (from + len ≤ 32768) }
+        ensures { (result ≡ pushed s) × (self.new ≡ over self.old (with_name self.old.records.now s.usage.depth from len)) }
     {
-        let depth = s.place.depth;
+        let depth = s.usage.depth;
         let k = 15360 + 2 * depth;
         self.records[k] = from as u32;
         self.records[k + 1] = len as u32;
         State {
-            place: Place {
+            usage: Usage {
                 depth: depth + 1,
-                ..s.place
+                ..s.usage
             },
             ..s
         }
@@ -98,19 +98,19 @@ impl<'d, 'a> Work<'d, 'a> {
 
     /// Whether the innermost open name is that of the `len` bytes at `name`.
     fn is_named(&self, s: State, name: usize, len: usize) -> bool
-        requires { s.place.depth ≤ 64 }
+        requires { s.usage.depth ≤ 64 }
         ensures { result ≡ same (piece self.now.doc.now name len) (top (builder_in self.now s).stack) }
     {
-        same_name(part(self.doc, name, len), self.top_name(s.place.depth))
+        same_name(part(self.doc, name, len), self.top_name(s.usage.depth))
     }
 
     /// The same. If it is the very same range, as where a tag closes itself, no bytes are compared.
     pub(crate) fn is_open(&self, s: State, name: usize, len: usize) -> bool
-        requires { s.place.depth ≤ 64 }
+        requires { s.usage.depth ≤ 64 }
         ensures { result ≡ same (piece self.now.doc.now name len) (top (builder_in self.now s).stack) }
     {
-        if 0 < s.place.depth {
-            let k = 15360 + 2 * (s.place.depth - 1);
+        if 0 < s.usage.depth {
+            let k = 15360 + 2 * (s.usage.depth - 1);
             if word(self.records, k) as usize == name && word(self.records, k + 1) as usize == len {
                 return true;
             }
@@ -120,9 +120,9 @@ impl<'d, 'a> Work<'d, 'a> {
 
     /// Whether the name below the innermost one, that of the parent, is composite.
     pub(crate) fn in_composite(&self, s: State) -> bool
-        requires { s.place.depth ≤ 64 }
+        requires { s.usage.depth ≤ 64 }
         ensures { result ≡ parent_composite (builder_in self.now s) }
     {
-        equal(self.top_name(s.popped().place.depth), b"composite")
+        equal(self.top_name(s.popped().usage.depth), b"composite")
     }
 }

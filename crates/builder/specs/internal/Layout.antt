@@ -37,19 +37,19 @@ parent_composite b = same (top (rest b.stack)) (ascii "composite")
 
 -- the model of a state
 abbrev pub model_in : State → Model
-model_in s = record { head = s.head; count = s.place.count }
+model_in s = record { head = s.head; count = s.usage.items }
 
 -- the builder of a state, by what the document and the two buffers hold
 abbrev pub builder_of : State → List ℕ → List ℕ → List ℕ → Builder
 builder_of s doc rec text =
     record {
-      stack = stack_of s.place.depth rec doc;
-      collected = piece text s.place.start (s.place.low - s.place.start);
+      stack = stack_of s.usage.depth rec doc;
+      collected = piece text s.usage.collected_from (s.usage.collected_to - s.usage.collected_from);
       collecting = s.current.collecting;
       current =
           record {
             composite = s.current.composite;
-            enum = s.current.enumer;
+            enum = s.current.enumeration;
             message = s.current.message;
             group = s.current.group;
           };
@@ -61,25 +61,25 @@ abbrev pub builder_in : Work → State → Builder
 builder_in w s = builder_of s w.doc.now w.records.now w.text.now
 
 -- the state before the first event
-abbrev pub first : State
-first =
+abbrev pub initial : State
+initial =
     record {
-      place = record { depth = 0; count = 0; low = 0; high = 65536; start = 0 };
-      current = record { collecting = false; composite = None; enumer = None; message = None; group = None };
+      usage = record { items = 0; depth = 0; collected_from = 0; collected_to = 0; taken_from = 65536 };
+      current = record { collecting = false; composite = None; enumeration = None; message = None; group = None };
       head = record { name = 0; len = 0; id = 0; version = 0 };
     }
 
 -- a state with a name pushed
-abbrev pub deeper : State → State
-deeper s = record s { place = record s.place { depth = s.place.depth + 1 } }
+abbrev pub pushed : State → State
+pushed s = record s { usage = record s.usage { depth = s.usage.depth + 1 } }
 
 -- the records with its position and length
-abbrev pub pushed : List ℕ → ℕ → ℕ → ℕ → List ℕ
-pushed rec d from n = set (set rec (stack_at d) from) (stack_at d + 1) n
+abbrev pub with_name : List ℕ → ℕ → ℕ → ℕ → List ℕ
+with_name rec d from n = set (set rec (stack_at d) from) (stack_at d + 1) n
 
 -- and a state with a name popped
-abbrev pub higher : State → State
-higher s = record s { place = record s.place { depth = s.place.depth - 1 } }
+abbrev pub popped : State → State
+popped s = record s { usage = record s.usage { depth = s.usage.depth - 1 } }
 
 -- the same document and text, with other records
 abbrev pub over : Work → List ℕ → Work
@@ -93,37 +93,37 @@ texted w t = record w { text = record w.text { now = t } }
 abbrev pub valued : Range → Entry → Entry
 valued r e = record e { second = r.from; slen = r.len }
 
--- the records with a second text given to the item at a position, if there is one
-abbrev pub given_at : Option ℕ → Range → List ℕ → List ℕ
-given_at None r rec = rec
-given_at (Some i) r rec = sets rec (15 * i) (words_of (valued r (entry_at rec i)))
+-- the records with another second text for the item at a position, if there is one
+abbrev pub valued_at : Option ℕ → Range → List ℕ → List ℕ
+valued_at None r rec = rec
+valued_at (Some i) r rec = sets rec (15 * i) (words_of (valued r (entry_at rec i)))
 
 -- two texts agree where the text buffer is in use: below low, and from high on
 pub record Alike (low high : ℕ) (text t : List ℕ) : Type 0 where
   pub below : take low t ≡ take low text
   pub above : drop high t ≡ drop high text
 
--- what every step keeps. `stable` says that the schema is the same in every text that is alike, so
+-- what every step keeps of the state and the buffers. `stable` says that the schema is the same in every text that is alike, so
 -- nothing has to be said of where the texts of each item lie
-pub record Kept (w : Work) (s : State) : Type 0 where
-  pub deep : s.place.depth ≤ 64
-  pub many : s.place.count ≤ 1024
-  pub begun : s.place.start ≤ s.place.low
-  pub apart : s.place.low ≤ s.place.high
-  pub top : s.place.high ≤ 65536
+pub record Sound (w : Work) (s : State) : Type 0 where
+  pub deep : s.usage.depth ≤ 64
+  pub many : s.usage.items ≤ 1024
+  pub begun : s.usage.collected_from ≤ s.usage.collected_to
+  pub apart : s.usage.collected_to ≤ s.usage.taken_from
+  pub top : s.usage.taken_from ≤ 65536
   pub records : 16384 ≤ length w.records.now
   pub bytes : 65536 ≤ length w.text.now
   pub document : length w.doc.now ≤ 32768
-  pub stable : (t : List ℕ) → Alike s.place.low s.place.high w.text.now t → schema_of (model_in s) w.records.now t ≡ schema_of (model_in s) w.records.now w.text.now
+  pub stable : (t : List ℕ) → Alike s.usage.collected_to s.usage.taken_from w.text.now t → schema_of (model_in s) w.records.now t ≡ schema_of (model_in s) w.records.now w.text.now
 
 -- how many bytes of the text buffer are in use
 abbrev pub used_by : State → ℕ
-used_by s = s.place.low + (65536 - s.place.high)
+used_by s = s.usage.collected_to + (65536 - s.usage.taken_from)
 
 -- what a step asks: n bytes of the text buffer are free
 pub record Ready (w : Work) (s : State) (n : ℕ) : Type 0 where
-  pub kept : Kept w s
-  pub room : s.place.low + n ≤ s.place.high
+  pub sound : Sound w s
+  pub room : s.usage.collected_to + n ≤ s.usage.taken_from
 
 -- what is known of a tag that was read: where it lies, and what was noted of it
 pub record IsTag (doc : List ℕ) (tag : Tag) : Type 0 where
@@ -151,9 +151,9 @@ abbrev pub outcome : Work → Result State Refusal → Outcome
 outcome w (Ok s) = on (builder_in w s)
 outcome w (Err r) = refused r
 
--- the result r, with w', is the outcome o; its state is kept, with at most n more bytes in use
+-- the result r, with w', is the outcome o; its state is sound, with at most n more bytes in use
 pub record After (o : Outcome) (w : Work) (s : State) (n : ℕ) (w' : Work) (r : Result State Refusal) : Type 0 where
   pub is : outcome w' r ≡ o
-  pub kept : IfOk r (λ s'. Kept w' s')
+  pub sound : IfOk r (λ s'. Sound w' s')
   pub used : IfOk r (λ s'. used_by s' ≤ used_by s + n)
   pub same : Same w w'

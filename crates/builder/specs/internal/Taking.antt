@@ -16,14 +16,13 @@ use Rattle.builder.specs.internal.Layout.{Alike, Steady, builder_in, room, Ready
 use Rattle.elements.specs.declared.Element.{Element}
 use Rattle.elements.specs.declared.Element.TheVariants as element
 use Rattle.model.specs.declared.Entry.{Entry}
-use Rattle.builder.specs.declared.take.Taken.{Taken}
 use Rattle.builder.specs.declared.take.Draft.{Draft}
 use Rattle.builder.specs.declared.state.State.{State}
 use Rattle.builder.specs.declared.work.Tag.{Tag}
 use Rattle.builder.specs.declared.work.Work.{Work}
 
 -- the value that was found is decoded at r.from, which is its raw length below high
-pub record TakenAt (found : Option Range) (doc text : List ℕ) (high : ℕ) (r : Taken) (text' : List ℕ) : Type 0 where
+pub record TakenAt (found : Option Range) (doc text : List ℕ) (high : ℕ) (r : Range) (text' : List ℕ) : Type 0 where
   pub start : r.from + raw_length found ≡ high
   pub is : piece text' r.from r.len ≡ or_empty (value_in doc found)
   pub within : r.len ≤ raw_length found
@@ -75,7 +74,7 @@ draft_length d = raw_length d.name + raw_length d.second + raw_length d.encoding
 pub record Finds (tag : Tag) (f : Noted) : Type 0 where
   pub is : f ≡ noted_of tag.noted
 
--- what reading a number asks: the state is kept, and the tag has room for the text
+-- what reading a number asks: the state is sound, and the tag has room for the text
 unfoldable pub Reads : Work → State → Tag → Option Range → Type 0
 Reads w s tag found = Ready w s (room tag) × (raw_length found ≤ room tag)
 
@@ -88,19 +87,19 @@ abbrev pub attributes_of : Work → Tag → Attributes
 attributes_of w tag = attributes_in w.doc.now tag.attributes
 
 -- a number, or 32 where it is invalid
-abbrev pub numbered : ℕ → Option ℕ → Result ℕ Refusal
-numbered place (Some n) = Ok n
-numbered place None = Err (BadNumber place)
+abbrev pub number_or_refused : ℕ → Option ℕ → Result ℕ Refusal
+number_or_refused place (Some n) = Ok n
+number_or_refused place None = Err (BadNumber place)
 
 -- r is a tag's number, or 32; the builder is the same, and n bytes of the text buffer are free
-pub record Numbered (place n : ℕ) (found : Option Range) (w : Work) (s : State) (w' : Work) (r : Result ℕ Refusal) : Type 0 where
-  pub is : r ≡ numbered place (number_of (value_in w.doc.now found))
+pub record NumberRead (place n : ℕ) (found : Option Range) (w : Work) (s : State) (w' : Work) (r : Result ℕ Refusal) : Type 0 where
+  pub is : r ≡ number_or_refused place (number_of (value_in w.doc.now found))
   pub ready : Ready w' s n
   pub builder : builder_in w' s ≡ builder_in w s
   pub same : Same w w'
 
 -- what opening an element asks: the tag is read, its texts have room, and these names were noted
-pub record Opens (k : Keys) (w : Work) (s : State) (tag : Tag) : Type 0 where
+pub record ReadyToOpen (k : Keys) (w : Work) (s : State) (tag : Tag) : Type 0 where
   pub ready : Ready w s (room tag)
   pub tagged : Tagged w.doc.now tag.attributes tag.next
   pub noted : NotedBy k w.doc.now tag.attributes tag.noted

@@ -6,7 +6,7 @@ use Rattle.saxlite.specs.Reader.{event_in, to_come}
 use Rattle.saxlite.specs.internal.Moving.{takes, Inside, NotedIn}
 use Rattle.saxlite.specs.declared.event.Told.{Told}
 use Rattle.saxlite.specs.declared.reader.Reader.{Reader}
-use Rattle.builder.specs.internal.Layout.{builder_in, used_by, Kept, Ready, After}
+use Rattle.builder.specs.internal.Layout.{builder_in, used_by, Sound, Ready, After}
 use Rattle.builder.specs.declared.state.State.{State}
 use Rattle.builder.specs.declared.work.Work.{Work}
 use Rattle.xmlschema.specs.Whole.{step, built, empty}
@@ -27,7 +27,7 @@ with_state s (Err refusal) = Err refusal
 -- the events still to come, taken by the builder so far, make what the whole document makes
 pub record Driving (r : Reader) (w : Work) (s : State) : Type 0 where
   pub doc : r.doc.now ≡ w.doc.now
-  pub kept : Kept w s
+  pub sound : Sound w s
   pub used : used_by s ≤ r.cursor.at
   pub within : r.cursor.at ≤ length w.doc.now
   pub same : built w.limits (to_come r.doc.now r.cursor) (builder_in w s) ≡ built w.limits (events w.doc.now) empty
