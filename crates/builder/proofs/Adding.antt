@@ -11,8 +11,8 @@ use Rattle.tags.specs.Attributes.{raw_length}
 use Rattle.model.specs.Schema.{Item, Schema, item_at, no_item}
 use Rattle.builder.specs.Builder.{Outcome, on, refused, added, with_items}
 use Rattle.model.specs.internal.Store.{entry_at, words_of, item_of, items_of, schema_of}
-use Rattle.builder.specs.Limits.{max_items}
-use Rattle.builder.specs.internal.Layout.{model_in, builder_in, stack_of, over, texted, initial, Alike, Sound, Ready, Steady, Same, After, used_by}
+use Rattle.builder.specs.Limits.{max_items, min_text}
+use Rattle.builder.specs.internal.Layout.{model_in, builder_in, stack_of, over, texted, initial, Alike, Sound, Ready, Steady, Same, After, used_by, Suffice}
 use Rattle.builder.specs.internal.Taking.{Made, ReadAt, NumberRead, number_or_refused}
 use Rattle.model.specs.declared.Entry.{Entry}
 use Rattle.builder.specs.declared.state.State.{State}
@@ -56,24 +56,19 @@ after-then p a = record { is = a.is; sound = a.sound; used = a.used; same = same
 
 -- ---- the first state
 
-pub initial_sound : {w : Work} → length w.doc.now ≤ 32768 → 16384 ≤ length w.records.now → 65536 ≤ length w.text.now → Sound w initial
+pub initial_sound : {w : Work} → Suffice w.doc.now w.records.now w.text.now → Sound w initial
 unfolding schema_of items_of
-initial_sound h k t =
+initial_sound h =
     record {
-      deep = omega arith;
-      many = omega arith;
-      begun = omega arith;
-      apart = omega arith;
-      top = omega arith;
-      records = k;
-      bytes = t;
-      document = h;
+      within =
+          record { deep = omega arith; many = omega arith; begun = omega arith; apart = omega arith; top = omega arith };
+      lent = h;
       stable = λ x a. refl;
     }
 
 -- n bytes of text are free where so many are not in use
-pub ready-used : {w : Work} {s : State} {n : ℕ} → Sound w s → used_by s + n ≤ 65536 → Ready w s n
-ready-used k h = record { sound = k; room = omega (arith, k.top, h) }
+pub ready-used : {w : Work} {s : State} {n : ℕ} → Sound w s → used_by s + n ≤ min_text → Ready w s n
+ready-used k h = record { sound = k; room = omega (arith, k.within.top, h) }
 
 -- ---- a number
 
@@ -119,7 +114,7 @@ module _ (w : Work) (s : State) (place : ℕ) (e : Entry) (k : Sound w s) where
         let v = k.stable t (alike-wider w.text.now t s.usage.collected_to e.encoding s.usage.taken_from g a) in
         let pk : piece t s.head.name s.head.len ≡ piece w.text.now s.head.name s.head.len = ap (λ (x : Schema). x.package_name) v in
         let it : items_of s.usage.items w.records.now t ≡ items_of s.usage.items w.records.now w.text.now = ap (λ (x : Schema). x.items) v in
-        rw (items-put s.usage.items w.records.now t e (omega (arith, k.records)), it, pk, st.item t a)
+        rw (items-put s.usage.items w.records.now t e (omega (arith, k.lent.records)), it, pk, st.item t a)
 
     pub put-fine : After (added w.limits place (item_of w.text.now e) (builder_in w s)) w s (s.usage.taken_from - e.encoding) (over w rec') (Ok after)
     unfolding added
@@ -129,18 +124,8 @@ module _ (w : Work) (s : State) (place : ℕ) (e : Entry) (k : Sound w s) where
         record {
           is = rw (n, lt-leb w.limits.items s.usage.items c, schema-now w.text.now alike_self, sk);
           sound =
-              record {
-                deep = k.deep;
-                many = omega arith;
-                begun = k.begun;
-                apart = h;
-                top = omega (arith, k.top);
-                records = rw (length-sets w.records.now (15 * s.usage.items) (words_of e)) k.records;
-                bytes = k.bytes;
-                document = k.document;
-                stable = λ t a. schema-now t a ∙ sym (schema-now w.text.now alike_self);
-              };
-          used = omega (arith, k.top);
+              record { within = record { deep = k.within.deep; many = omega arith; begun = k.within.begun; apart = h; top = omega (arith, k.within.top) }; lent = record { document = k.lent.document; records = rw (length-sets w.records.now (15 * s.usage.items) (words_of e)) k.lent.records; bytes = k.lent.bytes }; stable = λ t a. schema-now t a ∙ sym (schema-now w.text.now alike_self) };
+          used = omega (arith, k.within.top);
           same = record { limits = refl; doc = refl; records = refl; text = refl };
         }
 

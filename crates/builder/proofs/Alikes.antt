@@ -33,22 +33,12 @@ module _ (w : Work) (s : State) (t : List ℕ) (k : Sound w s) (a : Alike s.usag
   pub builder-alike : builder_in (texted w t) s ≡ builder_in w s
   builder-alike =
       let c : piece t s.usage.collected_from (s.usage.collected_to - s.usage.collected_from) ≡ piece w.text.now s.usage.collected_from (s.usage.collected_to - s.usage.collected_from) =
-      piece-below w.text.now t s.usage.collected_to s.usage.collected_from (s.usage.collected_to - s.usage.collected_from) (omega (arith, k.begun)) a.below in
+      piece-below w.text.now t s.usage.collected_to s.usage.collected_from (s.usage.collected_to - s.usage.collected_from) (omega (arith, k.within.begun)) a.below in
       rw (c, k.stable t a)
 
   pub sound-alike : length t ≡ length w.text.now → Sound (texted w t) s
   sound-alike l =
-      record {
-        deep = k.deep;
-        many = k.many;
-        begun = k.begun;
-        apart = k.apart;
-        top = k.top;
-        records = k.records;
-        bytes = omega (arith, k.bytes);
-        document = k.document;
-        stable = λ u b. k.stable u (alike-trans a b) ∙ sym (k.stable t a);
-      }
+      record { within = k.within; lent = record { document = k.lent.document; records = k.lent.records; bytes = omega (arith, k.lent.bytes) }; stable = λ u b. k.stable u (alike-trans a b) ∙ sym (k.stable t a) }
 
 -- a value of the tag has room where the tag has
 pub tag-room : (doc : List ℕ) (attributes next : ℕ) → Tagged doc attributes next → (keys : List (List ℕ)) → T (different keys) → raw_lengths doc attributes keys ≤ next - attributes

@@ -36,7 +36,7 @@ module _ (w : Work) (s : State) (owner : ℕ) (v : Range) {o : Option ℕ} (f : 
 
   pub put_value-fits : {i : ℕ} → o ≡ Some i → Sound w s → 15 * i + 10 ≤ length w.records.now
   unfolding last_under schema_of
-  put_value-fits {i} e k = omega (arith, k.many, k.records, last_in (owned_so a_value owner) s.usage.items w.records.now w.text.now (sym f ∙ e))
+  put_value-fits {i} e k = omega (arith, k.within.many, k.lent.records, last_in (owned_so a_value owner) s.usage.items w.records.now w.text.now (sym f ∙ e))
 
   pub put_value-some : {i : ℕ} → o ≡ Some i → {e : Entry} → e ≡ entry_at w.records.now i → {rec' : List ℕ} → rec' ≡ sets w.records.now (15 * i) (words_of (valued v e)) → over w rec' ≡ over w (valued_at (last_under a_value owner (builder_in w s).schema.items) v w.records.now)
   put_value-some q ee er = ap (over w) (er ∙ rw (sym f ∙ q, ee))
@@ -63,7 +63,7 @@ module _ (w : Work) (s : State) (k : Sound w s) (v : Range) (z : TrimmedTo w.tex
   value = trimmed (piece text s.usage.collected_from (s.usage.collected_to - s.usage.collected_from))
 
   same-value : (t : List ℕ) → Alike s.usage.collected_to s.usage.taken_from text t → piece t v.from v.len ≡ value
-  same-value t a = piece-below text t s.usage.collected_to v.from v.len (omega (arith, z.high, k.begun)) a.below ∙ z.is
+  same-value t a = piece-below text t s.usage.collected_to v.from v.len (omega (arith, z.high, k.within.begun)) a.below ∙ z.is
 
   valued-schema : (t : List ℕ) → Alike s.usage.collected_to s.usage.taken_from text t → schema_of (model_in s) rec' t ≡ with_second_at (last (under a_value owner (schema_of (model_in s) rec text))) value (schema_of (model_in s) rec text)
   unfolding schema_of under last_under
@@ -84,7 +84,7 @@ module _ (w : Work) (s : State) (k : Sound w s) (v : Range) (z : TrimmedTo w.tex
           let n : item_of t (valued v (entry_at rec i)) ≡ with_second value (get_or (items_of s.usage.items rec text) i no_item) =
           valued-item t v (entry_at rec i) value (same-value t a) ∙ ap (with_second value) (e ∙ sym (get_or-items s.usage.items rec text i h)) in
           let w' : items_of s.usage.items (valued_at (Some i) v rec) t ≡ set (items_of s.usage.items rec text) i (with_second value (get_or (items_of s.usage.items rec text) i no_item)) =
-          items-set s.usage.items rec t i (valued v (entry_at rec i)) (omega (arith, k.many, k.records)) h ∙ ap (λ l. set l i (item_of t (valued v (entry_at rec i)))) items ∙ ap (set (items_of s.usage.items rec text) i) n in
+          items-set s.usage.items rec t i (valued v (entry_at rec i)) (omega (arith, k.within.many, k.lent.records)) h ∙ ap (λ l. set l i (item_of t (valued v (entry_at rec i)))) items ∙ ap (set (items_of s.usage.items rec text) i) n in
           rw (w', pk)
 
   valued-stack : stack_of s.usage.depth rec' doc ≡ stack_of s.usage.depth rec doc
@@ -93,7 +93,7 @@ module _ (w : Work) (s : State) (k : Sound w s) (v : Range) (z : TrimmedTo w.tex
     where
       go : (o : Option ℕ) → last (positions_from 0 (owned_so a_value owner) (items_of s.usage.items rec text)) ≡ o → stack_of s.usage.depth (valued_at o v rec) doc ≡ stack_of s.usage.depth rec doc
       go None q = refl
-      go (Some i) q = stack-put s.usage.depth i rec doc (valued v (entry_at rec i)) (omega (arith, last_in (owned_so a_value owner) s.usage.items rec text q, k.many))
+      go (Some i) q = stack-put s.usage.depth i rec doc (valued v (entry_at rec i)) (omega (arith, last_in (owned_so a_value owner) s.usage.items rec text q, k.within.many))
 
   valued-long : length rec' ≡ length rec
   valued-long = go (last_under a_value owner (items_of s.usage.items rec text))
@@ -130,17 +130,7 @@ module _ {w : Work} {s : State} (k : Sound w s) where
       (record {
         is = ap on (rw (o, valued-stack w s k v z owner, valued-schema w s k v z owner w.text.now alike_self) (value-some (builder_in w s) e));
         sound =
-            record {
-              deep = k.deep;
-              many = k.many;
-              begun = omega arith;
-              apart = k.apart;
-              top = k.top;
-              records = rw (valued-long w s k v z owner) k.records;
-              bytes = k.bytes;
-              document = k.document;
-              stable = λ t b. valued-schema w s k v z owner t b ∙ sym (valued-schema w s k v z owner w.text.now alike_self);
-            };
+            record { within = record { deep = k.within.deep; many = k.within.many; begun = omega arith; apart = k.within.apart; top = k.within.top }; lent = record { document = k.lent.document; records = rw (valued-long w s k v z owner) k.lent.records; bytes = k.lent.bytes }; stable = λ t b. valued-schema w s k v z owner t b ∙ sym (valued-schema w s k v z owner w.text.now alike_self) };
         used = omega arith;
         same = record { limits = refl; doc = refl; records = refl; text = refl };
       })
@@ -154,7 +144,7 @@ module _ {w : Work} {s : State} (k : Sound w s) where
   closed-current c =
       record {
         is = refl;
-        sound = record { deep = k.deep; many = k.many; begun = k.begun; apart = k.apart; top = k.top; records = k.records; bytes = k.bytes; document = k.document; stable = k.stable };
+        sound = record { within = k.within; lent = k.lent; stable = k.stable };
         used = omega arith;
         same = same_self;
       }
@@ -196,14 +186,14 @@ module _ {w : Work} {s : State} (from len : ℕ) (r : Ready w s len) where
   text-lost f = after_same (text_off (decoded (piece w.doc.now from len)) (builder_in w s) f) r.sound
 
   pub text-room : s.usage.collected_to + len ≤ length w.text.now
-  text-room = omega (arith, r.room, r.sound.top, r.sound.bytes)
+  text-room = omega (arith, r.room, r.sound.within.top, r.sound.lent.bytes)
 
   module _ {n : ℕ} {t : List ℕ} (en : n ≡ length (decoded (piece w.doc.now from len))) (et : t ≡ sets w.text.now s.usage.collected_to (decoded (piece w.doc.now from len))) where
     short : n ≤ len
     short = omega (arith, decoded-most w.doc.now from len)
 
     pub text-fits : Fits w64 (s.usage.collected_to + n)
-    text-fits = omega (arith, short, r.room, r.sound.top)
+    text-fits = omega (arith, short, r.room, r.sound.within.top)
 
     abbrev longer : State
     longer = record s { usage = record s.usage { collected_to = s.usage.collected_to + n } }
@@ -214,7 +204,7 @@ module _ {w : Work} {s : State} (from len : ℕ) (r : Ready w s len) where
     -- the collected text goes on
     joined : piece t s.usage.collected_from (s.usage.collected_to + n - s.usage.collected_from) ≡ piece w.text.now s.usage.collected_from (s.usage.collected_to - s.usage.collected_from) ++ decoded (piece w.doc.now from len)
     joined =
-        let b = r.sound.begun in
+        let b = r.sound.within.begun in
         let z : s.usage.collected_to + n - s.usage.collected_from ≡ s.usage.collected_to - s.usage.collected_from + n = omega arith in
         let y : s.usage.collected_from + (s.usage.collected_to - s.usage.collected_from) ≡ s.usage.collected_to = omega arith in
         let c : piece t s.usage.collected_from (s.usage.collected_to - s.usage.collected_from) ≡ piece w.text.now s.usage.collected_from (s.usage.collected_to - s.usage.collected_from) =
@@ -230,17 +220,7 @@ module _ {w : Work} {s : State} (from len : ℕ) (r : Ready w s len) where
         record {
           is = ap on (z ∙ collect-on (decoded (piece w.doc.now from len)) (builder_in w s) f);
           sound =
-              record {
-                deep = k.deep;
-                many = k.many;
-                begun = omega (arith, k.begun);
-                apart = omega (arith, short, r.room);
-                top = k.top;
-                records = k.records;
-                bytes = rw (et, length-sets w.text.now s.usage.collected_to (decoded (piece w.doc.now from len))) k.bytes;
-                document = k.document;
-                stable = λ u b. k.stable u (alike-trans alike (alike-lower t u s.usage.collected_to (s.usage.collected_to + n) s.usage.taken_from (omega arith) b)) ∙ sym (k.stable t alike);
-              };
+              record { within = record { deep = k.within.deep; many = k.within.many; begun = omega (arith, k.within.begun); apart = omega (arith, short, r.room); top = k.within.top }; lent = record { document = k.lent.document; records = k.lent.records; bytes = rw (et, length-sets w.text.now s.usage.collected_to (decoded (piece w.doc.now from len))) k.lent.bytes }; stable = λ u b. k.stable u (alike-trans alike (alike-lower t u s.usage.collected_to (s.usage.collected_to + n) s.usage.taken_from (omega arith) b)) ∙ sym (k.stable t alike) };
           used = omega (arith, short);
           same = record { limits = refl; doc = refl; records = refl; text = refl };
         }

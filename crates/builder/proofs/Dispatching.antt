@@ -17,7 +17,7 @@ use Rattle.model.specs.Schema.{Schema}
 use Rattle.builder.specs.Builder.{Builder, on, refused, Attributes, number_in, text_in, or_empty, with_schema, open_schema, open_by, opened, top, with_stack}
 use Rattle.model.specs.internal.Store.{items_of, schema_of}
 use Rattle.builder.specs.Limits.{max_depth}
-use Rattle.builder.specs.internal.Layout.{model_in, builder_in, texted, parent_composite, pushed, over, with_name, room, Alike, Ready, IsTag, After}
+use Rattle.builder.specs.internal.Layout.{model_in, builder_in, texted, parent_composite, pushed, with_name, room, Alike, Ready, IsTag, After}
 use Rattle.builder.specs.internal.Taking.{attributes_of, keys_for, TakenAt, NumberRead, ReadyToOpen, Finds}
 use Rattle.elements.specs.Elements.{element_of}
 use Rattle.elements.specs.declared.Element.{Element}
@@ -66,7 +66,7 @@ module _ {w : Work} {s : State} {tag : Tag} (o : ReadyToOpen schema_keys w s tag
         rw z (record { is = bad-version tag.place (attributes_of w tag) (builder_in w s) (is_number o ef m ex) (sym said ∙ v.0); sound = tt; used = tt; same = same-trans m.same n.same })
 
     pub package-asked : (raw_length f.third ≤ s.usage.taken_from) × (s.usage.taken_from ≤ length w₂.text.now)
-    package-asked = (omega (arith, third-room o ef, n.ready.room), omega (arith, n.ready.sound.top, n.ready.sound.bytes))
+    package-asked = (omega (arith, third-room o ef, n.ready.room), omega (arith, n.ready.sound.within.top, n.ready.sound.lent.bytes))
 
     module _ {version : ℕ} (ey : y ≡ Ok version) {k : Range} {t : List ℕ} (q : TakenAt f.third w₂.doc.now w₂.text.now s.usage.taken_from k t) where
       low : s.usage.collected_to ≤ k.from
@@ -104,18 +104,8 @@ module _ {w : Work} {s : State} {tag : Tag} (o : ReadyToOpen schema_keys w s tag
                 ∙ schema-by tag.place (attributes_of w tag) (builder_in w₂ s) id version (is_number o ef m ex) (sym said ∙ number-ok tag.place _ (sym ey ∙ n.is))
                 ∙ ap (open_schema tag.place (attributes_of w tag)) b;
             sound =
-                record {
-                  deep = k.deep;
-                  many = k.many;
-                  begun = k.begun;
-                  apart = low;
-                  top = omega (arith, q.start, k.top);
-                  records = k.records;
-                  bytes = omega (arith, q.long, k.bytes);
-                  document = k.document;
-                  stable = λ u a. schema-now u a ∙ sym (schema-now t alike_self);
-                };
-            used = omega (arith, q.start, k.top, third-room o ef);
+                record { within = record { deep = k.within.deep; many = k.within.many; begun = k.within.begun; apart = low; top = omega (arith, q.start, k.within.top) }; lent = record { document = k.lent.document; records = k.lent.records; bytes = omega (arith, q.long, k.lent.bytes) }; stable = λ u a. schema-now u a ∙ sym (schema-now t alike_self) };
+            used = omega (arith, q.start, k.within.top, third-room o ef);
             same = same-trans m.same (same-trans n.same (record { limits = refl; doc = refl; records = refl; text = refl }));
           }
 
@@ -131,8 +121,8 @@ opened-by : (w : Work) (place : ℕ) (name : List ℕ) (a : Attributes) (b : Bui
 unfolding opened
 opened-by w place name a b h = rw h
 
-module _ {w : Work} {s : State} {tag : Tag} (r : Ready w s (room tag)) (g : IsTag w.doc.now tag) (d : s.usage.depth < w.limits.depth) (m : w.limits.depth ≤ max_depth) {e : Element} (ee : e ≡ element_of (piece w.doc.now tag.name tag.len)) {p : State} (ep : p ≡ pushed s) {w₁ : Work} (ew : w₁ ≡ over w (with_name w.records.now s.usage.depth tag.name tag.len)) where
-  deep : s.usage.depth < 64
+module _ {w : Work} {s : State} {tag : Tag} (r : Ready w s (room tag)) (g : IsTag w.doc.now tag) (d : s.usage.depth < w.limits.depth) (m : w.limits.depth ≤ max_depth) {e : Element} (ee : e ≡ element_of (piece w.doc.now tag.name tag.len)) {p : State} (ep : p ≡ pushed s) {w₁ : Work} (ew : w₁ ≡ with_name w s tag.name tag.len) where
+  deep : s.usage.depth < max_depth
   deep = omega arith
 
   pub pushed-opens : ReadyToOpen (keys_for e) w₁ p tag
@@ -151,7 +141,7 @@ module _ {w : Work} {s : State} {tag : Tag} (r : Ready w s (room tag)) (g : IsTa
       let b = builder_in w s in
       let k : leb w.limits.depth (length b.stack) ≡ false = rw (length-stack s.usage.depth w.records.now w.doc.now) (lt-leb w.limits.depth s.usage.depth d) in
       let h = rw (ep, ew) at f in
-      let q : open_by e w.limits tag.place (parent_composite (builder_in (over w (with_name w.records.now s.usage.depth tag.name tag.len)) (pushed s))) (attributes_of w tag) (builder_in (over w (with_name w.records.now s.usage.depth tag.name tag.len)) (pushed s)) ≡ opened w.limits tag.place name (attributes_of w tag) b =
+      let q : open_by e w.limits tag.place (parent_composite (builder_in (with_name w s tag.name tag.len) (pushed s))) (attributes_of w tag) (builder_in (with_name w s tag.name tag.len) (pushed s)) ≡ opened w.limits tag.place name (attributes_of w tag) b =
       ap (λ x. open_by e w.limits tag.place (parent_composite x) (attributes_of w tag) x) (push-builder w s tag.name tag.len (room tag) r deep)
       ∙ ap (λ x. open_by x w.limits tag.place (same (top b.stack) (ascii "composite")) (attributes_of w tag) (with_stack (name ∷ b.stack) b)) ee
       ∙ opened-by w tag.place name (attributes_of w tag) b k in

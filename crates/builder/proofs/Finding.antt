@@ -22,7 +22,7 @@ pub ready-current : {w : Work} {s : State} {n : ℕ} {c : Current} → Ready w s
 ready-current r =
     let k = r.sound in
     record {
-      sound = record { deep = k.deep; many = k.many; begun = k.begun; apart = k.apart; top = k.top; records = k.records; bytes = k.bytes; document = k.document; stable = k.stable };
+      sound = record { within = k.within; lent = k.lent; stable = k.stable };
       room = r.room;
     }
 
@@ -48,7 +48,7 @@ abbrev pub emptied : State → Current → State
 emptied s c = record s { usage = record s.usage { collected_from = s.usage.collected_to }; current = c }
 
 pub sound-emptied : {w : Work} {s : State} {c : Current} → Sound w s → Sound w (emptied s c)
-sound-emptied k = record { deep = k.deep; many = k.many; begun = omega arith; apart = k.apart; top = k.top; records = k.records; bytes = k.bytes; document = k.document; stable = k.stable }
+sound-emptied k = record { within = record { deep = k.within.deep; many = k.within.many; begun = omega arith; apart = k.within.apart; top = k.within.top }; lent = k.lent; stable = k.stable }
 
 pub ready-emptied : {w : Work} {s : State} {n : ℕ} {c : Current} → Ready w s n → Ready w (emptied s c) n
 ready-emptied r = record { sound = sound-emptied r.sound; room = r.room }

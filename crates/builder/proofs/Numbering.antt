@@ -12,7 +12,7 @@ use Rattle.saxlite.specs.Event.{value_in}
 use Rattle.model.specs.Schema.{Item, item_at, a_type, a_member, a_message, a_group, a_field}
 use Rattle.builder.specs.Builder.{Builder, Outcome, on, refused, added, open_type, open_message, open_group, open_field, now_message, now_group}
 use Rattle.builder.specs.internal.Layout.{builder_in, parent_composite, room, After}
-use Rattle.builder.specs.internal.Taking.{attributes_of, NumberRead, number_or_refused, ReadyToOpen, Finds, drafted, drafted_item}
+use Rattle.builder.specs.internal.Taking.{attributes_of, Added, NumberRead, number_or_refused, ReadyToOpen, Finds, drafted, drafted_item}
 use Rattle.numbers.specs.Numbers.{number_of}
 use Rattle.builder.specs.Limits.{Limits}
 use Rattle.builder.specs.declared.state.State.{State}
@@ -21,7 +21,7 @@ use Rattle.builder.specs.declared.work.Tag.{Tag}
 use Rattle.builder.specs.declared.work.Work.{Work}
 use Rattle.builder.proofs.Adding.{after-as, after-then}
 use Rattle.builder.proofs.Finding.{currently, message-now, group-now, first_said, typed, type-drafted, named-drafted, field-drafted}
-use Rattle.builder.proofs.Opening.{field-of-group, field-bad, message-added, group-added, type-by, member-not, member-by, message-by, group-not, group-by, field-not, field-of-message, bad-message, bad-group, bad-field, bad-type, Added, Gives}
+use Rattle.builder.proofs.Opening.{field-of-group, field-bad, message-added, group-added, type-by, member-not, member-by, message-by, group-not, group-by, field-not, field-of-message, bad-message, bad-group, bad-field, bad-type, Gives}
 
 -- ---- a number
 

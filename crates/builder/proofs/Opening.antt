@@ -8,7 +8,7 @@ use Rattle.tags.specs.internal.Noting.{field_keys, enum_keys}
 use Rattle.model.specs.Schema.{Item, item_at, a_type, a_member, a_ref, a_composite, an_enum, a_value, a_message, a_group, a_field}
 use Rattle.builder.specs.Builder.{Builder, Outcome, on, refused, added, and_then, plain_item, type_item, text_in, open_type, open_ref, open_composite, open_enum, open_value, open_message, open_group, open_field, Attributes, number_in, now_composite, now_enum, now_message, now_group, with_text, next_position}
 use Rattle.builder.specs.internal.Layout.{builder_in, room, After}
-use Rattle.builder.specs.internal.Taking.{attributes_of, ReadyToOpen, Finds, drafted, drafted_item}
+use Rattle.builder.specs.internal.Taking.{attributes_of, Added, ReadyToOpen, Finds, drafted}
 use Rattle.builder.specs.Limits.{Limits}
 use Rattle.builder.specs.declared.state.State.{State}
 use Rattle.builder.specs.declared.take.Draft.{Draft}
@@ -125,10 +125,6 @@ module _ (l : Limits) (place : ℕ) (a : Attributes) (b : Builder) where
   bad-type inside f = rw f
 
 -- ---- without a number
-
--- what is added to a state, and what becomes of it
-abbrev pub Added : Work → Tag → State → Draft → Work → Result State Refusal → Type 0
-Added w tag t d w' r = After (added w.limits tag.place (drafted_item d w.doc.now) (builder_in w t)) w t (room tag) w' r
 
 abbrev pub Gives : Outcome → Work → State → Tag → Work → Result State Refusal → Type 0
 Gives o w s tag w' r = After o w s (room tag) w' r

@@ -1,15 +1,12 @@
 //! Closing an element, and collecting text.
 #![tactic(auto, using(crate::proofs::Laws::closing))]
 
-ghost use Rattle.std.specs.Prelude.{◌≡◌, Ok, ◌+◌, ◌-◌, ◌≤◌, length};
-ghost use Rattle.texts.specs.Text.{piece};
-ghost use Rattle.texts.specs.Trim.{TrimmedTo};
-ghost use Rattle.entities.specs.Entities.{decoded};
+ghost use Rattle.std.specs.Prelude.{◌≡◌, ◌+◌, ◌-◌, ◌≤◌};
 ghost use Rattle.model.specs.Schema.{a_value};
 ghost use Rattle.model.specs.Search.{last_under};
-ghost use Rattle.model.specs.internal.Store.{schema_of};
-ghost use Rattle.builder.specs.Builder.{on, close_value, close_by, closed, collect};
-ghost use Rattle.builder.specs.internal.Layout.{builder_in, valued_at, over, Sound, Ready, After};
+ghost use Rattle.builder.specs.Limits.{min_text};
+ghost use Rattle.builder.specs.Builder.{close_value, close_by, closed, collect};
+ghost use Rattle.builder.specs.internal.Layout.{builder_in, Sound, Ready, Turns, Makes, IsCollected, with_last_value, doc_piece, text_at};
 
 use crate::state::{Current, State, Usage};
 use crate::work::Work;
@@ -30,8 +27,8 @@ impl<'d, 'a> Work<'d, 'a> {
 
     /// Makes a range of the text buffer the value of an enum's last value, if it has one.
     fn put_value(&mut self, s: State, owner: u32, value: Range)
-        requires { Sound self.old s × (value.from + value.len ≤ 65536) }
-        ensures { self.new ≡ over self.old (valued_at (last_under a_value owner (builder_in self.old s).schema.items) value self.old.records.now) }
+        requires { Sound self.old s × (value.from + value.len ≤ min_text) }
+        ensures { self.new ≡ with_last_value self.old s owner value }
     {
         if let Some(i) = self.last_value(s, owner) {
             let e = Entry {
@@ -46,7 +43,7 @@ impl<'d, 'a> Work<'d, 'a> {
     /// The range of the collected text, trimmed.
     fn collected(&self, s: State) -> Range
         requires { Sound self.now s }
-        ensures { TrimmedTo self.now.text.now s.usage.collected_from (s.usage.collected_to - s.usage.collected_from) result }
+        ensures { IsCollected self.now s result }
     {
         let start = s.usage.collected_from;
         trim_range(self.text, start, s.usage.collected_to - start)
@@ -56,7 +53,7 @@ impl<'d, 'a> Work<'d, 'a> {
     /// enum, then emptied, and text is collected no more.
     fn close_value(&mut self, s: State) -> State
         requires { Sound self.old s }
-        ensures { After (on (close_value (builder_in self.old s))) self.old s 0 self.new (Ok result) }
+        ensures { Turns close_value self.old s 0 self.new result }
     {
         let cleared = State {
             usage: Usage {
@@ -80,7 +77,7 @@ impl<'d, 'a> Work<'d, 'a> {
     /// Closes the element `e`, whose name is popped already.
     fn close_by(&mut self, s: State, e: Element) -> State
         requires { Sound self.old s }
-        ensures { After (on (close_by e (builder_in self.old s))) self.old s 0 self.new (Ok result) }
+        ensures { Turns (close_by e) self.old s 0 self.new result }
     {
         let current = match e {
             Element::ValidValue => {
@@ -117,7 +114,7 @@ impl<'d, 'a> Work<'d, 'a> {
         len: usize,
     ) -> Result<State, Refusal>
         requires { Sound self.old s }
-        ensures { After (closed place (piece self.old.doc.now name len) (builder_in self.old s)) self.old s 0 self.new result }
+        ensures { Makes (closed place (doc_piece self.old name len)) self.old s 0 self.new result }
     {
         if !self.is_open(s, name, len) {
             return Err(Refusal::WrongClose { place });
@@ -129,7 +126,7 @@ impl<'d, 'a> Work<'d, 'a> {
     /// Takes the text of `len` bytes at `from`: while text is collected, appends it, decoded.
     pub fn on_text(&mut self, s: State, from: usize, len: usize) -> State
         requires { Ready self.old s len }
-        ensures { After (on (collect (decoded (piece self.old.doc.now from len)) (builder_in self.old s))) self.old s len self.new (Ok result) }
+        ensures { Turns (collect (text_at self.old from len)) self.old s len self.new result }
     {
         if s.current.collecting {
             let n = decode_room(self.doc, from, len, self.text, s.usage.collected_to);

@@ -1,4 +1,5 @@
-//! How many items there may be, and how many elements may be open.
+//! How many items there may be, how many elements may be open, how long a document may be, and how
+//! long the two buffers for its model have to be.
 ghost use Rattle.std.specs.Prelude.{◌≡◌};
 ghost use Rattle.builder.specs.Limits.{highest};
 
@@ -7,6 +8,18 @@ use std::marker::Model;
 const MAX_ITEMS: u32 = 1024;
 
 const MAX_DEPTH: usize = 64;
+
+/// In bytes.
+pub const MAX_DOCUMENT: usize = 32768;
+
+/// In numbers of 32 bits.
+pub const MIN_RECORDS: usize = 16384;
+
+/// In bytes.
+pub const MIN_TEXT: usize = 65536;
+
+/// Where the stack of open names begins in the records: behind the items, of 15 numbers each.
+pub(crate) const NAMES_FROM: usize = 15 * MAX_ITEMS as usize;
 
 /// Limits, never above `MAX_ITEMS` and `MAX_DEPTH`. Contracts see them as two numbers.
 #[derive(Clone, Copy)]

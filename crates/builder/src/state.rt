@@ -2,6 +2,7 @@
 ghost use Rattle.std.specs.Prelude.{◌≡◌};
 ghost use Rattle.builder.specs.internal.Layout.{initial, popped, model_in};
 
+use crate::limits::MIN_TEXT;
 use model::{Head, Model};
 
 /// How much of the buffers is in use. The record buffer holds `items` items and `depth` open names.
@@ -45,7 +46,7 @@ impl State {
                 depth: 0,
                 collected_from: 0,
                 collected_to: 0,
-                taken_from: 65536,
+                taken_from: MIN_TEXT,
             },
             current: Current {
                 collecting: false,

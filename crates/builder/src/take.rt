@@ -4,8 +4,9 @@
 ghost use Rattle.std.specs.Prelude.{◌≡◌, List, ℕ, ◌+◌, ◌≤◌, eqb, length, Some};
 ghost use Rattle.tags.specs.Attributes.{raw_length};
 ghost use Rattle.saxlite.specs.Event.{value_in};
+ghost use Rattle.builder.specs.Limits.{min_text};
 ghost use Rattle.builder.specs.Builder.{is_given};
-ghost use Rattle.builder.specs.internal.Taking.{TakenAt, ReadAt, Made, drafted, drafted_item, draft_length};
+ghost use Rattle.builder.specs.internal.Taking.{TakenAt, ReadAt, drafted, draft_length, MadeOf};
 
 use entities::decode_room;
 use model::Entry;
@@ -119,8 +120,8 @@ impl Draft {
     /// what is absent costs nothing.
     #[inline(always)]
     pub fn entry(&self, doc: &[u8], text: &mut [u8], high: usize) -> Entry
-        requires { (draft_length self.now ≤ high) × (high ≤ length text.old) × (high ≤ 65536) }
-        ensures { Made (drafted_item self.now doc.now) (draft_length self.now) high text.old result text.new }
+        requires { (draft_length self.now ≤ high) × (high ≤ length text.old) × (high ≤ min_text) }
+        ensures { MadeOf self.now doc.now high text.old result text.new }
     {
         let one = take_value(doc, self.name, text, high);
         let two = take_value(doc, self.second, text, one.from);

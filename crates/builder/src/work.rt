@@ -2,12 +2,13 @@
 #![tactic(auto, using(crate::proofs::Laws::stacking))]
 
 ghost use Rattle.std.specs.Prelude.{◌≡◌, ◌+◌, ◌≤◌, ◌<◌, length};
-ghost use Rattle.texts.specs.Text.{piece, same};
+ghost use Rattle.texts.specs.Text.{same};
+ghost use Rattle.builder.specs.Limits.{max_depth};
 ghost use Rattle.builder.specs.Builder.{top};
-ghost use Rattle.builder.specs.internal.Layout.{stack_of, builder_in, pushed, with_name, over, initial, parent_composite, Sound};
+ghost use Rattle.builder.specs.internal.Layout.{stack_of, builder_in, pushed, with_name, initial, parent_composite, Sound, doc_piece, Suffice, lent};
 ghost use Rattle.builder.specs.internal.Taking.{Finds};
 
-use crate::limits::Limits;
+use crate::limits::{Limits, NAMES_FROM};
 use crate::state::{State, Usage};
 use model::word;
 use swar::same_name;
@@ -52,8 +53,8 @@ impl<'d, 'a> Work<'d, 'a> {
         records: &'a mut [u32],
         text: &'a mut [u8],
     ) -> Work<'d, 'a>
-        requires { (length doc.now ≤ 32768) × (16384 ≤ length records.old) × (65536 ≤ length text.old) }
-        ensures is { result ≡ record { limits = limits; doc = doc.entry; records = records.entry; text = text.entry } }
+        requires { Suffice doc.now records.old text.old }
+        ensures is { result ≡ lent limits doc.entry records.entry text.entry }
         ensures sound { Sound result initial }
     {
         Work {
@@ -66,11 +67,14 @@ impl<'d, 'a> Work<'d, 'a> {
 
     /// Pushes a name, the `len` bytes at `from`: it is the innermost open one from now on.
     pub(crate) fn push(&mut self, s: State, from: usize, len: usize) -> State
-        requires { (s.usage.depth < 64) × (16384 ≤ length self.old.records.now) × (from + len ≤ 32768) }
-        ensures { (result ≡ pushed s) × (self.new ≡ over self.old (with_name self.old.records.now s.usage.depth from len)) }
+        requires sound { Sound self.old s }
+        requires above { s.usage.depth < max_depth }
+        requires inside { from + len ≤ length self.old.doc.now }
+        ensures state { result ≡ pushed s }
+        ensures names { self.new ≡ with_name self.old s from len }
     {
         let depth = s.usage.depth;
-        let k = 15360 + 2 * depth;
+        let k = NAMES_FROM + 2 * depth;
         self.records[k] = from as u32;
         self.records[k + 1] = len as u32;
         State {
@@ -84,13 +88,13 @@ impl<'d, 'a> Work<'d, 'a> {
 
     /// The innermost of `depth` open names; empty if there is none.
     fn top_name(&self, depth: usize) -> &'d [u8]
-        requires { depth ≤ 64 }
+        requires { depth ≤ max_depth }
         ensures { result.now ≡ top (stack_of depth self.now.records.now self.now.doc.now) }
     {
         if depth == 0 {
             return part(self.doc, 0, 0);
         }
-        let k = 15360 + 2 * (depth - 1);
+        let k = NAMES_FROM + 2 * (depth - 1);
         let from = word(self.records, k) as usize;
         let len = word(self.records, k + 1) as usize;
         part(self.doc, from, len)
@@ -98,19 +102,19 @@ impl<'d, 'a> Work<'d, 'a> {
 
     /// Whether the innermost open name is that of the `len` bytes at `name`.
     fn is_named(&self, s: State, name: usize, len: usize) -> bool
-        requires { s.usage.depth ≤ 64 }
-        ensures { result ≡ same (piece self.now.doc.now name len) (top (builder_in self.now s).stack) }
+        requires { s.usage.depth ≤ max_depth }
+        ensures { result ≡ same (doc_piece self.now name len) (top (builder_in self.now s).stack) }
     {
         same_name(part(self.doc, name, len), self.top_name(s.usage.depth))
     }
 
     /// The same. If it is the very same range, as where a tag closes itself, no bytes are compared.
     pub(crate) fn is_open(&self, s: State, name: usize, len: usize) -> bool
-        requires { s.usage.depth ≤ 64 }
-        ensures { result ≡ same (piece self.now.doc.now name len) (top (builder_in self.now s).stack) }
+        requires { s.usage.depth ≤ max_depth }
+        ensures { result ≡ same (doc_piece self.now name len) (top (builder_in self.now s).stack) }
     {
         if 0 < s.usage.depth {
-            let k = 15360 + 2 * (s.usage.depth - 1);
+            let k = NAMES_FROM + 2 * (s.usage.depth - 1);
             if word(self.records, k) as usize == name && word(self.records, k + 1) as usize == len {
                 return true;
             }
@@ -120,7 +124,7 @@ impl<'d, 'a> Work<'d, 'a> {
 
     /// Whether the name below the innermost one, that of the parent, is composite.
     pub(crate) fn in_composite(&self, s: State) -> bool
-        requires { s.usage.depth ≤ 64 }
+        requires { s.usage.depth ≤ max_depth }
         ensures { result ≡ parent_composite (builder_in self.now s) }
     {
         equal(self.top_name(s.popped().usage.depth), b"composite")
