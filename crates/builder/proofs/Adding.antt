@@ -11,14 +11,15 @@ use Rattle.tags.specs.Attributes.{raw_length}
 use Rattle.model.specs.Schema.{Item, Schema, item_at, no_item}
 use Rattle.builder.specs.Builder.{Outcome, on, refused, added, with_items}
 use Rattle.model.specs.internal.Store.{entry_at, words_of, item_of, items_of, schema_of}
-use Rattle.builder.specs.internal.Layout.{model_in, builder_in, stack_of, over, texted, first, Alike, Kept, Ready, Steady, Same, After, used_by}
-use Rattle.builder.specs.internal.Taking.{Made, ReadAt, Numbered, numbered}
+use Rattle.builder.specs.Limits.{max_items, min_text}
+use Rattle.builder.specs.internal.Layout.{model_in, builder_in, stack_of, over, texted, initial, Alike, Sound, Ready, Steady, Same, After, used_by, Suffice}
+use Rattle.builder.specs.internal.Taking.{Made, ReadAt, NumberRead, number_or_refused}
 use Rattle.model.specs.declared.Entry.{Entry}
 use Rattle.builder.specs.declared.state.State.{State}
 use Rattle.builder.specs.declared.work.Work.{Work}
 use Rattle.model.proofs.Records.{items-put, length-items, get_or-items}
 use Rattle.builder.proofs.Stacking.{stack-put}
-use Rattle.builder.proofs.Alikes.{alike_self, alike-wider, builder-alike, kept-alike}
+use Rattle.builder.proofs.Alikes.{alike_self, alike-wider, builder-alike, sound-alike}
 
 pub same_self : {w : Work} → Same w w
 same_self = record { limits = refl; doc = refl; records = refl; text = refl }
@@ -34,153 +35,132 @@ if-ok (Err e) f p = p
 
 -- a refusal, and a state that stays
 pub after-refused : {o : Outcome} {w : Work} {s : State} {n : ℕ} {q : Refusal} → refused q ≡ o → After o w s n w (Err q)
-after-refused f = record { is = f; kept = tt; used = tt; same = same_self }
+after-refused f = record { is = f; sound = tt; used = tt; same = same_self }
 
-pub after_same : {o : Outcome} {w : Work} {s : State} {n : ℕ} → on (builder_in w s) ≡ o → Kept w s → After o w s n w (Ok s)
-after_same f k = record { is = f; kept = k; used = omega arith; same = same_self }
+pub after_same : {o : Outcome} {w : Work} {s : State} {n : ℕ} → on (builder_in w s) ≡ o → Sound w s → After o w s n w (Ok s)
+after_same f k = record { is = f; sound = k; used = omega arith; same = same_self }
 
 -- of another form of the same outcome, of a state that uses as much text, and of more space
 pub after-as : {o p : Outcome} {w : Work} (s : State) {t : State} {n m : ℕ} {w' : Work} {r : Result State Refusal} → o ≡ p → used_by t ≡ used_by s → n ≤ m → After o w t n w' r → After p w s m w' r
 after-as s {r = r} e u h a =
     record {
       is = a.is ∙ e;
-      kept = a.kept;
+      sound = a.sound;
       used = if-ok r (λ x y. omega (arith, y)) a.used;
       same = a.same;
     }
 
 -- where the buffers had been written to before
 pub after-then : {o : Outcome} {u w : Work} {s : State} {n : ℕ} {w' : Work} {r : Result State Refusal} → Same u w → After o w s n w' r → After o u s n w' r
-after-then p a = record { is = a.is; kept = a.kept; used = a.used; same = same-trans p a.same }
+after-then p a = record { is = a.is; sound = a.sound; used = a.used; same = same-trans p a.same }
 
 -- ---- the first state
 
-pub first_kept : {w : Work} → w.limits.items ≤ 1024 → w.limits.depth ≤ 64 → length w.doc.now ≤ 32768 → 16384 ≤ length w.records.now → 65536 ≤ length w.text.now → Kept w first
+pub initial_sound : {w : Work} → Suffice w.doc.now w.records.now w.text.now → Sound w initial
 unfolding schema_of items_of
-first_kept i d h k t =
+initial_sound h =
     record {
-      deep = omega arith;
-      many = omega arith;
-      begun = omega arith;
-      apart = omega arith;
-      top = omega arith;
-      records = k;
-      bytes = t;
-      document = h;
-      items = i;
-      depth = d;
+      within =
+          record { deep = omega arith; many = omega arith; begun = omega arith; apart = omega arith; top = omega arith };
+      lent = h;
       stable = λ x a. refl;
     }
 
 -- n bytes of text are free where so many are not in use
-pub ready-used : {w : Work} {s : State} {n : ℕ} → Kept w s → used_by s + n ≤ 65536 → Ready w s n
-ready-used k h = record { kept = k; room = omega (arith, k.top, h) }
+pub ready-used : {w : Work} {s : State} {n : ℕ} → Sound w s → used_by s + n ≤ min_text → Ready w s n
+ready-used k h = record { sound = k; room = omega (arith, k.within.top, h) }
 
 -- ---- a number
 
-module _ {place n : ℕ} {found : Option Range} {w : Work} {s : State} {x : Option ℕ} {t : List ℕ} (q : Ready w s n) (h : raw_length found ≤ n) (p : ReadAt found w.doc.now s.place.low w.text.now x t) where
-  read : {r : Result ℕ Refusal} → r ≡ numbered place x → Numbered place n found w s (texted w t) r
+module _ {place n : ℕ} {found : Option Range} {w : Work} {s : State} {x : Option ℕ} {t : List ℕ} (q : Ready w s n) (h : raw_length found ≤ n) (p : ReadAt found w.doc.now s.usage.collected_to w.text.now x t) where
+  read : {r : Result ℕ Refusal} → r ≡ number_or_refused place x → NumberRead place n found w s (texted w t) r
   read e =
-      let a : Alike s.place.low s.place.high w.text.now t = p.scratch.alike s.place.high (omega (arith, q.room)) in
+      let a : Alike s.usage.collected_to s.usage.taken_from w.text.now t = p.scratch.alike s.usage.taken_from (omega (arith, q.room)) in
       record {
-        is = e ∙ ap (numbered place) p.is;
-        ready = record { kept = kept-alike w s t q.kept a p.scratch.long; room = q.room };
-        builder = builder-alike w s t q.kept a;
+        is = e ∙ ap (number_or_refused place) p.is;
+        ready = record { sound = sound-alike w s t q.sound a p.scratch.long; room = q.room };
+        builder = builder-alike w s t q.sound a;
         same = record { limits = refl; doc = refl; records = refl; text = refl };
       }
 
-  pub number-some : {v : ℕ} → x ≡ Some v → Numbered place n found w s (texted w t) (Ok v)
-  number-some e = read (sym (ap (numbered place) e))
+  pub number-some : {v : ℕ} → x ≡ Some v → NumberRead place n found w s (texted w t) (Ok v)
+  number-some e = read (sym (ap (number_or_refused place) e))
 
-  pub number-none : x ≡ None → Numbered place n found w s (texted w t) (numbered place None)
-  number-none e = read (sym (ap (numbered place) e))
+  pub number-none : x ≡ None → NumberRead place n found w s (texted w t) (number_or_refused place None)
+  number-none e = read (sym (ap (number_or_refused place) e))
 
 -- ---- an item added
 
-pub counted-items : (w : Work) (s : State) → length (builder_in w s).schema.items ≡ s.place.count
+pub counted-items : (w : Work) (s : State) → length (builder_in w s).schema.items ≡ s.usage.items
 unfolding schema_of
-counted-items w s = length-items s.place.count w.records.now w.text.now
+counted-items w s = length-items s.usage.items w.records.now w.text.now
 
-module _ (w : Work) (s : State) (place : ℕ) (e : Entry) (k : Kept w s) where
-  pub put-full : w.limits.items ≤ s.place.count → (it : Item) → refused (TooManyItems place) ≡ added w.limits place it (builder_in w s)
+module _ (w : Work) (s : State) (place : ℕ) (e : Entry) (k : Sound w s) where
+  pub put-full : w.limits.items ≤ s.usage.items → (it : Item) → refused (TooManyItems place) ≡ added w.limits place it (builder_in w s)
   unfolding added
-  put-full c it = rw (counted-items w s, le-leb w.limits.items s.place.count c)
+  put-full c it = rw (counted-items w s, le-leb w.limits.items s.usage.items c)
 
-  module _ (st : Steady s.place.low e.encoding w.text.now e) (h : s.place.low ≤ e.encoding) (g : e.encoding ≤ s.place.high) (c : s.place.count < w.limits.items) where
+  module _ (st : Steady s.usage.collected_to e.encoding w.text.now e) (h : s.usage.collected_to ≤ e.encoding) (g : e.encoding ≤ s.usage.taken_from) (c : s.usage.items < w.limits.items) (m : w.limits.items ≤ max_items) where
     abbrev after : State
-    after = record { place = record { depth = s.place.depth; count = s.place.count + 1; low = s.place.low; high = e.encoding; start = s.place.start }; current = s.current; head = s.head }
+    after = record s { usage = record s.usage { items = s.usage.items + 1; taken_from = e.encoding } }
 
     abbrev rec' : List ℕ
-    rec' = sets w.records.now (15 * s.place.count) (words_of e)
+    rec' = sets w.records.now (15 * s.usage.items) (words_of e)
 
     -- the schema with the item, in every text that is alike
-    schema-now : (t : List ℕ) → Alike s.place.low e.encoding w.text.now t → schema_of (model_in after) rec' t ≡ with_items ((builder_in w s).schema.items ++ (item_of w.text.now e ∷ [])) (builder_in w s).schema
+    schema-now : (t : List ℕ) → Alike s.usage.collected_to e.encoding w.text.now t → schema_of (model_in after) rec' t ≡ with_items ((builder_in w s).schema.items ++ (item_of w.text.now e ∷ [])) (builder_in w s).schema
     unfolding schema_of
     schema-now t a =
-        let v = k.stable t (alike-wider w.text.now t s.place.low e.encoding s.place.high g a) in
-        let m = k.items in
+        let v = k.stable t (alike-wider w.text.now t s.usage.collected_to e.encoding s.usage.taken_from g a) in
         let pk : piece t s.head.name s.head.len ≡ piece w.text.now s.head.name s.head.len = ap (λ (x : Schema). x.package_name) v in
-        let it : items_of s.place.count w.records.now t ≡ items_of s.place.count w.records.now w.text.now = ap (λ (x : Schema). x.items) v in
-        rw (items-put s.place.count w.records.now t e (omega (arith, k.records)), it, pk, st.item t a)
+        let it : items_of s.usage.items w.records.now t ≡ items_of s.usage.items w.records.now w.text.now = ap (λ (x : Schema). x.items) v in
+        rw (items-put s.usage.items w.records.now t e (omega (arith, k.lent.records)), it, pk, st.item t a)
 
-    pub put-fine : After (added w.limits place (item_of w.text.now e) (builder_in w s)) w s (s.place.high - e.encoding) (over w rec') (Ok after)
+    pub put-fine : After (added w.limits place (item_of w.text.now e) (builder_in w s)) w s (s.usage.taken_from - e.encoding) (over w rec') (Ok after)
     unfolding added
     put-fine =
-        let m = k.items in
-        let sk : stack_of s.place.depth rec' w.doc.now ≡ stack_of s.place.depth w.records.now w.doc.now = stack-put s.place.depth s.place.count w.records.now w.doc.now e (omega arith) in
-        let n : length (builder_in w s).schema.items ≡ s.place.count = counted-items w s in
+        let sk : stack_of s.usage.depth rec' w.doc.now ≡ stack_of s.usage.depth w.records.now w.doc.now = stack-put s.usage.depth s.usage.items w.records.now w.doc.now e (omega arith) in
+        let n : length (builder_in w s).schema.items ≡ s.usage.items = counted-items w s in
         record {
-          is = rw (n, lt-leb w.limits.items s.place.count c, schema-now w.text.now alike_self, sk);
-          kept =
-              record {
-                deep = k.deep;
-                many = omega arith;
-                begun = k.begun;
-                apart = h;
-                top = omega (arith, k.top);
-                records = rw (length-sets w.records.now (15 * s.place.count) (words_of e)) k.records;
-                bytes = k.bytes;
-                document = k.document;
-                items = k.items;
-                depth = k.depth;
-                stable = λ t a. schema-now t a ∙ sym (schema-now w.text.now alike_self);
-              };
-          used = omega (arith, k.top);
+          is = rw (n, lt-leb w.limits.items s.usage.items c, schema-now w.text.now alike_self, sk);
+          sound =
+              record { within = record { deep = k.within.deep; many = omega arith; begun = k.within.begun; apart = h; top = omega (arith, k.within.top) }; lent = record { document = k.lent.document; records = rw (length-sets w.records.now (15 * s.usage.items) (words_of e)) k.lent.records; bytes = k.lent.bytes }; stable = λ t a. schema-now t a ∙ sym (schema-now w.text.now alike_self) };
+          used = omega (arith, k.within.top);
           same = record { limits = refl; doc = refl; records = refl; text = refl };
         }
 
 -- an item whose texts were taken on the way
-module _ {w : Work} {s : State} {n m : ℕ} {it : Item} {e : Entry} {t : List ℕ} (r : Ready w s n) (h : m ≤ n) (p : Made it m s.place.high w.text.now e t) where
-  pub made-low : s.place.low ≤ e.encoding
+module _ {w : Work} {s : State} {n m : ℕ} {it : Item} {e : Entry} {t : List ℕ} (r : Ready w s n) (h : m ≤ n) (p : Made it m s.usage.taken_from w.text.now e t) where
+  pub made-low : s.usage.collected_to ≤ e.encoding
   made-low = omega (arith, p.start, r.room)
 
-  made_alike : Alike s.place.low s.place.high w.text.now t
-  made_alike = p.alike s.place.low made-low
+  made_alike : Alike s.usage.collected_to s.usage.taken_from w.text.now t
+  made_alike = p.alike s.usage.collected_to made-low
 
-  pub made-kept : Kept (texted w t) s
-  made-kept = kept-alike w s t r.kept made_alike p.long
+  pub made-sound : Sound (texted w t) s
+  made-sound = sound-alike w s t r.sound made_alike p.long
 
-  pub made-steady : Steady s.place.low e.encoding t e
-  made-steady = p.steady s.place.low
+  pub made-steady : Steady s.usage.collected_to e.encoding t e
+  made-steady = p.steady s.usage.collected_to
 
-  pub made-high : e.encoding ≤ s.place.high
+  pub made-high : e.encoding ≤ s.usage.taken_from
   made-high = omega (arith, p.start)
 
-  pub made-added : (place : ℕ) {w' : Work} {a : Result State Refusal} → After (added w.limits place (item_of t e) (builder_in (texted w t) s)) (texted w t) s (s.place.high - e.encoding) w' a → After (added w.limits place it (builder_in w s)) w s n w' a
+  pub made-added : (place : ℕ) {w' : Work} {a : Result State Refusal} → After (added w.limits place (item_of t e) (builder_in (texted w t) s)) (texted w t) s (s.usage.taken_from - e.encoding) w' a → After (added w.limits place it (builder_in w s)) w s n w' a
   made-added place q =
-      let b : builder_in (texted w t) s ≡ builder_in w s = builder-alike w s t r.kept made_alike in
+      let b : builder_in (texted w t) s ≡ builder_in w s = builder-alike w s t r.sound made_alike in
       after-then (record { limits = refl; doc = refl; records = refl; text = refl })
       (after-as s (ap (λ x. added w.limits place x (builder_in (texted w t) s)) p.is ∙ ap (added w.limits place it) b) refl (omega (arith, p.start)) q)
 
 -- ---- the owner of an item
 
 module _ (w : Work) (s : State) (i : ℕ) where
-  pub owner-shown : {e : Entry} → i < s.place.count → e ≡ entry_at w.records.now i → e.owner ≡ (item_at (builder_in w s).schema i).owner
+  pub owner-shown : {e : Entry} → i < s.usage.items → e ≡ entry_at w.records.now i → e.owner ≡ (item_at (builder_in w s).schema i).owner
   unfolding schema_of item_of
-  owner-shown h q = ap (λ (x : Entry). x.owner) q ∙ ap (λ (x : Item). x.owner) (sym (get_or-items s.place.count w.records.now w.text.now i h))
+  owner-shown h q = ap (λ (x : Entry). x.owner) q ∙ ap (λ (x : Item). x.owner) (sym (get_or-items s.usage.items w.records.now w.text.now i h))
 
-  pub owner-none : s.place.count ≤ i → 0 ≡ (item_at (builder_in w s).schema i).owner
+  pub owner-none : s.usage.items ≤ i → 0 ≡ (item_at (builder_in w s).schema i).owner
   unfolding schema_of
   owner-none h =
-      let g : length (items_of s.place.count w.records.now w.text.now) ≤ i = rw length-items h in
-      ap (λ (x : Item). x.owner) (sym (get_or-eq_default (items_of s.place.count w.records.now w.text.now) no_item g))
+      let g : length (items_of s.usage.items w.records.now w.text.now) ≤ i = rw length-items h in
+      ap (λ (x : Item). x.owner) (sym (get_or-eq_default (items_of s.usage.items w.records.now w.text.now) no_item g))

@@ -1,11 +1,11 @@
--- Laws of texts that agree where they are in use: the builder, and what is kept, do not change.
+-- Laws of texts that agree where they are in use: the builder, and what is sound, do not change.
 use Rattle.std.proofs.Common.{◌≡◌, refl, sym, ap, ◌∙◌, List, [], ◌∷◌, ℕ, ◌+◌, ◌-◌, ◌≤◌, arith, length, take, drop, drop-drop, take-take, T}
 use lib.Seq.{sets}
 use Rattle.texts.specs.Text.{piece}
 use Rattle.texts.proofs.Stores.{take-sets, drop-sets, piece-below}
 use Rattle.tags.specs.Attributes.{attribute_at, raw_length, raw_lengths}
 use Rattle.tags.proofs.Ranges.{different, values-lie}
-use Rattle.builder.specs.internal.Layout.{builder_in, texted, Alike, Kept, Tagged}
+use Rattle.builder.specs.internal.Layout.{builder_in, texted, Alike, Sound, Tagged}
 use Rattle.builder.specs.declared.state.State.{State}
 use Rattle.builder.specs.declared.work.Work.{Work}
 
@@ -29,28 +29,16 @@ pub alike-trans : {low high : ℕ} {a b c : List ℕ} → Alike low high a b →
 alike-trans p q = record { below = q.below ∙ p.below; above = q.above ∙ p.above }
 
 -- the same buffers with a text that is alike
-module _ (w : Work) (s : State) (t : List ℕ) (k : Kept w s) (a : Alike s.place.low s.place.high w.text.now t) where
+module _ (w : Work) (s : State) (t : List ℕ) (k : Sound w s) (a : Alike s.usage.collected_to s.usage.taken_from w.text.now t) where
   pub builder-alike : builder_in (texted w t) s ≡ builder_in w s
   builder-alike =
-      let c : piece t s.place.start (s.place.low - s.place.start) ≡ piece w.text.now s.place.start (s.place.low - s.place.start) =
-      piece-below w.text.now t s.place.low s.place.start (s.place.low - s.place.start) (omega (arith, k.begun)) a.below in
+      let c : piece t s.usage.collected_from (s.usage.collected_to - s.usage.collected_from) ≡ piece w.text.now s.usage.collected_from (s.usage.collected_to - s.usage.collected_from) =
+      piece-below w.text.now t s.usage.collected_to s.usage.collected_from (s.usage.collected_to - s.usage.collected_from) (omega (arith, k.within.begun)) a.below in
       rw (c, k.stable t a)
 
-  pub kept-alike : length t ≡ length w.text.now → Kept (texted w t) s
-  kept-alike l =
-      record {
-        deep = k.deep;
-        many = k.many;
-        begun = k.begun;
-        apart = k.apart;
-        top = k.top;
-        records = k.records;
-        bytes = omega (arith, k.bytes);
-        document = k.document;
-        items = k.items;
-        depth = k.depth;
-        stable = λ u b. k.stable u (alike-trans a b) ∙ sym (k.stable t a);
-      }
+  pub sound-alike : length t ≡ length w.text.now → Sound (texted w t) s
+  sound-alike l =
+      record { within = k.within; lent = record { document = k.lent.document; records = k.lent.records; bytes = omega (arith, k.lent.bytes) }; stable = λ u b. k.stable u (alike-trans a b) ∙ sym (k.stable t a) }
 
 -- a value of the tag has room where the tag has
 pub tag-room : (doc : List ℕ) (attributes next : ℕ) → Tagged doc attributes next → (keys : List (List ℕ)) → T (different keys) → raw_lengths doc attributes keys ≤ next - attributes

@@ -16,12 +16,12 @@ use Rattle.numbers.specs.Numbers.{number_of}
 use Rattle.model.specs.Schema.{Schema}
 use Rattle.builder.specs.Builder.{Builder, on, refused, Attributes, number_in, text_in, or_empty, with_schema, open_schema, open_by, opened, top, with_stack}
 use Rattle.model.specs.internal.Store.{items_of, schema_of}
-use Rattle.builder.specs.internal.Layout.{model_in, builder_in, texted, parent_composite, deeper, over, pushed, room, Alike, Ready, IsTag, After}
-use Rattle.builder.specs.internal.Taking.{attributes_of, keys_for, TakenAt, Numbered, Opens, Finds}
+use Rattle.builder.specs.Limits.{max_depth}
+use Rattle.builder.specs.internal.Layout.{model_in, builder_in, texted, parent_composite, pushed, with_name, room, Alike, Ready, IsTag, After}
+use Rattle.builder.specs.internal.Taking.{attributes_of, keys_for, TakenAt, NumberRead, ReadyToOpen, Finds}
 use Rattle.elements.specs.Elements.{element_of}
 use Rattle.elements.specs.declared.Element.{Element}
 use Rattle.builder.specs.declared.state.State.{State}
-use Rattle.builder.specs.declared.take.Taken.{Taken}
 use Rattle.builder.specs.declared.work.Tag.{Tag}
 use Rattle.builder.specs.declared.work.Work.{Work}
 use Rattle.builder.proofs.Alikes.{alike_self, alike-wider, alike-trans, builder-alike}
@@ -29,7 +29,7 @@ use Rattle.builder.proofs.Stacking.{length-stack, push-ready, push-builder}
 use Rattle.builder.proofs.Adding.{same-trans, after-as, after-refused}
 use Rattle.builder.proofs.Keying.{noted-element}
 use Rattle.builder.proofs.Finding.{second-said, third-said, third-room}
-use Rattle.builder.proofs.Numbering.{is_number, no-number, refused-by, numbered-some, numbered-none}
+use Rattle.builder.proofs.Numbering.{is_number, no-number, refused-by, number-ok, number-err}
 
 -- ---- messageSchema
 
@@ -47,97 +47,85 @@ unfolding open_schema
 bad-version place a b f g = rw (f, g)
 
 -- two numbers, then the package's name
-module _ {w : Work} {s : State} {tag : Tag} (o : Opens schema_keys w s tag) {f : Noted} (ef : Finds tag f) {w₁ : Work} {x : Result ℕ Refusal} (m : Numbered tag.place (room tag) f.first w s w₁ x) where
+module _ {w : Work} {s : State} {tag : Tag} (o : ReadyToOpen schema_keys w s tag) {f : Noted} (ef : Finds tag f) {w₁ : Work} {x : Result ℕ Refusal} (m : NumberRead tag.place (room tag) f.first w s w₁ x) where
   abbrev Schemas : Work → Result State Refusal → Type 0
   Schemas w' r = After (open_schema tag.place (attributes_of w tag) (builder_in w s)) w s (room tag) w' r
 
   pub id-refused : {q : Refusal} → x ≡ Err q → {r : Result State Refusal} → IsErrAnd r (λ y. y ≡ q) → Schemas w₁ r
   id-refused e h = refused-by o ef m e h (bad-id tag.place (attributes_of w tag) (builder_in w s) (no-number o ef m e))
 
-  module _ {id : ℕ} (ex : x ≡ Ok id) {w₂ : Work} {y : Result ℕ Refusal} (n : Numbered tag.place (room tag) f.second w₁ s w₂ y) where
+  module _ {id : ℕ} (ex : x ≡ Ok id) {w₂ : Work} {y : Result ℕ Refusal} (n : NumberRead tag.place (room tag) f.second w₁ s w₂ y) where
     said : number_of (value_in w₁.doc.now f.second) ≡ number_in (attributes_of w tag) "version"
     said = ap (λ (d : Bor (List ℕ)). number_of (value_in d.now f.second)) m.same.doc ∙ ap (λ (v : Option Range). number_of (value_in w.doc.now v)) (second-said o ef)
 
     pub version-refused : {q : Refusal} → y ≡ Err q → {r : Result State Refusal} → IsErrAnd r (λ z. z ≡ q) → Schemas w₂ r
     version-refused e {r} h =
         let p = err_from_is_err_and r h in
-        let v = numbered-none tag.place _ (sym e ∙ n.is) in
+        let v = number-err tag.place _ (sym e ∙ n.is) in
         let z : r ≡ Err (BadNumber tag.place) = p.1 ∙ ap (λ u. Err u) (p.2 ∙ v.1) in
-        rw z (record { is = bad-version tag.place (attributes_of w tag) (builder_in w s) (is_number o ef m ex) (sym said ∙ v.0); kept = tt; used = tt; same = same-trans m.same n.same })
+        rw z (record { is = bad-version tag.place (attributes_of w tag) (builder_in w s) (is_number o ef m ex) (sym said ∙ v.0); sound = tt; used = tt; same = same-trans m.same n.same })
 
-    pub package-asked : (raw_length f.third ≤ s.place.high) × (s.place.high ≤ length w₂.text.now)
-    package-asked = (omega (arith, third-room o ef, n.ready.room), omega (arith, n.ready.kept.top, n.ready.kept.bytes))
+    pub package-asked : (raw_length f.third ≤ s.usage.taken_from) × (s.usage.taken_from ≤ length w₂.text.now)
+    package-asked = (omega (arith, third-room o ef, n.ready.room), omega (arith, n.ready.sound.within.top, n.ready.sound.lent.bytes))
 
-    module _ {version : ℕ} (ey : y ≡ Ok version) {k : Taken} {t : List ℕ} (q : TakenAt f.third w₂.doc.now w₂.text.now s.place.high k t) where
-      low : s.place.low ≤ k.from
+    module _ {version : ℕ} (ey : y ≡ Ok version) {k : Range} {t : List ℕ} (q : TakenAt f.third w₂.doc.now w₂.text.now s.usage.taken_from k t) where
+      low : s.usage.collected_to ≤ k.from
       low = omega (arith, third-room o ef, n.ready.room, q.start)
 
       abbrev now : State
-      now = record { place = record { depth = s.place.depth; count = s.place.count; low = s.place.low; high = k.from; start = s.place.start }; current = s.current; head = record { name = k.from; len = k.len; id = id; version = version } }
+      now = record s { usage = record s.usage { taken_from = k.from }; head = record { name = k.from; len = k.len; id = id; version = version } }
 
-      whole : Alike s.place.low s.place.high w₂.text.now t
-      whole = q.alike s.place.low low
+      whole : Alike s.usage.collected_to s.usage.taken_from w₂.text.now t
+      whole = q.alike s.usage.collected_to low
 
       abbrev schema : Schema
       schema = record { package_name = text_in (attributes_of w tag) "package"; id = id; version = version; items = (builder_in w₂ s).schema.items }
 
-      schema-now : (u : List ℕ) → Alike s.place.low k.from t u → schema_of (model_in now) w₂.records.now u ≡ schema
+      schema-now : (u : List ℕ) → Alike s.usage.collected_to k.from t u → schema_of (model_in now) w₂.records.now u ≡ schema
       unfolding schema_of
       schema-now u a =
           let d : w₂.doc ≡ w.doc = n.same.doc ∙ m.same.doc in
           let p : piece u k.from k.len ≡ or_empty (value_in w.doc.now (attribute_at w.doc.now tag.attributes (ascii "package"))) =
           piece-above t u k.from k.from k.len (omega arith) a.above ∙ q.is ∙ ap (λ (x : Bor (List ℕ)). or_empty (value_in x.now f.third)) d ∙ ap (λ (x : Option Range). or_empty (value_in w.doc.now x)) (third-said o ef) in
-          let i : items_of s.place.count w₂.records.now u ≡ items_of s.place.count w₂.records.now w₂.text.now =
-          ap (λ (x : Schema). x.items) (n.ready.kept.stable u (alike-trans whole (alike-wider t u s.place.low k.from s.place.high (omega (arith, q.start)) a))) in
+          let i : items_of s.usage.items w₂.records.now u ≡ items_of s.usage.items w₂.records.now w₂.text.now =
+          ap (λ (x : Schema). x.items) (n.ready.sound.stable u (alike-trans whole (alike-wider t u s.usage.collected_to k.from s.usage.taken_from (omega (arith, q.start)) a))) in
           rw (p, i)
 
       pub schema-on : Schemas (texted w₂ t) (Ok now)
       schema-on =
-          let c : piece t s.place.start (s.place.low - s.place.start) ≡ piece w₂.text.now s.place.start (s.place.low - s.place.start) =
-          ap (λ (b : Builder). b.collected) (builder-alike w₂ s t n.ready.kept whole) in
+          let c : piece t s.usage.collected_from (s.usage.collected_to - s.usage.collected_from) ≡ piece w₂.text.now s.usage.collected_from (s.usage.collected_to - s.usage.collected_from) =
+          ap (λ (b : Builder). b.collected) (builder-alike w₂ s t n.ready.sound whole) in
           let b : builder_in w₂ s ≡ builder_in w s = n.builder ∙ m.builder in
           let r : builder_in (texted w₂ t) now ≡ with_schema schema (builder_in w₂ s) = rw (c, schema-now t alike_self) in
-          let k = n.ready.kept in
+          let k = n.ready.sound in
           record {
             is =
                 ap on r
-                ∙ schema-by tag.place (attributes_of w tag) (builder_in w₂ s) id version (is_number o ef m ex) (sym said ∙ numbered-some tag.place _ (sym ey ∙ n.is))
+                ∙ schema-by tag.place (attributes_of w tag) (builder_in w₂ s) id version (is_number o ef m ex) (sym said ∙ number-ok tag.place _ (sym ey ∙ n.is))
                 ∙ ap (open_schema tag.place (attributes_of w tag)) b;
-            kept =
-                record {
-                  deep = k.deep;
-                  many = k.many;
-                  begun = k.begun;
-                  apart = low;
-                  top = omega (arith, q.start, k.top);
-                  records = k.records;
-                  bytes = omega (arith, q.long, k.bytes);
-                  document = k.document;
-                  items = k.items;
-                  depth = k.depth;
-                  stable = λ u a. schema-now u a ∙ sym (schema-now t alike_self);
-                };
-            used = omega (arith, q.start, k.top, third-room o ef);
+            sound =
+                record { within = record { deep = k.within.deep; many = k.within.many; begun = k.within.begun; apart = low; top = omega (arith, q.start, k.within.top) }; lent = record { document = k.lent.document; records = k.lent.records; bytes = omega (arith, q.long, k.lent.bytes) }; stable = λ u a. schema-now u a ∙ sym (schema-now t alike_self) };
+            used = omega (arith, q.start, k.within.top, third-room o ef);
             same = same-trans m.same (same-trans n.same (record { limits = refl; doc = refl; records = refl; text = refl }));
           }
 
 -- ---- a whole open
 
 module _ {w : Work} {s : State} where
-  pub open-deep : (place : ℕ) {n : ℕ} (name : List ℕ) (a : Attributes) → w.limits.depth ≤ s.place.depth → After (opened w.limits place name a (builder_in w s)) w s n w (Err (TooDeep place))
+  pub open-deep : (place : ℕ) {n : ℕ} (name : List ℕ) (a : Attributes) → w.limits.depth ≤ s.usage.depth → After (opened w.limits place name a (builder_in w s)) w s n w (Err (TooDeep place))
   unfolding opened
-  open-deep place name a h = after-refused (rw (length-stack s.place.depth w.records.now w.doc.now, le-leb w.limits.depth s.place.depth h))
+  open-deep place name a h = after-refused (rw (length-stack s.usage.depth w.records.now w.doc.now, le-leb w.limits.depth s.usage.depth h))
 
 opened-by : (w : Work) (place : ℕ) (name : List ℕ) (a : Attributes) (b : Builder) → leb w.limits.depth (length b.stack) ≡ false
     → open_by (element_of name) w.limits place (same (top b.stack) (ascii "composite")) a (with_stack (name ∷ b.stack) b) ≡ opened w.limits place name a b
 unfolding opened
 opened-by w place name a b h = rw h
 
-module _ {w : Work} {s : State} {tag : Tag} (r : Ready w s (room tag)) (g : IsTag w.doc.now tag) (d : s.place.depth < w.limits.depth) {e : Element} (ee : e ≡ element_of (piece w.doc.now tag.name tag.len)) {p : State} (ep : p ≡ deeper s) {w₁ : Work} (ew : w₁ ≡ over w (pushed w.records.now s.place.depth tag.name tag.len)) where
-  deep : s.place.depth < 64
-  deep = omega (arith, r.kept.depth)
+module _ {w : Work} {s : State} {tag : Tag} (r : Ready w s (room tag)) (g : IsTag w.doc.now tag) (d : s.usage.depth < w.limits.depth) (m : w.limits.depth ≤ max_depth) {e : Element} (ee : e ≡ element_of (piece w.doc.now tag.name tag.len)) {p : State} (ep : p ≡ pushed s) {w₁ : Work} (ew : w₁ ≡ with_name w s tag.name tag.len) where
+  deep : s.usage.depth < max_depth
+  deep = omega arith
 
-  pub pushed-opens : Opens (keys_for e) w₁ p tag
+  pub pushed-opens : ReadyToOpen (keys_for e) w₁ p tag
   pushed-opens =
       rw (ep, ew)
       (record {
@@ -151,11 +139,11 @@ module _ {w : Work} {s : State} {tag : Tag} (r : Ready w s (room tag)) (g : IsTa
   open_done {c = c} f =
       let name = piece w.doc.now tag.name tag.len in
       let b = builder_in w s in
-      let k : leb w.limits.depth (length b.stack) ≡ false = rw (length-stack s.place.depth w.records.now w.doc.now) (lt-leb w.limits.depth s.place.depth d) in
+      let k : leb w.limits.depth (length b.stack) ≡ false = rw (length-stack s.usage.depth w.records.now w.doc.now) (lt-leb w.limits.depth s.usage.depth d) in
       let h = rw (ep, ew) at f in
-      let q : open_by e w.limits tag.place (parent_composite (builder_in (over w (pushed w.records.now s.place.depth tag.name tag.len)) (deeper s))) (attributes_of w tag) (builder_in (over w (pushed w.records.now s.place.depth tag.name tag.len)) (deeper s)) ≡ opened w.limits tag.place name (attributes_of w tag) b =
+      let q : open_by e w.limits tag.place (parent_composite (builder_in (with_name w s tag.name tag.len) (pushed s))) (attributes_of w tag) (builder_in (with_name w s tag.name tag.len) (pushed s)) ≡ opened w.limits tag.place name (attributes_of w tag) b =
       ap (λ x. open_by e w.limits tag.place (parent_composite x) (attributes_of w tag) x) (push-builder w s tag.name tag.len (room tag) r deep)
       ∙ ap (λ x. open_by x w.limits tag.place (same (top b.stack) (ascii "composite")) (attributes_of w tag) (with_stack (name ∷ b.stack) b)) ee
       ∙ opened-by w tag.place name (attributes_of w tag) b k in
       let a = after-as s q refl (omega arith) h in
-      record { is = a.is; kept = a.kept; used = a.used; same = same-trans (record { limits = refl; doc = refl; records = refl; text = refl }) a.same }
+      record { is = a.is; sound = a.sound; used = a.used; same = same-trans (record { limits = refl; doc = refl; records = refl; text = refl }) a.same }

@@ -7,8 +7,8 @@ use Rattle.tags.specs.declared.tag.Noted.{Noted}
 use Rattle.tags.specs.Attributes.{attribute_at, raw_length}
 use Rattle.tags.specs.internal.Noting.{Keys, schema_keys, field_keys, type_keys, enum_keys}
 use Rattle.builder.specs.Builder.{plain_item, type_item, text_in}
-use Rattle.builder.specs.internal.Layout.{room, Kept, Ready}
-use Rattle.builder.specs.internal.Taking.{attributes_of, Numbered, Opens, Finds, Reads, Adds, drafted, drafted_item, draft_length}
+use Rattle.builder.specs.internal.Layout.{room, Sound, Ready}
+use Rattle.builder.specs.internal.Taking.{attributes_of, NumberRead, ReadyToOpen, Finds, Reads, Adds, drafted, drafted_item, draft_length}
 use Rattle.builder.specs.declared.state.Current.{Current}
 use Rattle.builder.specs.declared.state.State.{State}
 use Rattle.builder.specs.declared.take.Draft.{Draft}
@@ -18,44 +18,44 @@ use Rattle.builder.proofs.Alikes.{tag-room, tag_one}
 
 -- ---- a state with other things current, or with an empty text
 
-pub ready-current : {w : Work} {s : State} {n : ℕ} {c : Current} → Ready w s n → Ready w (record { place = s.place; current = c; head = s.head }) n
+pub ready-current : {w : Work} {s : State} {n : ℕ} {c : Current} → Ready w s n → Ready w (record s { current = c }) n
 ready-current r =
-    let k = r.kept in
+    let k = r.sound in
     record {
-      kept = record { deep = k.deep; many = k.many; begun = k.begun; apart = k.apart; top = k.top; records = k.records; bytes = k.bytes; document = k.document; items = k.items; depth = k.depth; stable = k.stable };
+      sound = record { within = k.within; lent = k.lent; stable = k.stable };
       room = r.room;
     }
 
 abbrev pub currently : State → Current → State
-currently s c = record { place = s.place; current = c; head = s.head }
+currently s c = record s { current = c }
 
 abbrev pub composite-now : State → Current
-composite-now s = record { collecting = s.current.collecting; composite = Some s.place.count; enumer = s.current.enumer; message = s.current.message; group = s.current.group }
+composite-now s = record s.current { composite = Some s.usage.items }
 
 abbrev pub enum-now : State → Current
-enum-now s = record { collecting = s.current.collecting; composite = s.current.composite; enumer = Some s.place.count; message = s.current.message; group = s.current.group }
+enum-now s = record s.current { enumeration = Some s.usage.items }
 
 abbrev pub message-now : State → Current
-message-now s = record { collecting = s.current.collecting; composite = s.current.composite; enumer = s.current.enumer; message = Some s.place.count; group = s.current.group }
+message-now s = record s.current { message = Some s.usage.items }
 
 abbrev pub group-now : State → Current
-group-now s = record { collecting = s.current.collecting; composite = s.current.composite; enumer = s.current.enumer; message = s.current.message; group = Some s.place.count }
+group-now s = record s.current { group = Some s.usage.items }
 
 abbrev pub value-now : State → Current
-value-now s = record { collecting = true; composite = s.current.composite; enumer = s.current.enumer; message = s.current.message; group = s.current.group }
+value-now s = record s.current { collecting = true }
 
 abbrev pub emptied : State → Current → State
-emptied s c = record { place = record { depth = s.place.depth; count = s.place.count; low = s.place.low; high = s.place.high; start = s.place.low }; current = c; head = s.head }
+emptied s c = record s { usage = record s.usage { collected_from = s.usage.collected_to }; current = c }
 
-pub kept-emptied : {w : Work} {s : State} {c : Current} → Kept w s → Kept w (emptied s c)
-kept-emptied k = record { deep = k.deep; many = k.many; begun = omega arith; apart = k.apart; top = k.top; records = k.records; bytes = k.bytes; document = k.document; items = k.items; depth = k.depth; stable = k.stable }
+pub sound-emptied : {w : Work} {s : State} {c : Current} → Sound w s → Sound w (emptied s c)
+sound-emptied k = record { within = record { deep = k.within.deep; many = k.within.many; begun = omega arith; apart = k.within.apart; top = k.within.top }; lent = k.lent; stable = k.stable }
 
 pub ready-emptied : {w : Work} {s : State} {n : ℕ} {c : Current} → Ready w s n → Ready w (emptied s c) n
-ready-emptied r = record { kept = kept-emptied r.kept; room = r.room }
+ready-emptied r = record { sound = sound-emptied r.sound; room = r.room }
 
 -- ---- what was found in a tag
 
-module _ {k : Keys} {w : Work} {s : State} {tag : Tag} (o : Opens k w s tag) {f : Noted} (e : Finds tag f) where
+module _ {k : Keys} {w : Work} {s : State} {tag : Tag} (o : ReadyToOpen k w s tag) {f : Noted} (e : Finds tag f) where
   abbrev pub at : List ℕ → Option Range
   at key = attribute_at w.doc.now tag.attributes key
 
@@ -83,16 +83,16 @@ module _ {k : Keys} {w : Work} {s : State} {tag : Tag} (o : Opens k w s tag) {f 
   third-room = rw third-said (tag_one w.doc.now tag.attributes tag.next o.tagged k.third)
 
 module _ {w : Work} {s : State} {tag : Tag} {f : Noted} where
-  pub type-reads : Opens type_keys w s tag → Finds tag f → Reads w s tag f.first
+  pub type-reads : ReadyToOpen type_keys w s tag → Finds tag f → Reads w s tag f.first
   type-reads o e = first-room o e
 
-  pub field-reads : Opens field_keys w s tag → Finds tag f → Reads w s tag f.first
+  pub field-reads : ReadyToOpen field_keys w s tag → Finds tag f → Reads w s tag f.first
   field-reads o e = first-room o e
 
-  pub id-reads : Opens schema_keys w s tag → Finds tag f → Reads w s tag f.first
+  pub id-reads : ReadyToOpen schema_keys w s tag → Finds tag f → Reads w s tag f.first
   id-reads o e = first-room o e
 
-  pub version-reads : Opens schema_keys w s tag → Finds tag f → {place : ℕ} {found : Option Range} {w₁ : Work} {x : Result ℕ Refusal} → Numbered place (room tag) found w s w₁ x → Reads w₁ s tag f.second
+  pub version-reads : ReadyToOpen schema_keys w s tag → Finds tag f → {place : ℕ} {found : Option Range} {w₁ : Work} {x : Result ℕ Refusal} → NumberRead place (room tag) found w s w₁ x → Reads w₁ s tag f.second
   unfolding Reads
   version-reads o e m = (m.ready, second-room o e)
 
@@ -100,15 +100,15 @@ module _ {w : Work} {s : State} {tag : Tag} {f : Noted} where
 abbrev pub typed : Noted → ℕ → ℕ → ℕ → Draft
 typed f kind owner n = record { kind = kind; owner = owner; number = n; given = f.first; name = f.second; second = f.third; encoding = f.fourth }
 
-module _ {w : Work} {s : State} {tag : Tag} {f : Noted} (o : Opens type_keys w s tag) (e : Finds tag f) where
-  pub type-adds : {place : ℕ} {found : Option Range} {w₁ : Work} {x : Result ℕ Refusal} → Numbered place (room tag) found w s w₁ x → (kind owner v : ℕ) → Adds w₁ s tag (typed f kind owner v)
+module _ {w : Work} {s : State} {tag : Tag} {f : Noted} (o : ReadyToOpen type_keys w s tag) (e : Finds tag f) where
+  pub type-adds : {place : ℕ} {found : Option Range} {w₁ : Work} {x : Result ℕ Refusal} → NumberRead place (room tag) found w s w₁ x → (kind owner v : ℕ) → Adds w₁ s tag (typed f kind owner v)
   unfolding same Adds
   type-adds m kind owner v = (m.ready, rw (second-said o e, third-said o e, fourth-said o e) (omega (arith, tag-room w.doc.now tag.attributes tag.next o.tagged (ascii "name" ∷ ascii "primitiveType" ∷ ascii "characterEncoding" ∷ []) tt)))
 
   pub type-drafted : (kind owner n : ℕ) → drafted_item (typed f kind owner n) w.doc.now ≡ type_item kind owner (attributes_of w tag) n
   type-drafted kind owner n = simp (first_said o e, second-said o e, third-said o e, fourth-said o e)
 
-module _ {w : Work} {s : State} {tag : Tag} {f : Noted} (o : Opens field_keys w s tag) (e : Finds tag f) (kind owner id : ℕ) where
+module _ {w : Work} {s : State} {tag : Tag} {f : Noted} (o : ReadyToOpen field_keys w s tag) (e : Finds tag f) (kind owner id : ℕ) where
   pub named-room : draft_length (drafted kind owner id f.second None) ≤ room tag
   named-room = omega (arith, second-room o e)
 
@@ -120,7 +120,7 @@ module _ {w : Work} {s : State} {tag : Tag} {f : Noted} (o : Opens field_keys w 
   unfolding Adds
   value-adds c = (ready-emptied o.ready, named-room)
 
-  pub named-then : {place : ℕ} {found : Option Range} {w₁ : Work} {x : Result ℕ Refusal} → Numbered place (room tag) found w s w₁ x → (c : Current) → Adds w₁ (currently s c) tag (drafted kind owner id f.second None)
+  pub named-then : {place : ℕ} {found : Option Range} {w₁ : Work} {x : Result ℕ Refusal} → NumberRead place (room tag) found w s w₁ x → (c : Current) → Adds w₁ (currently s c) tag (drafted kind owner id f.second None)
   unfolding Adds
   named-then m c = (ready-current m.ready, named-room)
 
@@ -135,14 +135,14 @@ module _ {w : Work} {s : State} {tag : Tag} {f : Noted} (o : Opens field_keys w 
   unfolding Adds
   ref-adds = (o.ready, field-room)
 
-  pub field-adds : {place : ℕ} {found : Option Range} {w₁ : Work} {x : Result ℕ Refusal} → Numbered place (room tag) found w s w₁ x → Adds w₁ s tag (drafted kind owner id f.second f.third)
+  pub field-adds : {place : ℕ} {found : Option Range} {w₁ : Work} {x : Result ℕ Refusal} → NumberRead place (room tag) found w s w₁ x → Adds w₁ s tag (drafted kind owner id f.second f.third)
   unfolding Adds
   field-adds m = (m.ready, field-room)
 
   pub field-item : drafted_item (drafted kind owner id f.second f.third) w.doc.now ≡ plain_item kind owner (text_in (attributes_of w tag) "name") (text_in (attributes_of w tag) "type") id
   field-item = rw (second-said o e, third-said o e) refl
 
-module _ {w : Work} {s : State} {tag : Tag} {f : Noted} (o : Opens enum_keys w s tag) (e : Finds tag f) (kind owner id : ℕ) where
+module _ {w : Work} {s : State} {tag : Tag} {f : Noted} (o : ReadyToOpen enum_keys w s tag) (e : Finds tag f) (kind owner id : ℕ) where
   pub enum-adds : (c : Current) → Adds w (currently s c) tag (drafted kind owner id f.first f.second)
   unfolding same Adds
   enum-adds c = (ready-current o.ready, rw (first_said o e, second-said o e) (omega (arith, tag-room w.doc.now tag.attributes tag.next o.tagged (ascii "name" ∷ ascii "encodingType" ∷ []) tt)))
@@ -151,11 +151,11 @@ module _ {w : Work} {s : State} {tag : Tag} {f : Noted} (o : Opens enum_keys w s
   enum-item = rw (first_said o e, second-said o e) refl
 
 module _ {w : Work} {s : State} {tag : Tag} {f : Noted} {d : Draft} {kind owner id : ℕ} where
-  pub named-drafted : Opens field_keys w s tag → Finds tag f → d ≡ drafted kind owner id f.second None → drafted_item d w.doc.now ≡ plain_item kind owner (text_in (attributes_of w tag) "name") [] id
+  pub named-drafted : ReadyToOpen field_keys w s tag → Finds tag f → d ≡ drafted kind owner id f.second None → drafted_item d w.doc.now ≡ plain_item kind owner (text_in (attributes_of w tag) "name") [] id
   named-drafted o e q = ap (λ (x : Draft). drafted_item x w.doc.now) q ∙ named-item o e kind owner id
 
-  pub field-drafted : Opens field_keys w s tag → Finds tag f → d ≡ drafted kind owner id f.second f.third → drafted_item d w.doc.now ≡ plain_item kind owner (text_in (attributes_of w tag) "name") (text_in (attributes_of w tag) "type") id
+  pub field-drafted : ReadyToOpen field_keys w s tag → Finds tag f → d ≡ drafted kind owner id f.second f.third → drafted_item d w.doc.now ≡ plain_item kind owner (text_in (attributes_of w tag) "name") (text_in (attributes_of w tag) "type") id
   field-drafted o e q = ap (λ (x : Draft). drafted_item x w.doc.now) q ∙ field-item o e kind owner id
 
-  pub enum-drafted : Opens enum_keys w s tag → Finds tag f → d ≡ drafted kind owner id f.first f.second → drafted_item d w.doc.now ≡ plain_item kind owner (text_in (attributes_of w tag) "name") (text_in (attributes_of w tag) "encodingType") id
+  pub enum-drafted : ReadyToOpen enum_keys w s tag → Finds tag f → d ≡ drafted kind owner id f.first f.second → drafted_item d w.doc.now ≡ plain_item kind owner (text_in (attributes_of w tag) "name") (text_in (attributes_of w tag) "encodingType") id
   enum-drafted o e q = ap (λ (x : Draft). drafted_item x w.doc.now) q ∙ enum-item o e kind owner id

@@ -8,14 +8,14 @@ use Rattle.tags.specs.internal.Noting.{field_keys, enum_keys}
 use Rattle.model.specs.Schema.{Item, item_at, a_type, a_member, a_ref, a_composite, an_enum, a_value, a_message, a_group, a_field}
 use Rattle.builder.specs.Builder.{Builder, Outcome, on, refused, added, and_then, plain_item, type_item, text_in, open_type, open_ref, open_composite, open_enum, open_value, open_message, open_group, open_field, Attributes, number_in, now_composite, now_enum, now_message, now_group, with_text, next_position}
 use Rattle.builder.specs.internal.Layout.{builder_in, room, After}
-use Rattle.builder.specs.internal.Taking.{attributes_of, Opens, Finds, drafted, drafted_item}
-use Rattle.builder.specs.declared.state.Limits.{Limits}
+use Rattle.builder.specs.internal.Taking.{attributes_of, Added, ReadyToOpen, Finds, drafted}
+use Rattle.builder.specs.Limits.{Limits}
 use Rattle.builder.specs.declared.state.State.{State}
 use Rattle.builder.specs.declared.take.Draft.{Draft}
 use Rattle.builder.specs.declared.work.Tag.{Tag}
 use Rattle.builder.specs.declared.work.Work.{Work}
 use Rattle.builder.proofs.Adding.{same_self, after-as, counted-items}
-use Rattle.builder.proofs.Finding.{currently, composite-now, enum-now, value-now, emptied, kept-emptied, named-drafted, field-drafted, enum-drafted}
+use Rattle.builder.proofs.Finding.{currently, composite-now, enum-now, value-now, emptied, sound-emptied, named-drafted, field-drafted, enum-drafted}
 
 -- ---- an item added is current
 
@@ -24,21 +24,21 @@ and-pick f true r b = refl
 and-pick f false r b = refl
 
 module _ (l : Limits) (place : ℕ) (it : Item) (w : Work) (s : State) where
-  pub composite-added : added l place it (now_composite (Some s.place.count) (builder_in w s)) ≡ and_then (now_composite (Some (next_position (builder_in w s)))) (added l place it (builder_in w s))
+  pub composite-added : added l place it (now_composite (Some s.usage.items) (builder_in w s)) ≡ and_then (now_composite (Some (next_position (builder_in w s)))) (added l place it (builder_in w s))
   unfolding added
-  composite-added = rw (counted-items w s) (and-pick (now_composite (Some s.place.count)) (leb l.items s.place.count) _ _)
+  composite-added = rw (counted-items w s) (and-pick (now_composite (Some s.usage.items)) (leb l.items s.usage.items) _ _)
 
-  pub enum-added : added l place it (now_enum (Some s.place.count) (builder_in w s)) ≡ and_then (now_enum (Some (next_position (builder_in w s)))) (added l place it (builder_in w s))
+  pub enum-added : added l place it (now_enum (Some s.usage.items) (builder_in w s)) ≡ and_then (now_enum (Some (next_position (builder_in w s)))) (added l place it (builder_in w s))
   unfolding added
-  enum-added = rw (counted-items w s) (and-pick (now_enum (Some s.place.count)) (leb l.items s.place.count) _ _)
+  enum-added = rw (counted-items w s) (and-pick (now_enum (Some s.usage.items)) (leb l.items s.usage.items) _ _)
 
-  pub message-added : added l place it (now_message (Some s.place.count) (builder_in w s)) ≡ and_then (now_message (Some (next_position (builder_in w s)))) (added l place it (builder_in w s))
+  pub message-added : added l place it (now_message (Some s.usage.items) (builder_in w s)) ≡ and_then (now_message (Some (next_position (builder_in w s)))) (added l place it (builder_in w s))
   unfolding added
-  message-added = rw (counted-items w s) (and-pick (now_message (Some s.place.count)) (leb l.items s.place.count) _ _)
+  message-added = rw (counted-items w s) (and-pick (now_message (Some s.usage.items)) (leb l.items s.usage.items) _ _)
 
-  pub group-added : added l place it (now_group (Some s.place.count) (builder_in w s)) ≡ and_then (now_group (Some (next_position (builder_in w s)))) (added l place it (builder_in w s))
+  pub group-added : added l place it (now_group (Some s.usage.items) (builder_in w s)) ≡ and_then (now_group (Some (next_position (builder_in w s)))) (added l place it (builder_in w s))
   unfolding added
-  group-added = rw (counted-items w s) (and-pick (now_group (Some s.place.count)) (leb l.items s.place.count) _ _)
+  group-added = rw (counted-items w s) (and-pick (now_group (Some s.usage.items)) (leb l.items s.usage.items) _ _)
 
   pub value-added : added l place it (with_text true [] (builder_in w s)) ≡ and_then (with_text true []) (added l place it (builder_in w s))
   unfolding added
@@ -126,10 +126,6 @@ module _ (l : Limits) (place : ℕ) (a : Attributes) (b : Builder) where
 
 -- ---- without a number
 
--- what is added to a state, and what becomes of it
-abbrev pub Added : Work → Tag → State → Draft → Work → Result State Refusal → Type 0
-Added w tag t d w' r = After (added w.limits tag.place (drafted_item d w.doc.now) (builder_in w t)) w t (room tag) w' r
-
 abbrev pub Gives : Outcome → Work → State → Tag → Work → Result State Refusal → Type 0
 Gives o w s tag w' r = After o w s (room tag) w' r
 
@@ -137,14 +133,14 @@ pub of-item : (w : Work) (tag : Tag) (t : State) {x y : Item} → x ≡ y → ad
 of-item w tag t e = ap (λ x. added w.limits tag.place x (builder_in w t)) e
 
 module _ {w : Work} {s : State} {tag : Tag} where
-  module _ (o : Opens field_keys w s tag) where
+  module _ (o : ReadyToOpen field_keys w s tag) where
     pub ref-dropped : s.current.composite ≡ None → Gives (open_ref w.limits tag.place (attributes_of w tag) (builder_in w s)) w s tag w (Ok s)
-    ref-dropped e = record { is = ref-not w.limits tag.place (attributes_of w tag) (builder_in w s) e; kept = o.ready.kept; used = omega arith; same = same_self }
+    ref-dropped e = record { is = ref-not w.limits tag.place (attributes_of w tag) (builder_in w s) e; sound = o.ready.sound; used = omega arith; same = same_self }
 
-    pub value-lost : s.current.enumer ≡ None → Gives (open_value w.limits tag.place (attributes_of w tag) (builder_in w s)) w s tag w (Ok (emptied s s.current))
+    pub value-lost : s.current.enumeration ≡ None → Gives (open_value w.limits tag.place (attributes_of w tag) (builder_in w s)) w s tag w (Ok (emptied s s.current))
     value-lost e =
-        let z : s.place.low - s.place.low ≡ 0 = omega arith in
-        record { is = rw z (value_not w.limits tag.place (attributes_of w tag) (builder_in w s) e); kept = kept-emptied o.ready.kept; used = omega arith; same = same_self }
+        let z : s.usage.collected_to - s.usage.collected_to ≡ 0 = omega arith in
+        record { is = rw z (value_not w.limits tag.place (attributes_of w tag) (builder_in w s) e); sound = sound-emptied o.ready.sound; used = omega arith; same = same_self }
 
     module _ {f : Noted} (ef : Finds tag f) {d : Draft} {w' : Work} {r : Result State Refusal} where
       pub ref-on : {c : ℕ} → s.current.composite ≡ Some c → d ≡ drafted a_ref c 0 f.second f.third → Added w tag s d w' r → Gives (open_ref w.limits tag.place (attributes_of w tag) (builder_in w s)) w s tag w' r
@@ -156,14 +152,14 @@ module _ {w : Work} {s : State} {tag : Tag} where
       unfolding open_composite
       composite-on q p = after-as s (of-item w tag (currently s (composite-now s)) (named-drafted o ef q) ∙ composite-added w.limits tag.place _ w s) refl (omega arith) p
 
-      pub value_on : {c : ℕ} → s.current.enumer ≡ Some c → d ≡ drafted a_value c 0 f.second None
+      pub value_on : {c : ℕ} → s.current.enumeration ≡ Some c → d ≡ drafted a_value c 0 f.second None
           → Added w tag (emptied s (value-now s)) d w' r
           → Gives (open_value w.limits tag.place (attributes_of w tag) (builder_in w s)) w s tag w' r
       value_on e q p =
-          let z : s.place.low - s.place.low ≡ 0 = omega arith in
+          let z : s.usage.collected_to - s.usage.collected_to ≡ 0 = omega arith in
           after-as s (of-item w tag (emptied s (value-now s)) (named-drafted o ef q) ∙ rw z (value-added w.limits tag.place _ w s ∙ value-by w.limits tag.place (attributes_of w tag) (builder_in w s) e)) refl (omega arith) p
 
-  pub enum-on : Opens enum_keys w s tag → {f : Noted} → Finds tag f → {d : Draft} → d ≡ drafted an_enum 0 0 f.first f.second → {w' : Work} {r : Result State Refusal}
+  pub enum-on : ReadyToOpen enum_keys w s tag → {f : Noted} → Finds tag f → {d : Draft} → d ≡ drafted an_enum 0 0 f.first f.second → {w' : Work} {r : Result State Refusal}
       → Added w tag (currently s (enum-now s)) d w' r
       → Gives (open_enum w.limits tag.place (attributes_of w tag) (builder_in w s)) w s tag w' r
   unfolding open_enum

@@ -19,7 +19,6 @@ use Rattle.builder.specs.internal.Layout.{Steady}
 use Rattle.builder.specs.internal.Taking.{TakenAt, ReadAt, Made, drafted_item, draft_length}
 use Rattle.model.specs.declared.Entry.{Entry}
 use Rattle.numbers.specs.Numbers.{is_digit, all_digits, bounded_from, digits_of, unsigned, number_of}
-use Rattle.builder.specs.declared.take.Taken.{Taken}
 use Rattle.builder.specs.declared.take.Draft.{Draft}
 use Rattle.builder.proofs.Alikes.{alike_self, alike-sets, alike-wider, alike-trans}
 
@@ -152,9 +151,9 @@ steady text e h k a =
           );
     }
 
-module _ (d : Draft) (doc text : List ℕ) (high : ℕ) {x : Taken} {t₁ : List ℕ} (p : TakenAt d.name doc text high x t₁)
-    {y : Taken} {t₂ : List ℕ} (q : TakenAt d.second doc t₁ x.from y t₂)
-    {z : Taken} {t₃ : List ℕ} (r : TakenAt d.encoding doc t₂ y.from z t₃)
+module _ (d : Draft) (doc text : List ℕ) (high : ℕ) {x : Range} {t₁ : List ℕ} (p : TakenAt d.name doc text high x t₁)
+    {y : Range} {t₂ : List ℕ} (q : TakenAt d.second doc t₁ x.from y t₂)
+    {z : Range} {t₃ : List ℕ} (r : TakenAt d.encoding doc t₂ y.from z t₃)
   where
     -- the first two texts are where they were
     one : piece t₃ x.from x.len ≡ or_empty (value_in doc d.name)

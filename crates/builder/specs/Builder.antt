@@ -12,7 +12,7 @@ use Rattle.model.specs.Schema.{Item, Schema, item_at, under, last, a_type, a_mem
 use Rattle.elements.specs.Elements.{element_of}
 use Rattle.elements.specs.declared.Element.{Element}
 use Rattle.elements.specs.declared.Element.TheVariants as element
-use Rattle.builder.specs.declared.state.Limits.{Limits}
+use Rattle.builder.specs.Limits.{Limits}
 
 -- the current composite, enum, message and group, as positions among the items; each may be none
 pub record Currents : Type 0 where
@@ -121,15 +121,25 @@ type_item kind owner a n =
 -- any other item
 abbrev pub plain_item : ℕ → ℕ → List ℕ → List ℕ → ℕ → Item
 plain_item kind owner name second n =
-    record { kind = kind; owner = owner; name = name; second = second; number = n; given = false; encoding = [] }
+    record {
+      kind = kind;
+      owner = owner;
+      name = name;
+      second = second;
+      number = n;
+      given = false;
+      encoding = [];
+    }
 
 -- ---- open: what each element does; its name is pushed already
 
 -- messageSchema: package, id and version are set, over what they were
 unfoldable pub open_schema : ℕ → Attributes → Builder → Outcome
 open_schema place a b =
-    with_number place (number_in a "id") (λ id. with_number place (number_in a "version") (λ version.
-    on (with_schema (record b.schema { package_name = text_in a "package"; id = id; version = version }) b)))
+    let name = text_in a "package" in
+    with_number place (number_in a "id") (λ id.
+    with_number place (number_in a "version") (λ version.
+    on (with_schema (record b.schema { package_name = name; id = id; version = version }) b)))
 
 -- a member of the current composite, dropped if none is current
 abbrev pub member_to : Limits → ℕ → Attributes → ℕ → Option ℕ → Builder → Outcome
@@ -140,12 +150,14 @@ member_to l place a n (Some c) b = added l place (type_item a_member c a n) b
 unfoldable pub open_type : Limits → ℕ → Bool → Attributes → Builder → Outcome
 open_type l place inside a b =
     with_number place (number_in a "length") (λ n.
-    pick inside (member_to l place a n b.current.composite b) (added l place (type_item a_type 0 a n) b))
+    pick inside (member_to l place a n b.current.composite b)
+    (added l place (type_item a_type 0 a n) b))
 
 -- a ref of the current composite, dropped if none is current
 abbrev pub ref_to : Limits → ℕ → Attributes → Option ℕ → Builder → Outcome
 ref_to l place a None b = on b
-ref_to l place a (Some c) b = added l place (plain_item a_ref c (text_in a "name") (text_in a "type") 0) b
+ref_to l place a (Some c) b =
+    added l place (plain_item a_ref c (text_in a "name") (text_in a "type") 0) b
 
 -- ref: by the current composite
 unfoldable pub open_ref : Limits → ℕ → Attributes → Builder → Outcome
@@ -153,17 +165,22 @@ open_ref l place a b = ref_to l place a b.current.composite b
 
 -- composite: added, and current from now on
 unfoldable pub open_composite : Limits → ℕ → Attributes → Builder → Outcome
-open_composite l place a b = and_then (now_composite (Some (next_position b))) (added l place (plain_item a_composite 0 (text_in a "name") [] 0) b)
+open_composite l place a b =
+    and_then (now_composite (Some (next_position b)))
+    (added l place (plain_item a_composite 0 (text_in a "name") [] 0) b)
 
 -- enum: added, and current from now on
 unfoldable pub open_enum : Limits → ℕ → Attributes → Builder → Outcome
-open_enum l place a b = and_then (now_enum (Some (next_position b))) (added l place (plain_item an_enum 0 (text_in a "name") (text_in a "encodingType") 0) b)
+open_enum l place a b =
+    and_then (now_enum (Some (next_position b)))
+    (added l place (plain_item an_enum 0 (text_in a "name") (text_in a "encodingType") 0) b)
 
 -- the collected text is emptied; in a current enum a value is added, empty for now, and text is
 -- collected from here on
 abbrev pub value_to : Limits → ℕ → Attributes → Option ℕ → Builder → Outcome
 value_to l place a None b = on (with_text b.collecting [] b)
-value_to l place a (Some e) b = and_then (with_text true []) (added l place (plain_item a_value e (text_in a "name") [] 0) b)
+value_to l place a (Some e) b =
+    and_then (with_text true []) (added l place (plain_item a_value e (text_in a "name") [] 0) b)
 
 -- validValue: by the current enum
 unfoldable pub open_value : Limits → ℕ → Attributes → Builder → Outcome
@@ -173,25 +190,32 @@ open_value l place a b = value_to l place a b.current.enum b
 unfoldable pub open_message : Limits → ℕ → Attributes → Builder → Outcome
 open_message l place a b =
     with_number place (number_in a "id") (λ id.
-    and_then (now_message (Some (next_position b))) (added l place (plain_item a_message 0 (text_in a "name") [] id) b))
+    and_then (now_message (Some (next_position b)))
+    (added l place (plain_item a_message 0 (text_in a "name") [] id) b))
 
 -- a group of the current message, and current from now on; dropped without a message
 abbrev pub group_to : Limits → ℕ → Attributes → ℕ → Option ℕ → Builder → Outcome
 group_to l place a id None b = on b
-group_to l place a id (Some m) b = and_then (now_group (Some (next_position b))) (added l place (plain_item a_group m (text_in a "name") [] id) b)
+group_to l place a id (Some m) b =
+    and_then (now_group (Some (next_position b)))
+    (added l place (plain_item a_group m (text_in a "name") [] id) b)
 
 -- group: by the current message; its id is read in any case
 unfoldable pub open_group : Limits → ℕ → Attributes → Builder → Outcome
-open_group l place a b = with_number place (number_in a "id") (λ id. group_to l place a id b.current.message b)
+open_group l place a b =
+    with_number place (number_in a "id") (λ id. group_to l place a id b.current.message b)
 
 -- a field of an owner
 abbrev pub field_under : Limits → ℕ → Attributes → ℕ → ℕ → Builder → Outcome
-field_under l place a id owner b = added l place (plain_item a_field owner (text_in a "name") (text_in a "type") id) b
+field_under l place a id owner b =
+    added l place (plain_item a_field owner (text_in a "name") (text_in a "type") id) b
 
 -- a field of the current group, which was opened under m (else 33), or of m if none is current
 abbrev pub field_in : Limits → ℕ → Attributes → ℕ → ℕ → Option ℕ → Builder → Outcome
 field_in l place a id m None b = field_under l place a id m b
-field_in l place a id m (Some g) b = pick (eqb (item_at b.schema g).owner m) (field_under l place a id g b) (refused (MisplacedField place))
+field_in l place a id m (Some g) b =
+    pick (eqb (item_at b.schema g).owner m) (field_under l place a id g b)
+    (refused (MisplacedField place))
 
 -- dropped if no message is current
 abbrev pub field_to : Limits → ℕ → Attributes → ℕ → Option ℕ → Builder → Outcome
@@ -200,7 +224,8 @@ field_to l place a id (Some m) b = field_in l place a id m b.current.group b
 
 -- field: by the current message; its id is read in any case
 unfoldable pub open_field : Limits → ℕ → Attributes → Builder → Outcome
-open_field l place a b = with_number place (number_in a "id") (λ id. field_to l place a id b.current.message b)
+open_field l place a b =
+    with_number place (number_in a "id") (λ id. field_to l place a id b.current.message b)
 
 -- by element
 abbrev pub open_by : Element → Limits → ℕ → Bool → Attributes → Builder → Outcome
@@ -229,7 +254,8 @@ rest (n ∷ ns) = ns
 unfoldable pub opened : Limits → ℕ → List ℕ → Attributes → Builder → Outcome
 opened l place name a b =
     pick (leb l.depth (length b.stack)) (refused (TooDeep place))
-    (open_by (element_of name) l place (same (top b.stack) (ascii "composite")) a (with_stack (name ∷ b.stack) b))
+    (open_by (element_of name) l place (same (top b.stack) (ascii "composite")) a
+    (with_stack (name ∷ b.stack) b))
 
 -- ---- close
 
@@ -237,15 +263,17 @@ opened l place name a b =
 abbrev pub with_second : List ℕ → Item → Item
 with_second v it = record it { second = v }
 
--- the value v given to the item at a position, if there is one
-abbrev pub given_to : Option ℕ → List ℕ → Schema → Schema
-given_to None v s = s
-given_to (Some i) v s = with_items (set s.items i (with_second v (item_at s i))) s
+-- v as the second text of the item at a position, if there is one
+abbrev pub with_second_at : Option ℕ → List ℕ → Schema → Schema
+with_second_at None v s = s
+with_second_at (Some i) v s = with_items (set s.items i (with_second v (item_at s i))) s
 
--- the collected text, trimmed, given to the last value of the current enum, if there is one
+-- the collected text, trimmed, is the last value of the current enum, if there is one
 abbrev pub value_of_enum : Option ℕ → Builder → Builder
 value_of_enum None b = b
-value_of_enum (Some e) b = with_schema (given_to (last (under a_value e b.schema)) (trimmed b.collected) b.schema) b
+value_of_enum (Some e) b =
+    with_schema
+    (with_second_at (last (under a_value e b.schema)) (trimmed b.collected) b.schema) b
 
 -- validValue: that, then the collected text is emptied, and text is no longer collected
 unfoldable pub close_value : Builder → Builder
@@ -267,7 +295,8 @@ close_by element.Other b = b
 -- a close tag pops a name; 30 if that is not the tag's own
 unfoldable pub closed : ℕ → List ℕ → Builder → Outcome
 closed place name b =
-    pick (same name (top b.stack)) (on (close_by (element_of name) (with_stack (rest b.stack) b))) (refused (WrongClose place))
+    pick (same name (top b.stack)) (on (close_by (element_of name) (with_stack (rest b.stack) b)))
+    (refused (WrongClose place))
 
 -- ---- text is collected while the flag is set
 

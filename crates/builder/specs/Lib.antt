@@ -1,3 +1,4 @@
--- What one event makes of the builder.
+-- What one event makes of the builder, within which limits.
+pub mod Limits
 pub mod Builder
 pub mod internal

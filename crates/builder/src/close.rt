@@ -1,17 +1,14 @@
 //! Closing an element, and collecting text.
 #![tactic(auto, using(crate::proofs::Laws::closing))]
 
-ghost use Rattle.std.specs.Prelude.{◌≡◌, Ok, ◌+◌, ◌-◌, ◌≤◌, length};
-ghost use Rattle.texts.specs.Text.{piece};
-ghost use Rattle.texts.specs.Trim.{TrimmedTo};
-ghost use Rattle.entities.specs.Entities.{decoded};
+ghost use Rattle.std.specs.Prelude.{◌≡◌, ◌+◌, ◌-◌, ◌≤◌};
 ghost use Rattle.model.specs.Schema.{a_value};
 ghost use Rattle.model.specs.Search.{last_under};
-ghost use Rattle.model.specs.internal.Store.{schema_of};
-ghost use Rattle.builder.specs.Builder.{on, close_value, close_by, closed, collect};
-ghost use Rattle.builder.specs.internal.Layout.{builder_in, given_at, over, Kept, Ready, After};
+ghost use Rattle.builder.specs.Limits.{min_text};
+ghost use Rattle.builder.specs.Builder.{close_value, close_by, closed, collect};
+ghost use Rattle.builder.specs.internal.Layout.{builder_in, Sound, Ready, Turns, Makes, IsCollected, with_last_value, doc_piece, text_at};
 
-use crate::state::{Current, Place, State};
+use crate::state::{Current, State, Usage};
 use crate::work::Work;
 use elements::{Element, element_at};
 use entities::decode_room;
@@ -29,9 +26,9 @@ impl<'d, 'a> Work<'d, 'a> {
     }
 
     /// Makes a range of the text buffer the value of an enum's last value, if it has one.
-    fn give(&mut self, s: State, owner: u32, value: Range)
-        requires { Kept self.old s × (value.from + value.len ≤ 65536) }
-        ensures { self.new ≡ over self.old (given_at (last_under a_value owner (builder_in self.old s).schema.items) value self.old.records.now) }
+    fn put_value(&mut self, s: State, owner: u32, value: Range)
+        requires { Sound self.old s × (value.from + value.len ≤ min_text) }
+        ensures { self.new ≡ with_last_value self.old s owner value }
     {
         if let Some(i) = self.last_value(s, owner) {
             let e = Entry {
@@ -45,23 +42,23 @@ impl<'d, 'a> Work<'d, 'a> {
 
     /// The range of the collected text, trimmed.
     fn collected(&self, s: State) -> Range
-        requires { Kept self.now s }
-        ensures { TrimmedTo self.now.text.now s.place.start (s.place.low - s.place.start) result }
+        requires { Sound self.now s }
+        ensures { IsCollected self.now s result }
     {
-        let start = s.place.start;
-        trim_range(self.text, start, s.place.low - start)
+        let start = s.usage.collected_from;
+        trim_range(self.text, start, s.usage.collected_to - start)
     }
 
     /// Closes a validValue: the collected text, trimmed, is given to the last value of the current
     /// enum, then emptied, and text is collected no more.
     fn close_value(&mut self, s: State) -> State
-        requires { Kept self.old s }
-        ensures { After (on (close_value (builder_in self.old s))) self.old s 0 self.new (Ok result) }
+        requires { Sound self.old s }
+        ensures { Turns close_value self.old s 0 self.new result }
     {
         let cleared = State {
-            place: Place {
-                start: s.place.low,
-                ..s.place
+            usage: Usage {
+                collected_from: s.usage.collected_to,
+                ..s.usage
             },
             current: Current {
                 collecting: false,
@@ -69,18 +66,18 @@ impl<'d, 'a> Work<'d, 'a> {
             },
             ..s
         };
-        let Some(enumer) = s.current.enumer else {
+        let Some(enumeration) = s.current.enumeration else {
             return cleared;
         };
         let value = self.collected(s);
-        self.give(s, enumer, value);
+        self.put_value(s, enumeration, value);
         cleared
     }
 
     /// Closes the element `e`, whose name is popped already.
     fn close_by(&mut self, s: State, e: Element) -> State
-        requires { Kept self.old s }
-        ensures { After (on (close_by e (builder_in self.old s))) self.old s 0 self.new (Ok result) }
+        requires { Sound self.old s }
+        ensures { Turns (close_by e) self.old s 0 self.new result }
     {
         let current = match e {
             Element::ValidValue => {
@@ -91,7 +88,7 @@ impl<'d, 'a> Work<'d, 'a> {
                 ..s.current
             },
             Element::Enum => Current {
-                enumer: None,
+                enumeration: None,
                 ..s.current
             },
             Element::Message => Current {
@@ -116,8 +113,8 @@ impl<'d, 'a> Work<'d, 'a> {
         name: usize,
         len: usize,
     ) -> Result<State, Refusal>
-        requires { Kept self.old s }
-        ensures { After (closed place (piece self.old.doc.now name len) (builder_in self.old s)) self.old s 0 self.new result }
+        requires { Sound self.old s }
+        ensures { Makes (closed place (doc_piece self.old name len)) self.old s 0 self.new result }
     {
         if !self.is_open(s, name, len) {
             return Err(Refusal::WrongClose { place });
@@ -129,14 +126,14 @@ impl<'d, 'a> Work<'d, 'a> {
     /// Takes the text of `len` bytes at `from`: while text is collected, appends it, decoded.
     pub fn on_text(&mut self, s: State, from: usize, len: usize) -> State
         requires { Ready self.old s len }
-        ensures { After (on (collect (decoded (piece self.old.doc.now from len)) (builder_in self.old s))) self.old s len self.new (Ok result) }
+        ensures { Turns (collect (text_at self.old from len)) self.old s len self.new result }
     {
         if s.current.collecting {
-            let n = decode_room(self.doc, from, len, self.text, s.place.low);
+            let n = decode_room(self.doc, from, len, self.text, s.usage.collected_to);
             return State {
-                place: Place {
-                    low: s.place.low + n,
-                    ..s.place
+                usage: Usage {
+                    collected_to: s.usage.collected_to + n,
+                    ..s.usage
                 },
                 ..s
             };

@@ -1,14 +1,13 @@
 //! Reading numbers and adding items.
-#![tactic(auto, using(crate::proofs::Laws::adding))]
+#![tactic(auto, unfolding(crate::specs::internal::Taking::Reads, crate::specs::internal::Taking::Adds), using(crate::proofs::Laws::adding))]
 
-ghost use Rattle.std.specs.Prelude.{◌≡◌, List, ℕ, ◌-◌, ◌≤◌};
+ghost use Rattle.std.specs.Prelude.{◌≡◌};
 ghost use Rattle.model.specs.Schema.{item_at};
-ghost use Rattle.model.specs.internal.Store.{entry_at, item_of};
-ghost use Rattle.builder.specs.Builder.{added};
-ghost use Rattle.builder.specs.internal.Layout.{builder_in, room, Kept, Steady, After};
-ghost use Rattle.builder.specs.internal.Taking.{drafted_item, Numbered, Reads, Adds};
+ghost use Rattle.model.specs.internal.Store.{entry_at};
+ghost use Rattle.builder.specs.internal.Layout.{builder_in, room};
+ghost use Rattle.builder.specs.internal.Taking.{NumberRead, Reads, Adds, Added, Puts, Put};
 
-use crate::state::{Place, State};
+use crate::state::{State, Usage};
 use crate::take::{Draft, read_number};
 use crate::work::{Tag, Work};
 use model::{Entry, entry_at, put_entry};
@@ -18,7 +17,6 @@ use texts::Range;
 // `number`, `put` and `add` are inlined, so that the state is not copied in and out of calls.
 impl<'d, 'a> Work<'d, 'a> {
     /// The number in a value of a tag; 0 if it is absent or empty. Refused (32) if it is invalid.
-    #[tactic(auto, unfolding(crate::specs::internal::Taking::Reads), using(crate::proofs::Laws::adding))]
     #[inline(always)]
     pub(crate) fn number(
         &mut self,
@@ -27,10 +25,10 @@ impl<'d, 'a> Work<'d, 'a> {
         found: Option<Range>,
     ) -> Result<u32, Refusal>
         requires { Reads self.old s tag.now found }
-        ensures { Numbered tag.now.place (room tag.now) found self.old s self.new result }
+        ensures { NumberRead tag.now.place (room tag.now) found self.old s self.new result }
     {
         let doc = self.doc;
-        match read_number(doc, found, self.text, s.place.low) {
+        match read_number(doc, found, self.text, s.usage.collected_to) {
             Some(n) => Ok(n),
             None => Err(Refusal::BadNumber { place: tag.place }),
         }
@@ -39,32 +37,31 @@ impl<'d, 'a> Work<'d, 'a> {
     /// Adds an item by its entry, whose texts are taken. Refused (35) at the limit.
     #[inline(always)]
     fn put(&mut self, s: State, place: usize, e: Entry) -> Result<State, Refusal>
-        requires { Kept self.old s × Steady s.place.low e.encoding self.old.text.now e × (s.place.low ≤ e.encoding) × (e.encoding ≤ s.place.high) }
-        ensures { After (added self.old.limits place (item_of self.old.text.now e) (builder_in self.old s)) self.old s (s.place.high - e.encoding) self.new result }
+        requires { Puts self.old s e }
+        ensures { Put self.old place s e self.new result }
     {
-        let count = s.place.count;
+        let count = s.usage.items;
         if self.limits.items <= count {
             return Err(Refusal::TooManyItems { place });
         }
         put_entry(self.records, count, e);
         Ok(State {
-            place: Place {
-                count: count + 1,
-                high: e.encoding as usize,
-                ..s.place
+            usage: Usage {
+                items: count + 1,
+                taken_from: e.encoding as usize,
+                ..s.usage
             },
             ..s
         })
     }
 
     /// Adds the item of a draft: takes its texts, then puts its entry. Refused (35) at the limit.
-    #[tactic(auto, unfolding(crate::specs::internal::Taking::Adds), using(crate::proofs::Laws::adding))]
     #[inline(always)]
     pub(crate) fn add(&mut self, s: State, tag: &Tag, d: Draft) -> Result<State, Refusal>
         requires { Adds self.old s tag.now d }
-        ensures { After (added self.old.limits tag.now.place (drafted_item d self.old.doc.now) (builder_in self.old s)) self.old s (room tag.now) self.new result }
+        ensures { Added self.old tag.now s d self.new result }
     {
-        let e = d.entry(self.doc, self.text, s.place.high);
+        let e = d.entry(self.doc, self.text, s.usage.taken_from);
         self.put(s, tag.place, e)
     }
 
@@ -79,7 +76,7 @@ impl<'d, 'a> Work<'d, 'a> {
     pub(crate) fn owner_of(&self, s: State, i: u32) -> u32
         ensures { result ≡ (item_at (builder_in self.now s).schema i).owner }
     {
-        if i < s.place.count {
+        if i < s.usage.items {
             return self.entry(i).owner;
         }
         0

@@ -4,14 +4,15 @@
 //! specs/internal/Layout.antt says how the builder lies in both. Opening, closing and text (`open`,
 //! `close`) each promise one equation with the definition of the same thing (specs/Builder.antt),
 //! refusals 30 and 32 to 35 included, and keep what the next step asks. Each requires that the
-//! state is kept and that the event's texts have room, which the crate above ensures.
+//! state is sound and that the event's texts have room, which the crate above ensures.
 //!
-//! State and work are two parameters: what steps keep (`Kept`) is a fact about both, which no
+//! State and work are two parameters: what steps keep (`Sound`) is a fact about both, which no
 //! type's invariant can say.
 #![tactic(auto)]
 
 pub mod close;
 mod items;
+pub mod limits;
 pub mod open;
 pub mod state;
 mod take;

@@ -10,9 +10,9 @@ ghost use Rattle.tags.specs.internal.Noting.{schema_keys, type_keys, enum_keys, 
 ghost use Rattle.saxlite.specs.Event.{attributes_in};
 ghost use Rattle.builder.specs.Builder.{open_schema, open_type, open_ref, open_composite, open_enum, open_value, open_message, open_group, open_field, open_by, opened};
 ghost use Rattle.builder.specs.internal.Layout.{builder_in, parent_composite, room, Ready, IsTag, After};
-ghost use Rattle.builder.specs.internal.Taking.{attributes_of, keys_for, Opens};
+ghost use Rattle.builder.specs.internal.Taking.{attributes_of, keys_for, ReadyToOpen};
 
-use crate::state::{Current, Place, State};
+use crate::state::{Current, State, Usage};
 use crate::take::{Draft, take_value};
 use crate::work::{Tag, Work};
 use elements::{Element, element_at};
@@ -22,17 +22,17 @@ use refusals::Refusal;
 impl<'d, 'a> Work<'d, 'a> {
     /// messageSchema: sets package, id and version.
     fn open_schema(&mut self, s: State, tag: &Tag) -> Result<State, Refusal>
-        requires { Opens schema_keys self.old s tag.now }
+        requires { ReadyToOpen schema_keys self.old s tag.now }
         ensures { After (open_schema tag.now.place (attributes_of self.old tag.now) (builder_in self.old s)) self.old s (room tag.now) self.new result }
     {
         let found = tag.found();
         let id = self.number(s, tag, found.first)?;
         let version = self.number(s, tag, found.second)?;
-        let package = take_value(self.doc, found.third, self.text, s.place.high);
+        let package = take_value(self.doc, found.third, self.text, s.usage.taken_from);
         Ok(State {
-            place: Place {
-                high: package.from,
-                ..s.place
+            usage: Usage {
+                taken_from: package.from,
+                ..s.usage
             },
             head: Head {
                 name: package.from as u32,
@@ -46,7 +46,7 @@ impl<'d, 'a> Work<'d, 'a> {
 
     /// type: adds a type, or inside a composite a member of the current one, if there is one.
     fn open_type(&mut self, s: State, tag: &Tag) -> Result<State, Refusal>
-        requires { Opens type_keys self.old s tag.now }
+        requires { ReadyToOpen type_keys self.old s tag.now }
         ensures { After (open_type self.old.limits tag.now.place (parent_composite (builder_in self.old s)) (attributes_of self.old tag.now) (builder_in self.old s)) self.old s (room tag.now) self.new result }
     {
         let found = tag.found();
@@ -72,7 +72,7 @@ impl<'d, 'a> Work<'d, 'a> {
 
     /// ref: adds a ref of the current composite, if there is one.
     fn open_ref(&mut self, s: State, tag: &Tag) -> Result<State, Refusal>
-        requires { Opens field_keys self.old s tag.now }
+        requires { ReadyToOpen field_keys self.old s tag.now }
         ensures { After (open_ref self.old.limits tag.now.place (attributes_of self.old tag.now) (builder_in self.old s)) self.old s (room tag.now) self.new result }
     {
         let Some(owner) = s.current.composite else {
@@ -85,13 +85,13 @@ impl<'d, 'a> Work<'d, 'a> {
 
     /// composite: adds it and makes it current.
     fn open_composite(&mut self, s: State, tag: &Tag) -> Result<State, Refusal>
-        requires { Opens field_keys self.old s tag.now }
+        requires { ReadyToOpen field_keys self.old s tag.now }
         ensures { After (open_composite self.old.limits tag.now.place (attributes_of self.old tag.now) (builder_in self.old s)) self.old s (room tag.now) self.new result }
     {
         let found = tag.found();
         let d = Draft::new(model::COMPOSITE, 0, 0, found.second, None);
         let current = Current {
-            composite: Some(s.place.count),
+            composite: Some(s.usage.items),
             ..s.current
         };
         self.add(State { current, ..s }, tag, d)
@@ -99,13 +99,13 @@ impl<'d, 'a> Work<'d, 'a> {
 
     /// enum: adds it and makes it current.
     fn open_enum(&mut self, s: State, tag: &Tag) -> Result<State, Refusal>
-        requires { Opens enum_keys self.old s tag.now }
+        requires { ReadyToOpen enum_keys self.old s tag.now }
         ensures { After (open_enum self.old.limits tag.now.place (attributes_of self.old tag.now) (builder_in self.old s)) self.old s (room tag.now) self.new result }
     {
         let found = tag.found();
         let d = Draft::new(model::ENUM, 0, 0, found.first, found.second);
         let current = Current {
-            enumer: Some(s.place.count),
+            enumeration: Some(s.usage.items),
             ..s.current
         };
         self.add(State { current, ..s }, tag, d)
@@ -113,15 +113,15 @@ impl<'d, 'a> Work<'d, 'a> {
 
     /// validValue: empties the collected text; in a current enum adds a value and collects text.
     fn open_value(&mut self, s: State, tag: &Tag) -> Result<State, Refusal>
-        requires { Opens field_keys self.old s tag.now }
+        requires { ReadyToOpen field_keys self.old s tag.now }
         ensures { After (open_value self.old.limits tag.now.place (attributes_of self.old tag.now) (builder_in self.old s)) self.old s (room tag.now) self.new result }
     {
-        let place = Place {
-            start: s.place.low,
-            ..s.place
+        let usage = Usage {
+            collected_from: s.usage.collected_to,
+            ..s.usage
         };
-        let Some(owner) = s.current.enumer else {
-            return Ok(State { place, ..s });
+        let Some(owner) = s.current.enumeration else {
+            return Ok(State { usage, ..s });
         };
         let found = tag.found();
         let d = Draft::new(model::VALUE, owner, 0, found.second, None);
@@ -131,7 +131,7 @@ impl<'d, 'a> Work<'d, 'a> {
         };
         self.add(
             State {
-                place,
+                usage,
                 current,
                 ..s
             },
@@ -142,14 +142,14 @@ impl<'d, 'a> Work<'d, 'a> {
 
     /// message: adds it and makes it current.
     fn open_message(&mut self, s: State, tag: &Tag) -> Result<State, Refusal>
-        requires { Opens field_keys self.old s tag.now }
+        requires { ReadyToOpen field_keys self.old s tag.now }
         ensures { After (open_message self.old.limits tag.now.place (attributes_of self.old tag.now) (builder_in self.old s)) self.old s (room tag.now) self.new result }
     {
         let found = tag.found();
         let id = self.number(s, tag, found.first)?;
         let d = Draft::new(model::MESSAGE, 0, id, found.second, None);
         let current = Current {
-            message: Some(s.place.count),
+            message: Some(s.usage.items),
             ..s.current
         };
         self.add(State { current, ..s }, tag, d)
@@ -157,7 +157,7 @@ impl<'d, 'a> Work<'d, 'a> {
 
     /// group: adds it to the current message and makes it current; without one only reads its id.
     fn open_group(&mut self, s: State, tag: &Tag) -> Result<State, Refusal>
-        requires { Opens field_keys self.old s tag.now }
+        requires { ReadyToOpen field_keys self.old s tag.now }
         ensures { After (open_group self.old.limits tag.now.place (attributes_of self.old tag.now) (builder_in self.old s)) self.old s (room tag.now) self.new result }
     {
         let found = tag.found();
@@ -167,7 +167,7 @@ impl<'d, 'a> Work<'d, 'a> {
         };
         let d = Draft::new(model::GROUP, owner, id, found.second, None);
         let current = Current {
-            group: Some(s.place.count),
+            group: Some(s.usage.items),
             ..s.current
         };
         self.add(State { current, ..s }, tag, d)
@@ -176,7 +176,7 @@ impl<'d, 'a> Work<'d, 'a> {
     /// field: adds it to the current group of the current message, or else to the message, if there
     /// is one. Refused (33) if the current group was opened under another message.
     fn open_field(&mut self, s: State, tag: &Tag) -> Result<State, Refusal>
-        requires { Opens field_keys self.old s tag.now }
+        requires { ReadyToOpen field_keys self.old s tag.now }
         ensures { After (open_field self.old.limits tag.now.place (attributes_of self.old tag.now) (builder_in self.old s)) self.old s (room tag.now) self.new result }
     {
         let found = tag.found();
@@ -196,9 +196,9 @@ impl<'d, 'a> Work<'d, 'a> {
         self.add(s, tag, d)
     }
 
-    /// Opens the element `e`, whose name is pushed already.
+    /// ReadyToOpen the element `e`, whose name is pushed already.
     fn open_by(&mut self, s: State, e: Element, tag: &Tag) -> Result<State, Refusal>
-        requires { Opens (keys_for e) self.old s tag.now }
+        requires { ReadyToOpen (keys_for e) self.old s tag.now }
         ensures { After (open_by e self.old.limits tag.now.place (parent_composite (builder_in self.old s)) (attributes_of self.old tag.now) (builder_in self.old s)) self.old s (room tag.now) self.new result }
     {
         match e {
@@ -220,7 +220,7 @@ impl<'d, 'a> Work<'d, 'a> {
         requires { Ready self.old s (room tag) × IsTag self.old.doc.now tag }
         ensures { After (opened self.old.limits tag.place (piece self.old.doc.now tag.name tag.len) (attributes_in self.old.doc.now tag.attributes) (builder_in self.old s)) self.old s (room tag) self.new result }
     {
-        if self.limits.depth <= s.place.depth {
+        if self.limits.depth <= s.usage.depth {
             return Err(Refusal::TooDeep { place: tag.place });
         }
         let e = element_at(self.doc, tag.name, tag.len);

@@ -1,25 +1,20 @@
 //! The builder's state by value. specs/internal/Layout.antt says what lies in the buffers.
 ghost use Rattle.std.specs.Prelude.{◌≡◌};
-ghost use Rattle.builder.specs.internal.Layout.{first, higher, model_in};
+ghost use Rattle.builder.specs.internal.Layout.{initial, popped, model_in};
 
+use crate::limits::MIN_TEXT;
 use model::{Head, Model};
 
-/// How many items there may be, and how many elements may be open.
+/// How much of the buffers is in use. The record buffer holds `items` items and `depth` open names.
+/// The text buffer is free from `collected_to`, where the collected text ends that begins at
+/// `collected_from`, up to `taken_from`, where the texts taken of attributes begin.
 #[derive(Clone, Copy)]
-pub struct Limits {
+pub struct Usage {
     pub items: u32,
     pub depth: usize,
-}
-
-/// How much of the buffers is in use: `depth` open names and `count` items, and of the text buffer
-/// what is below `low`, where the collected text begins at `start`, and what is from `high` on.
-#[derive(Clone, Copy)]
-pub struct Place {
-    pub depth: usize,
-    pub count: u32,
-    pub low: usize,
-    pub high: usize,
-    pub start: usize,
+    pub collected_from: usize,
+    pub collected_to: usize,
+    pub taken_from: usize,
 }
 
 /// Whether text is collected, and what is current of each kind, by its position among the items.
@@ -27,7 +22,7 @@ pub struct Place {
 pub struct Current {
     pub collecting: bool,
     pub composite: Option<u32>,
-    pub enumer: Option<u32>,
+    pub enumeration: Option<u32>,
     pub message: Option<u32>,
     pub group: Option<u32>,
 }
@@ -35,7 +30,7 @@ pub struct Current {
 /// The builder's state: how much is in use, what is current, and the schema's own attributes.
 #[derive(Clone, Copy)]
 pub struct State {
-    pub place: Place,
+    pub usage: Usage,
     pub current: Current,
     pub head: Head,
 }
@@ -43,20 +38,20 @@ pub struct State {
 impl State {
     /// The state before the first event.
     pub fn new() -> State
-        ensures { result ≡ first }
+        ensures { result ≡ initial }
     {
         State {
-            place: Place {
+            usage: Usage {
+                items: 0,
                 depth: 0,
-                count: 0,
-                low: 0,
-                high: 65536,
-                start: 0,
+                collected_from: 0,
+                collected_to: 0,
+                taken_from: MIN_TEXT,
             },
             current: Current {
                 collecting: false,
                 composite: None,
-                enumer: None,
+                enumeration: None,
                 message: None,
                 group: None,
             },
@@ -71,9 +66,9 @@ impl State {
 
     /// How many elements are open.
     pub fn depth(self) -> usize
-        ensures { result ≡ self.place.depth }
+        ensures { result ≡ self.usage.depth }
     {
-        self.place.depth
+        self.usage.depth
     }
 
     /// The schema so far, as it lies in the two buffers.
@@ -82,18 +77,18 @@ impl State {
     {
         Model {
             head: self.head,
-            count: self.place.count,
+            count: self.usage.items,
         }
     }
 
     /// The state with the innermost name popped, if there is one.
     pub(crate) fn popped(self) -> State
-        ensures { result ≡ higher self }
+        ensures { result ≡ popped self }
     {
         State {
-            place: Place {
-                depth: self.place.depth.saturating_sub(1),
-                ..self.place
+            usage: Usage {
+                depth: self.usage.depth.saturating_sub(1),
+                ..self.usage
             },
             ..self
         }

@@ -4,32 +4,26 @@
 ghost use Rattle.std.specs.Prelude.{◌≡◌, List, ℕ, ◌+◌, ◌≤◌, eqb, length, Some};
 ghost use Rattle.tags.specs.Attributes.{raw_length};
 ghost use Rattle.saxlite.specs.Event.{value_in};
+ghost use Rattle.builder.specs.Limits.{min_text};
 ghost use Rattle.builder.specs.Builder.{is_given};
-ghost use Rattle.builder.specs.internal.Taking.{TakenAt, ReadAt, Made, drafted, drafted_item, draft_length};
+ghost use Rattle.builder.specs.internal.Taking.{TakenAt, ReadAt, drafted, draft_length, MadeOf};
 
 use entities::decode_room;
 use model::Entry;
 use numbers::{digit_at, number_of};
 use texts::{Range, part};
 
-/// A range of the text buffer.
-#[derive(Clone, Copy)]
-pub struct Taken {
-    pub from: usize,
-    pub len: usize,
-}
-
 /// Decodes a value that was found into the text buffer, where it gets as many bytes below `high` as
 /// it takes raw. An absent value is an empty text.
-pub fn take_value(doc: &[u8], found: Option<Range>, text: &mut [u8], high: usize) -> Taken
+pub fn take_value(doc: &[u8], found: Option<Range>, text: &mut [u8], high: usize) -> Range
     requires { (raw_length found ≤ high) × (high ≤ length text.old) }
     ensures { TakenAt found doc.now text.old high result text.new }
 {
     match found {
-        None => Taken { from: high, len: 0 },
+        None => Range { from: high, len: 0 },
         Some(value) => {
             let at = high - value.len;
-            Taken {
+            Range {
                 from: at,
                 len: decode_room(doc, value.from, value.len, text, at),
             }
@@ -126,8 +120,8 @@ impl Draft {
     /// what is absent costs nothing.
     #[inline(always)]
     pub fn entry(&self, doc: &[u8], text: &mut [u8], high: usize) -> Entry
-        requires { (draft_length self.now ≤ high) × (high ≤ length text.old) × (high ≤ 65536) }
-        ensures { Made (drafted_item self.now doc.now) (draft_length self.now) high text.old result text.new }
+        requires { (draft_length self.now ≤ high) × (high ≤ length text.old) × (high ≤ min_text) }
+        ensures { MadeOf self.now doc.now high text.old result text.new }
     {
         let one = take_value(doc, self.name, text, high);
         let two = take_value(doc, self.second, text, one.from);

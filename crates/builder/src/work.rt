@@ -2,16 +2,18 @@
 #![tactic(auto, using(crate::proofs::Laws::stacking))]
 
 ghost use Rattle.std.specs.Prelude.{◌≡◌, ◌+◌, ◌≤◌, ◌<◌, length};
-ghost use Rattle.texts.specs.Text.{piece, same};
+ghost use Rattle.texts.specs.Text.{same};
+ghost use Rattle.builder.specs.Limits.{max_depth};
 ghost use Rattle.builder.specs.Builder.{top};
-ghost use Rattle.builder.specs.internal.Layout.{stack_of, builder_in, deeper, pushed, over, first, parent_composite, Kept};
+ghost use Rattle.builder.specs.internal.Layout.{stack_of, builder_in, pushed, with_name, initial, parent_composite, Sound, doc_piece, Suffice, lent};
 ghost use Rattle.builder.specs.internal.Taking.{Finds};
 
-use crate::state::{Limits, Place, State};
+use crate::limits::{Limits, NAMES_FROM};
+use crate::state::{State, Usage};
 use model::word;
+use swar::same_name;
 use tags::tag::{Noted, Notes, noted_of};
 use texts::{equal, part};
-use swar::same_name;
 
 /// The document, and the two buffers for what is read of it: items and open names, and texts.
 #[derive(Drop)]
@@ -51,9 +53,9 @@ impl<'d, 'a> Work<'d, 'a> {
         records: &'a mut [u32],
         text: &'a mut [u8],
     ) -> Work<'d, 'a>
-        requires { (limits.items ≤ 1024) × (limits.depth ≤ 64) × (length doc.now ≤ 32768) × (16384 ≤ length records.old) × (65536 ≤ length text.old) }
-        ensures is { result ≡ record { limits = limits; doc = doc.entry; records = records.entry; text = text.entry } }
-        ensures kept { Kept result first }
+        requires { Suffice doc.now records.old text.old }
+        ensures is { result ≡ lent limits doc.entry records.entry text.entry }
+        ensures sound { Sound result initial }
     {
         Work {
             limits,
@@ -65,17 +67,20 @@ impl<'d, 'a> Work<'d, 'a> {
 
     /// Pushes a name, the `len` bytes at `from`: it is the innermost open one from now on.
     pub(crate) fn push(&mut self, s: State, from: usize, len: usize) -> State
-        requires { (s.place.depth < 64) × (16384 ≤ length self.old.records.now) × (from + len ≤ 32768) }
-        ensures { (result ≡ deeper s) × (self.new ≡ over self.old (pushed self.old.records.now s.place.depth from len)) }
+        requires sound { Sound self.old s }
+        requires above { s.usage.depth < max_depth }
+        requires inside { from + len ≤ length self.old.doc.now }
+        ensures state { result ≡ pushed s }
+        ensures names { self.new ≡ with_name self.old s from len }
     {
-        let depth = s.place.depth;
-        let k = 15360 + 2 * depth;
+        let depth = s.usage.depth;
+        let k = NAMES_FROM + 2 * depth;
         self.records[k] = from as u32;
         self.records[k + 1] = len as u32;
         State {
-            place: Place {
+            usage: Usage {
                 depth: depth + 1,
-                ..s.place
+                ..s.usage
             },
             ..s
         }
@@ -83,13 +88,13 @@ impl<'d, 'a> Work<'d, 'a> {
 
     /// The innermost of `depth` open names; empty if there is none.
     fn top_name(&self, depth: usize) -> &'d [u8]
-        requires { depth ≤ 64 }
+        requires { depth ≤ max_depth }
         ensures { result.now ≡ top (stack_of depth self.now.records.now self.now.doc.now) }
     {
         if depth == 0 {
             return part(self.doc, 0, 0);
         }
-        let k = 15360 + 2 * (depth - 1);
+        let k = NAMES_FROM + 2 * (depth - 1);
         let from = word(self.records, k) as usize;
         let len = word(self.records, k + 1) as usize;
         part(self.doc, from, len)
@@ -97,19 +102,19 @@ impl<'d, 'a> Work<'d, 'a> {
 
     /// Whether the innermost open name is that of the `len` bytes at `name`.
     fn is_named(&self, s: State, name: usize, len: usize) -> bool
-        requires { s.place.depth ≤ 64 }
-        ensures { result ≡ same (piece self.now.doc.now name len) (top (builder_in self.now s).stack) }
+        requires { s.usage.depth ≤ max_depth }
+        ensures { result ≡ same (doc_piece self.now name len) (top (builder_in self.now s).stack) }
     {
-        same_name(part(self.doc, name, len), self.top_name(s.place.depth))
+        same_name(part(self.doc, name, len), self.top_name(s.usage.depth))
     }
 
     /// The same. If it is the very same range, as where a tag closes itself, no bytes are compared.
     pub(crate) fn is_open(&self, s: State, name: usize, len: usize) -> bool
-        requires { s.place.depth ≤ 64 }
-        ensures { result ≡ same (piece self.now.doc.now name len) (top (builder_in self.now s).stack) }
+        requires { s.usage.depth ≤ max_depth }
+        ensures { result ≡ same (doc_piece self.now name len) (top (builder_in self.now s).stack) }
     {
-        if 0 < s.place.depth {
-            let k = 15360 + 2 * (s.place.depth - 1);
+        if 0 < s.usage.depth {
+            let k = NAMES_FROM + 2 * (s.usage.depth - 1);
             if word(self.records, k) as usize == name && word(self.records, k + 1) as usize == len {
                 return true;
             }
@@ -119,9 +124,9 @@ impl<'d, 'a> Work<'d, 'a> {
 
     /// Whether the name below the innermost one, that of the parent, is composite.
     pub(crate) fn in_composite(&self, s: State) -> bool
-        requires { s.place.depth ≤ 64 }
+        requires { s.usage.depth ≤ max_depth }
         ensures { result ≡ parent_composite (builder_in self.now s) }
     {
-        equal(self.top_name(s.popped().place.depth), b"composite")
+        equal(self.top_name(s.popped().usage.depth), b"composite")
     }
 }

@@ -10,8 +10,8 @@ use Rattle.saxlite.specs.declared.event.Told.{Told}
 use Rattle.saxlite.specs.declared.reader.Reader.{Reader}
 use Rattle.model.specs.internal.Store.{items_of, schema_of}
 use Rattle.builder.specs.Builder.{Builder, on, refused}
-use Rattle.builder.specs.internal.Layout.{builder_in, stack_of, first, model_in, Kept, Ready, Same, After}
-use Rattle.builder.specs.declared.state.Limits.{Limits}
+use Rattle.builder.specs.internal.Layout.{builder_in, stack_of, initial, model_in, Sound, Ready, Same, After}
+use Rattle.builder.specs.Limits.{Limits}
 use Rattle.builder.specs.declared.state.State.{State}
 use Rattle.builder.specs.declared.work.Work.{Work}
 use Rattle.builder.proofs.Stacking.{length-stack}
@@ -19,10 +19,10 @@ use Rattle.xmlschema.specs.Whole.{Whole, step, accepted, refused_by, built, empt
 use Rattle.xmlschema.specs.internal.Driving.{with_state, Driving}
 
 -- before the first event
-pub drive-start : {r : Reader} {w : Work} → Kept w first → r.doc.now ≡ w.doc.now → r.cursor ≡ cursor_at 0 → Driving r w first
+pub drive-start : {r : Reader} {w : Work} → Sound w initial → r.doc.now ≡ w.doc.now → r.cursor ≡ cursor_at 0 → Driving r w initial
 unfolding schema_of items_of stack_of
 drive-start k d c =
-    record { doc = d; kept = k; used = rw c (omega arith); within = rw c (omega arith); same = rw (d, c) refl }
+    record { doc = d; sound = k; used = rw c (omega arith); within = rw c (omega arith); same = rw (d, c) refl }
 
 -- ---- what events make
 
@@ -51,13 +51,13 @@ module _ {r : Reader} {w : Work} {s : State} (d : Driving r w s) {r' : Reader} {
         let z : to_come r.doc.now r.cursor ≡ done = (rw (e ∙ ap Ok f) at yields).is in
         rw z at d.same
 
-    pub drive-open : o ≡ None → 0 < s.place.depth → refused_by (OpenElements (length w.doc.now)) ≡ reading w.limits w.doc.now
+    pub drive-open : o ≡ None → 0 < s.usage.depth → refused_by (OpenElements (length w.doc.now)) ≡ reading w.limits w.doc.now
     unfolding ending
-    drive-open f h = rw (← none f, length-stack s.place.depth w.records.now w.doc.now, lt-ltb 0 s.place.depth h) refl
+    drive-open f h = rw (← none f, length-stack s.usage.depth w.records.now w.doc.now, lt-ltb 0 s.usage.depth h) refl
 
-    pub drive-done : o ≡ None → s.place.depth ≤ 0 → accepted (schema_of (model_in s) w.records.now w.text.now) ≡ reading w.limits w.doc.now
+    pub drive-done : o ≡ None → s.usage.depth ≤ 0 → accepted (schema_of (model_in s) w.records.now w.text.now) ≡ reading w.limits w.doc.now
     unfolding ending
-    drive-done f h = rw (← none f, length-stack s.place.depth w.records.now w.doc.now, le-ltb 0 s.place.depth h) refl
+    drive-done f h = rw (← none f, length-stack s.usage.depth w.records.now w.doc.now, le-ltb 0 s.usage.depth h) refl
 
     -- an event
     module _ (advances : Advances r.doc.now r.cursor r'.cursor y) {t : Told} (f : o ≡ Some t) where
@@ -69,7 +69,7 @@ module _ {r : Reader} {w : Work} {s : State} (d : Driving r w s) {r' : Reader} {
 
       pub drive-ready : Ready w s (takes t.event)
       drive-ready =
-          record { kept = d.kept; room = omega (arith, moves.grows, inside, d.used, d.kept.document, d.kept.top, d.kept.apart) }
+          record { sound = d.sound; room = omega (arith, moves.grows, inside, d.used, d.sound.lent.document, d.sound.within.top, d.sound.within.apart) }
 
       pub drive-inside : Inside w.doc.now t.event
       drive-inside = rw d.doc at moves.inside
@@ -100,7 +100,7 @@ module _ {r : Reader} {w : Work} {s : State} (d : Driving r w s) {r' : Reader} {
             let rd : r'.doc.now ≡ w.doc.now = ap (λ x. x.now) yields.doc ∙ d.doc in
             record {
               doc = rd ∙ sym dd;
-              kept = b.kept;
+              sound = b.sound;
               used = omega (arith, b.used, d.used, moves.grows);
               within = rw dd inside;
               same =

@@ -14,10 +14,10 @@ use Rattle.texts.proofs.Choosing.{by-test}
 use Rattle.texts.proofs.Comparing.{same-equal}
 use Rattle.saxlite.specs.Event.{Event, Events, text, opens, closes, next}
 use Rattle.model.specs.Schema.{Item, Schema, no_item, item_at, positions_from, under, last, a_value, a_type, a_member, a_ref, a_composite, an_enum, a_message, a_group, a_field}
-use Rattle.builder.specs.Builder.{Builder, Outcome, on, refused, Attributes, text_in, number_in, with_stack, with_text, with_schema, with_items, with_second, now_composite, now_enum, now_message, now_group, next_position, added, and_then, with_number, type_item, plain_item, open_schema, member_to, open_type, ref_to, open_ref, open_composite, open_enum, value_to, open_value, open_message, group_to, open_group, field_under, field_in, field_to, open_field, open_by, opened, top, rest, given_to, value_of_enum, close_value, close_by, closed, collect}
+use Rattle.builder.specs.Builder.{Builder, Outcome, on, refused, Attributes, text_in, number_in, with_stack, with_text, with_schema, with_items, with_second, now_composite, now_enum, now_message, now_group, next_position, added, and_then, with_number, type_item, plain_item, open_schema, member_to, open_type, ref_to, open_ref, open_composite, open_enum, value_to, open_value, open_message, group_to, open_group, field_under, field_in, field_to, open_field, open_by, opened, top, rest, with_second_at, value_of_enum, close_value, close_by, closed, collect}
 use Rattle.xmlschema.specs.Whole.{step, empty}
 use Rattle.xmlschema.specs.Tracking.{Reached, start, further, HasValue, ValuesFound}
-use Rattle.builder.specs.declared.state.Limits.{Limits}
+use Rattle.builder.specs.Limits.{Limits}
 use Rattle.elements.specs.Elements.{element_of, other_element_of}
 use Rattle.elements.specs.declared.Element.{Element}
 use Rattle.elements.specs.declared.Element.TheVariants as element
@@ -99,9 +99,9 @@ has-set e i v xs h =
           (λ u. ap (value_of e) (get_or-set_other xs i h.at (with_second v (get_or xs i no_item)) no_item (eqb-false h.at i u)) ∙ h.is);
     }
 
-has-given : (e : ℕ) (o : Option ℕ) (v : List ℕ) (s : Schema) → Has e s.items → Has e (given_to o v s).items
-has-given e None v s h = h
-has-given e (Some i) v s h = has-set e i v s.items h
+has-second : (e : ℕ) (o : Option ℕ) (v : List ℕ) (s : Schema) → Has e s.items → Has e (with_second_at o v s).items
+has-second e None v s h = h
+has-second e (Some i) v s h = has-set e i v s.items h
 
 -- ---- what holds of every builder that is reached
 
@@ -244,9 +244,9 @@ unfolding element_of other_element_of same
 nameless = refl
 
 -- the value is given: the items keep their kinds and owners
-track-given : (b : Builder) (o : Option ℕ) → ((e : ℕ) → b.current.enum ≡ Some e → Has e b.schema.items) → Tracked (with_text false [] (value_of_enum o b))
-track-given b None h = record { has = λ e q o. h e q }
-track-given b (Some d) h = record { has = λ e q o. has-given e (last (under a_value d b.schema)) _ b.schema (h e q) }
+track-valued : (b : Builder) (o : Option ℕ) → ((e : ℕ) → b.current.enum ≡ Some e → Has e b.schema.items) → Tracked (with_text false [] (value_of_enum o b))
+track-valued b None h = record { has = λ e q o. h e q }
+track-valued b (Some d) h = record { has = λ e q o. has-second e (last (under a_value d b.schema)) _ b.schema (h e q) }
 
 module _ (place : ℕ) (name : List ℕ) (b : Builder) (T : Tracked b) where
   track-close : Holds Tracked (closed place name b)
@@ -260,7 +260,7 @@ module _ (place : ℕ) (name : List ℕ) (b : Builder) (T : Tracked b) where
       shut ns w element.Ref x = record { has = λ e q o. T.has e q (w ∙ ap (λ y. tell y (owed ns)) x ∙ o) }
       shut ns w element.Composite x = record { has = λ e q o. T.has e q (w ∙ ap (λ y. tell y (owed ns)) x ∙ o) }
       shut ns w element.Enum x = record { has = λ e q o. absurd (let y : ◌≡◌ {A = ℕ} 0 1 = cc in omega arith) }
-      shut ns w element.ValidValue x = track-given (with_stack ns b) b.current.enum (λ e q. T.has e q (w ∙ ap (λ y. tell y (owed ns)) x))
+      shut ns w element.ValidValue x = track-valued (with_stack ns b) b.current.enum (λ e q. T.has e q (w ∙ ap (λ y. tell y (owed ns)) x))
       shut ns w element.Message x = record { has = λ e q o. T.has e q (w ∙ ap (λ y. tell y (owed ns)) x ∙ o) }
       shut ns w element.Group x = record { has = λ e q o. T.has e q (w ∙ ap (λ y. tell y (owed ns)) x ∙ o) }
       shut ns w element.Field x = record { has = λ e q o. T.has e q (w ∙ ap (λ y. tell y (owed ns)) x ∙ o) }

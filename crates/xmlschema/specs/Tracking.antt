@@ -8,13 +8,15 @@ use Rattle.model.specs.Schema.{Schema, under, last, a_value}
 use Rattle.elements.specs.Elements.{element_of}
 use Rattle.elements.specs.declared.Element.TheVariants.{ValidValue}
 use Rattle.builder.specs.Builder.{Builder, on, top}
-use Rattle.builder.specs.declared.state.Limits.{Limits}
+use Rattle.builder.specs.Limits.{Limits}
 use Rattle.xmlschema.specs.Whole.{step, empty}
 
 -- after some of a document's events the builder is this one, and these events are still to come
 pub data Reached (l : Limits) (doc : List ℕ) : Events → Builder → Type 0 where
   start : Reached l doc (events doc) empty
-  further : (place : ℕ) (event : Event) (more : Events) (b b' : Builder) → Reached l doc (next place event more) b → step l place event b ≡ on b' → Reached l doc more b'
+  further : (place : ℕ) (event : Event) (more : Events) (b b' : Builder)
+      → Reached l doc (next place event more) b → step l place event b ≡ on b'
+      → Reached l doc more b'
 
 -- the enum at a position has a value
 pub record HasValue (enum : ℕ) (s : Schema) : Type 0 where
@@ -24,5 +26,7 @@ pub record HasValue (enum : ℕ) (s : Schema) : Type 0 where
 -- where the close tag of an open validValue is next and an enum is current, that enum has a value
 abbrev pub ValuesFound : Type 0
 ValuesFound =
-    (l : Limits) (doc : List ℕ) (place : ℕ) (name : List ℕ) (more : Events) (b : Builder) (enum : ℕ) →
-    Reached l doc (next place (closes name) more) b → element_of name ≡ ValidValue → same name (top b.stack) ≡ true → b.current.enum ≡ Some enum → HasValue enum b.schema
+    (l : Limits) (doc : List ℕ) (place : ℕ) (name : List ℕ) (more : Events) (b : Builder)
+    (enum : ℕ) →
+    Reached l doc (next place (closes name) more) b → element_of name ≡ ValidValue →
+    same name (top b.stack) ≡ true → b.current.enum ≡ Some enum → HasValue enum b.schema

@@ -8,7 +8,7 @@ use Rattle.saxlite.specs.Event.{Event, Events, text, opens, closes, done, broken
 use Rattle.saxlite.specs.Events.{events}
 use Rattle.model.specs.Schema.{Schema}
 use Rattle.builder.specs.Builder.{Builder, Outcome, on, refused, opened, closed, collect}
-use Rattle.builder.specs.declared.state.Limits.{Limits}
+use Rattle.builder.specs.Limits.{Limits, highest, max_document, min_records, min_text}
 
 -- what an event makes of the builder; refusals hold its place
 abbrev pub step : Limits → ℕ → Event → Builder → Outcome
@@ -20,7 +20,8 @@ step l place (closes name) b = closed place name b
 unfoldable pub built : Limits → Events → Builder → Outcome
 built l done b = on b
 built l (broken refusal) b = refused refusal
-built l (next place event more) b = elim (step l place event b) [ on b' ↦ built l more b' | refused refusal ↦ refused refusal ]
+built l (next place event more) b =
+    elim (step l place event b) [ on b' ↦ built l more b' | refused refusal ↦ refused refusal ]
 
 -- the builder before the first event
 abbrev pub empty : Builder
@@ -40,22 +41,19 @@ pub data Whole : Type 0 where
 
 -- at the end no element is open; else 31
 unfoldable pub ending : List ℕ → Outcome → Whole
-ending doc (on b) = pick (ltb 0 (length b.stack)) (refused_by (OpenElements (length doc))) (accepted b.schema)
+ending doc (on b) =
+    pick (ltb 0 (length b.stack)) (refused_by (OpenElements (length doc))) (accepted b.schema)
 ending doc (refused refusal) = refused_by refusal
 
 -- what a document gives as it is read
 abbrev pub reading : Limits → List ℕ → Whole
 reading l doc = ending doc (built l (events doc) empty)
 
--- how many items there may be, and how many open elements
-abbrev pub the_limits : Limits
-the_limits = record { items = 1024; depth = 64 }
-
 -- 1, 2, 10, then what reading gives; records and bytes are the lengths of the two buffers
 unfoldable pub answer_of : List ℕ → ℕ → ℕ → Whole
 answer_of doc records bytes =
     let high = scan is_ascii doc 0 in
-    pick (ltb 32768 (length doc)) (refused_by TooLong)
-    (pick (ltb records 16384 or ltb bytes 65536) (refused_by NoWorkSpace)
+    pick (ltb max_document (length doc)) (refused_by TooLong)
+    (pick (ltb records min_records or ltb bytes min_text) (refused_by NoWorkSpace)
     (pick (ltb high (length doc)) (refused_by (NotAscii high))
-    (reading the_limits doc)))
+    (reading highest doc)))

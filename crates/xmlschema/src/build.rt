@@ -1,30 +1,20 @@
 //! Reads a whole document: tests it and the buffers, then hands each event to the builder.
 #![tactic(auto, using(crate::proofs::Laws::driving, crate::proofs::Laws::stepping, crate::proofs::Laws::answering))]
 
-ghost use Rattle.std.specs.Prelude.{◌≡◌, ◌≤◌, length};
+ghost use Rattle.std.specs.Prelude.{◌≡◌};
+ghost use Rattle.builder.specs.internal.Layout.{Suffice};
 ghost use Rattle.xmlschema.specs.Whole.{reading};
 ghost use Rattle.xmlschema.specs.Read.{shown, ReadInto};
 ghost use Rattle.xmlschema.specs.internal.Driving.{with_state, Takes, Stepped};
 
-use builder::state::{Limits, State};
+use builder::limits::{Limits, MAX_DOCUMENT, MIN_RECORDS, MIN_TEXT};
+use builder::state::State;
 use builder::work::{Tag, Work};
 use model::Model;
 use refusals::Refusal;
 use saxlite::event::{Event, Told};
 use saxlite::reader::Reader;
 use texts::ascii_end;
-
-const MAX_ITEMS: u32 = 1024;
-
-const MAX_DEPTH: usize = 64;
-
-const MAX_DOCUMENT: usize = 32768;
-
-/// In numbers of 32 bits.
-const MIN_RECORDS: usize = 16384;
-
-/// In bytes.
-const MIN_TEXT: usize = 65536;
 
 /// What one event makes of the builder's state, by value. Refused with 30 or 32 to 35.
 fn step_value(s: State, w: &mut Work<'_, '_>, told: Told) -> Result<State, Refusal>
@@ -66,7 +56,7 @@ fn step(s: &mut State, w: &mut Work<'_, '_>, told: Told) -> Result<(), Refusal>
 /// Reads a document that is tested already, as the buffers are. Refused with 11 to 20, 30 to 35.
 #[inline(never)]
 fn read_tested(l: Limits, doc: &[u8], rec: &mut [u32], text: &mut [u8]) -> Result<Model, Refusal>
-    requires { (length doc.now ≤ 32768) × (16384 ≤ length rec.old) × (65536 ≤ length text.old) × (l.items ≤ 1024) × (l.depth ≤ 64) }
+    requires { Suffice doc.now rec.old text.old }
     ensures { shown result rec.new text.new ≡ reading l doc.now }
 {
     let mut work = Work::new(l, doc, rec, text);
@@ -100,9 +90,5 @@ pub fn read_schema(doc: &[u8], rec: &mut [u32], text: &mut [u8]) -> Result<Model
     if at < doc.len() {
         return Err(Refusal::NotAscii { at });
     }
-    let l = Limits {
-        items: MAX_ITEMS,
-        depth: MAX_DEPTH,
-    };
-    read_tested(l, doc, rec, text)
+    read_tested(Limits::highest(), doc, rec, text)
 }

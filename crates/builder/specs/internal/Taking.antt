@@ -1,5 +1,5 @@
 -- Taking texts into the text buffer, and reading numbers.
-use Rattle.std.specs.Prelude.{◌≡◌, List, ℕ, ◌+◌, ◌≤◌, length, Option, Some, None, Result, Ok, Err}
+use Rattle.std.specs.Prelude.{◌≡◌, List, ℕ, ◌+◌, ◌-◌, ◌≤◌, length, Option, Some, None, Result, Ok, Err}
 use Rattle.texts.specs.Text.{piece}
 use Rattle.texts.specs.declared.Range.{Range}
 use Rattle.tags.specs.Attributes.{raw_length}
@@ -10,25 +10,27 @@ use Rattle.refusals.specs.declared.Refusal.{Refusal}
 use Rattle.refusals.specs.declared.Refusal.TheVariants.{BadNumber}
 use Rattle.model.specs.Schema.{Item}
 use Rattle.numbers.specs.Numbers.{number_of}
-use Rattle.builder.specs.Builder.{or_empty, is_given}
+use Rattle.builder.specs.Builder.{or_empty, is_given, added}
 use Rattle.model.specs.internal.Store.{item_of}
-use Rattle.builder.specs.internal.Layout.{Alike, Steady, builder_in, room, Ready, Tagged, Same}
+use Rattle.builder.specs.internal.Layout.{Alike, Steady, builder_in, room, Sound, Ready, Tagged, Same, Makes}
 use Rattle.elements.specs.declared.Element.{Element}
 use Rattle.elements.specs.declared.Element.TheVariants as element
 use Rattle.model.specs.declared.Entry.{Entry}
-use Rattle.builder.specs.declared.take.Taken.{Taken}
 use Rattle.builder.specs.declared.take.Draft.{Draft}
 use Rattle.builder.specs.declared.state.State.{State}
 use Rattle.builder.specs.declared.work.Tag.{Tag}
 use Rattle.builder.specs.declared.work.Work.{Work}
 
 -- the value that was found is decoded at r.from, which is its raw length below high
-pub record TakenAt (found : Option Range) (doc text : List ℕ) (high : ℕ) (r : Taken) (text' : List ℕ) : Type 0 where
-  pub start : r.from + raw_length found ≡ high
-  pub is : piece text' r.from r.len ≡ or_empty (value_in doc found)
-  pub within : r.len ≤ raw_length found
-  pub alike : (a : ℕ) → a ≤ r.from → Alike a high text text'
-  pub long : length text' ≡ length text
+pub record TakenAt (found : Option Range) (doc text : List ℕ) (high : ℕ) (r : Range)
+    (text' : List ℕ)
+    : Type 0
+  where
+    pub start : r.from + raw_length found ≡ high
+    pub is : piece text' r.from r.len ≡ or_empty (value_in doc found)
+    pub within : r.len ≤ raw_length found
+    pub alike : (a : ℕ) → a ≤ r.from → Alike a high text text'
+    pub long : length text' ≡ length text
 
 -- at most the n bytes from low on have changed
 pub record Scratched (low n : ℕ) (text text' : List ℕ) : Type 0 where
@@ -36,21 +38,34 @@ pub record Scratched (low n : ℕ) (text text' : List ℕ) : Type 0 where
   pub long : length text' ≡ length text
 
 -- e is an entry of the item, its texts taken below high; n is the raw length of them all
-pub record Made (it : Item) (n high : ℕ) (text : List ℕ) (e : Entry) (text' : List ℕ) : Type 0 where
-  pub is : item_of text' e ≡ it
-  pub steady : (a : ℕ) → Steady a e.encoding text' e
-  pub start : e.encoding + n ≡ high
-  pub alike : (a : ℕ) → a ≤ e.encoding → Alike a high text text'
-  pub long : length text' ≡ length text
+pub record Made (it : Item) (n high : ℕ) (text : List ℕ) (e : Entry) (text' : List ℕ) : Type 0
+  where
+    pub is : item_of text' e ≡ it
+    pub steady : (a : ℕ) → Steady a e.encoding text' e
+    pub start : e.encoding + n ≡ high
+    pub alike : (a : ℕ) → a ≤ e.encoding → Alike a high text text'
+    pub long : length text' ≡ length text
 
 -- r is the number in a value that was found; what was decoded for it lies from low on
-pub record ReadAt (found : Option Range) (doc : List ℕ) (low : ℕ) (text : List ℕ) (r : Option ℕ) (text' : List ℕ) : Type 0 where
-  pub is : r ≡ number_of (value_in doc found)
-  pub scratch : Scratched low (raw_length found) text text'
+pub record ReadAt (found : Option Range) (doc : List ℕ) (low : ℕ) (text : List ℕ) (r : Option ℕ)
+    (text' : List ℕ)
+    : Type 0
+  where
+    pub is : r ≡ number_of (value_in doc found)
+    pub scratch : Scratched low (raw_length found) text text'
 
 -- a draft with a name and a second text
 abbrev pub drafted : ℕ → ℕ → ℕ → Option Range → Option Range → Draft
-drafted kind owner number name second = record { kind = kind; owner = owner; number = number; given = None; name = name; second = second; encoding = None }
+drafted kind owner number name second =
+    record {
+      kind = kind;
+      owner = owner;
+      number = number;
+      given = None;
+      name = name;
+      second = second;
+      encoding = None;
+    }
 
 -- the item that a draft stands for
 abbrev pub drafted_item : Draft → List ℕ → Item
@@ -69,38 +84,61 @@ drafted_item d doc =
 abbrev pub draft_length : Draft → ℕ
 draft_length d = raw_length d.name + raw_length d.second + raw_length d.encoding
 
+-- an entry of its item, with its texts
+abbrev pub MadeOf : Draft → List ℕ → ℕ → List ℕ → Entry → List ℕ → Type 0
+MadeOf d doc high text e text' = Made (drafted_item d doc) (draft_length d) high text e text'
+
 -- ---- with the document and the buffers
 
 -- f has the ranges of what was noted of a tag
 pub record Finds (tag : Tag) (f : Noted) : Type 0 where
   pub is : f ≡ noted_of tag.noted
 
--- what reading a number asks: the state is kept, and the tag has room for the text
+-- what reading a number asks: the state is sound, and the tag has room for the text
 unfoldable pub Reads : Work → State → Tag → Option Range → Type 0
 Reads w s tag found = Ready w s (room tag) × (raw_length found ≤ room tag)
 
--- and what adding an item asks
+-- what adding the item of a draft asks, and what it gives
 unfoldable pub Adds : Work → State → Tag → Draft → Type 0
 Adds w s tag d = Ready w s (room tag) × (draft_length d ≤ room tag)
+
+abbrev pub Added : Work → Tag → State → Draft → Work → Result State Refusal → Type 0
+Added w tag s d w' r =
+    Makes (added w.limits tag.place (drafted_item d w.doc.now)) w s (room tag) w' r
+
+-- what putting an entry asks: its texts lie in what was free, from its encoding on
+pub record Puts (w : Work) (s : State) (e : Entry) : Type 0 where
+  pub sound : Sound w s
+  pub steady : Steady s.usage.collected_to e.encoding w.text.now e
+  pub low : s.usage.collected_to ≤ e.encoding
+  pub high : e.encoding ≤ s.usage.taken_from
+
+-- and what it gives
+abbrev pub Put : Work → ℕ → State → Entry → Work → Result State Refusal → Type 0
+Put w place s e w' r =
+    Makes (added w.limits place (item_of w.text.now e)) w s (s.usage.taken_from - e.encoding) w' r
 
 -- a tag's attributes
 abbrev pub attributes_of : Work → Tag → Attributes
 attributes_of w tag = attributes_in w.doc.now tag.attributes
 
 -- a number, or 32 where it is invalid
-abbrev pub numbered : ℕ → Option ℕ → Result ℕ Refusal
-numbered place (Some n) = Ok n
-numbered place None = Err (BadNumber place)
+abbrev pub number_or_refused : ℕ → Option ℕ → Result ℕ Refusal
+number_or_refused place (Some n) = Ok n
+number_or_refused place None = Err (BadNumber place)
 
 -- r is a tag's number, or 32; the builder is the same, and n bytes of the text buffer are free
-pub record Numbered (place n : ℕ) (found : Option Range) (w : Work) (s : State) (w' : Work) (r : Result ℕ Refusal) : Type 0 where
-  pub is : r ≡ numbered place (number_of (value_in w.doc.now found))
-  pub ready : Ready w' s n
-  pub builder : builder_in w' s ≡ builder_in w s
-  pub same : Same w w'
+pub record NumberRead (place n : ℕ) (found : Option Range) (w : Work) (s : State) (w' : Work)
+    (r : Result ℕ Refusal)
+    : Type 0
+  where
+    pub is : r ≡ number_or_refused place (number_of (value_in w.doc.now found))
+    pub ready : Ready w' s n
+    pub builder : builder_in w' s ≡ builder_in w s
+    pub same : Same w w'
 
 -- what opening an element asks: the tag is read, its texts have room, and these names were noted
-pub record Opens (k : Keys) (w : Work) (s : State) (tag : Tag) : Type 0 where
+pub record ReadyToOpen (k : Keys) (w : Work) (s : State) (tag : Tag) : Type 0 where
   pub ready : Ready w s (room tag)
   pub tagged : Tagged w.doc.now tag.attributes tag.next
   pub noted : NotedBy k w.doc.now tag.attributes tag.noted

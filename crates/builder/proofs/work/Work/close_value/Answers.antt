@@ -1,5 +1,5 @@
-use Rattle.builder.proofs.Closing.{value-given}
+use Rattle.builder.proofs.Closing.{value-closed}
 use Rattle.builder.proofs.work.Work.close_value.Goals as goal
 
 pub returns : goal.returns
-returns c = value-given c.requires c.in-Some.is c.collected-value.ensures c.give.ensures
+returns c = value-closed c.requires c.in-Some.is c.collected-value.ensures c.put_value.ensures

@@ -1,5 +1,5 @@
-use Rattle.builder.proofs.Adding.{first_kept}
+use Rattle.builder.proofs.Adding.{initial_sound}
 use Rattle.builder.proofs.work.Work.new.Goals as goal
 
-pub returns-clause-kept : goal.returns-clause-kept
-returns-clause-kept c = first_kept c.requires.0 c.requires.1 c.requires.2 c.requires.3 c.requires.4
+pub returns-clause-sound : goal.returns-clause-sound
+returns-clause-sound c = initial_sound c.requires
