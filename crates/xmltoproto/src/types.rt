@@ -5,8 +5,8 @@ ghost use Rattle.std.specs.Prelude.{◌≡◌, List, [], ℕ, map};
 ghost use Rattle.texts.specs.Choice.{◌or◌};
 ghost use Rattle.texts.specs.Lists.{among};
 ghost use Rattle.xmltoproto.specs.Types.{form, built_ins, is_char, is_byte, is_raw, chars};
-ghost use Rattle.xmltoproto.specs.Types.{as_primitive, proto_of};
-ghost use Rattle.xmltoproto.specs.internal.Shapes.{proto_in};
+ghost use Rattle.xmltoproto.specs.Types.{as_primitive};
+ghost use Rattle.xmltoproto.specs.internal.Shapes.{proto_in, Prints};
 
 use charsets::is_compatible;
 use swar::same_name;
@@ -107,7 +107,7 @@ fn primitive_shape(p: &[u8]) -> Shape
 /// The shape of a primitive with a length, 0 if absent, and an encoding.
 #[inline(always)]
 pub fn shape_of(primitive: &[u8], size: u32, encoding: &[u8]) -> Shape
-    ensures { proto_in result primitive.now encoding.now ≡ proto_of (form primitive.now size encoding.now) }
+    ensures { Prints result (form primitive.now size encoding.now) }
 {
     if same_name(primitive, b"char") {
         let n = chars_in(size);

@@ -1,8 +1,8 @@
 -- How a form prints, as the code answers it.
-use Rattle.std.specs.Prelude.{List, [], ◌++◌, ℕ}
+use Rattle.std.specs.Prelude.{◌≡◌, List, [], ◌++◌, ℕ}
 use Rattle.texts.specs.Text.{ascii}
 use Rattle.printing.specs.Decimal.{decimal}
-use Rattle.xmltoproto.specs.Types.{Proto, note_on}
+use Rattle.xmltoproto.specs.Types.{Form, Proto, note_on, proto_of}
 use Rattle.xmltoproto.specs.declared.types.Shape.{Shape}
 use Rattle.xmltoproto.specs.declared.types.Shape.TheVariants as shape
 
@@ -38,6 +38,10 @@ note_in shape.Plain e = []
 -- all three
 abbrev pub proto_in : Shape → List ℕ → List ℕ → Proto
 proto_in s p e = record { word = word_in s p; option = option_in s p; note = note_in s e }
+
+-- the shape prints as the form does
+abbrev pub Prints : Shape → Form → Type 0
+Prints s t = proto_in s t.primitive t.encoding ≡ proto_of t
 
 -- ---- an option with a space before it, in its brackets
 
