@@ -22,10 +22,10 @@ fn print_refusal(rt: &impl Print, r: Refusal) -> io::Result<()> {
     println!(rt; "refused\t{number}\t{offset}\t{place}")
 }
 
-fn print_sheet(rt: &impl Print, v: &View<'_>) -> io::Result<()> {
+fn print_sheet(rt: &impl Print, schema: View<'_>) -> io::Result<()> {
     let mut lines = [0u8; 65536];
     let mut out = Output::new(&mut lines);
-    write_sheet(&mut out, v);
+    write_sheet(&mut out, schema);
     rt.write_all(written(&out))
 }
 
@@ -35,7 +35,7 @@ fn show(rt: &impl Print, document: &[u8]) -> io::Result<()> {
     let mut text = [0u8; 65536];
     match read_schema(document, &mut records, &mut text) {
         Err(r) => print_refusal(rt, r),
-        Ok(m) => print_sheet(rt, &View::new(m, &records, &text)),
+        Ok(m) => print_sheet(rt, View::new(m, &records, &text)),
     }
 }
 

@@ -56,7 +56,7 @@ render s =
 
 -- ---- lists
 
-each_map : {A B : Type 0} (f : A → List ℕ) (g : B → List ℕ) (h : A → B) → ((a : A) → f a ≡ g (h a)) → (l : List A) → each f l ≡ each g (map h l)
+pub each_map : {A B : Type 0} (f : A → List ℕ) (g : B → List ℕ) (h : A → B) → ((a : A) → f a ≡ g (h a)) → (l : List A) → each f l ≡ each g (map h l)
 unfolding each
 each_map f g h e [] = refl
 each_map f g h e (a ∷ l) = rw (e a, each_map f g h e l)
@@ -66,7 +66,7 @@ unfolding numbered
 numbered-map f g h e n [] = refl
 numbered-map f g h e n (a ∷ l) = rw (e n a, numbered-map f g h e (n + 1) l)
 
-numbered-append : {A : Type 0} (g : ℕ → A → List ℕ) (n : ℕ) (s t : List A) → numbered g n (s ++ t) ≡ numbered g n s ++ numbered g (n + length s) t
+pub numbered-append : {A : Type 0} (g : ℕ → A → List ℕ) (n : ℕ) (s t : List A) → numbered g n (s ++ t) ≡ numbered g n s ++ numbered g (n + length s) t
 unfolding numbered
 numbered-append g n [] t = rw add-zero
 numbered-append g n (a ∷ s) t =

@@ -96,7 +96,7 @@ module _ {A : Type 0} (p : ℕ → A → List ℕ) (Ok : A → Type 0) (one : (n
       rw (append_assoc (p n a) (numbered p (n + 1) s) u, append_assoc (p n b) (numbered p (n + 1) t) v)
       (seq (one n a b hs.0 ht.0) λ e. counted (n + 1) s t hs.1 ht.1 hu hv λ r. k λ i. e i ∷ r i)
 
-each-numbered : {A : Type 0} (p : A → List ℕ) (n : ℕ) (l : List A) → each p l ≡ numbered (λ _. p) n l
+pub each-numbered : {A : Type 0} (p : A → List ℕ) (n : ℕ) (l : List A) → each p l ≡ numbered (λ _. p) n l
 unfolding each numbered
 each-numbered p n [] = refl
 each-numbered p n (a ∷ l) = rw (each-numbered p (n + 1) l)

@@ -1,25 +1,29 @@
-//! Prints the wire sheet of a schema as lines (specs/Sheet.antt), from the model.
-#![tactic(auto, using(printing::proofs::Writing::writing))]
+//! Prints the wire sheet of a schema as lines (specs/Sheet.antt).
+#![tactic(auto, using(crate::proofs::Sheets::lines))]
 
-ghost use Rattle.std.specs.Prelude.{List, [], ℕ};
+ghost use Rattle.std.specs.Prelude.{[]};
 ghost use Rattle.texts.specs.Choice.{pick};
-ghost use Rattle.texts.specs.Lists.{each};
 ghost use Rattle.printing.specs.Written.{Wrote};
-ghost use Rattle.model.specs.Schema.{Schema, item_at, under, all_of};
+ghost use Rattle.model.specs.Schema.{item_at};
 ghost use Rattle.xmltoproto.specs.Types.{form, form_of, meaning};
 ghost use Rattle.xmltoproto.specs.Composites.{is_printed};
-ghost use Rattle.wiresheet.specs.Sheet.{named, kind_of, kind_by, value_of, enum_of, member_of, ref_of, composite_of, field_of, group_of, message_of, sheet, kind_shown, enum_shown, composite_shown, field_shown, group_shown, message_shown, sheet_lines};
+ghost use Rattle.wiresheet.specs.Sheet.{named, kind_of, kind_by, value_of, enum_of, member_of, ref_of};
+ghost use Rattle.wiresheet.specs.Sheet.{composite_of, field_of, group_of, message_of, sheet};
+ghost use Rattle.wiresheet.specs.Sheet.{kind_shown, enum_shown, composite_shown, field_shown};
+ghost use Rattle.wiresheet.specs.Sheet.{group_shown, message_shown, sheet_lines};
 ghost use Rattle.wiresheet.specs.internal.SheetLines.{value_shown, part_shown, group_line, schema_line};
 
 use charsets::is_compatible;
-use names::convert::{write_screaming, write_singular, write_snake};
-use index::seen::declaration_in;
+use index::LINKS_1024;
+use index::seen::{Declaration, Index};
 use model::view::View;
 use model::{COMPOSITE, ENUM, FIELD, GROUP, MEMBER, MESSAGE, REF, VALUE};
+use names::convert::{write_screaming, write_singular, write_snake};
 use printing::Output;
 use texts::equal;
 use xmltoproto::composites::is_printed;
-use xmltoproto::types::{Sense, chars_in, is_raw, sense_of};
+use xmltoproto::types::{chars_in, is_built_in, is_raw};
+use xmltoproto::walk::{ItemText, write_all, write_under};
 
 // ---- kinds
 
@@ -44,6 +48,7 @@ fn write_kind(out: &mut Output<'_>, primitive: &[u8], size: u32, encoding: &[u8]
 }
 
 /// Writes the kind of an enum or composite, or of a name that stands for nothing.
+#[tactic(auto, unfolding(crate::specs::Sheet::kind_shown), using(crate::proofs::Sheets::lines))]
 fn write_named(out: &mut Output<'_>, name: &[u8])
     ensures { Wrote out.old out.new (kind_shown (named name.now)) }
 {
@@ -52,53 +57,28 @@ fn write_named(out: &mut Output<'_>, name: &[u8])
 }
 
 /// Writes the kind of the type or member at `i`.
-fn write_kind_at(out: &mut Output<'_>, v: &View<'_>, i: u32)
-    ensures { Wrote out.old out.new (kind_shown (kind_of (form_of (item_at v.now i)))) }
+fn write_own_kind(out: &mut Output<'_>, s: &Index<'_>, i: u32)
+    ensures { Wrote out.old out.new (kind_shown (kind_of (form_of (item_at s.now i)))) }
 {
-    let primitive = v.second(i);
-    let encoding = v.encoding(i);
-    write_kind(out, primitive, v.size(i), encoding);
+    let primitive = s.second(i);
+    let encoding = s.encoding(i);
+    write_kind(out, primitive, s.size(i), encoding);
 }
 
-/// Writes the kind that a type name stands for.
-fn write_kind_of(out: &mut Output<'_>, v: &View<'_>, name: &[u8])
-    ensures { Wrote out.old out.new (kind_shown (kind_by name.now (meaning v.now name.now))) }
+/// Writes the kind that the type name of the field at `i` stands for.
+fn write_field_kind(out: &mut Output<'_>, s: &Index<'_>, i: u32)
+    ensures { Wrote out.old out.new (kind_shown (field_of s.now (item_at s.now i)).kind) }
 {
-    match sense_of(declaration_in(v, name), name) {
-        Sense::Declared => write_named(out, name),
-        Sense::Typed(t) => write_kind_at(out, v, t),
-        Sense::BuiltIn => write_kind(out, name, 0, b""),
-        Sense::Unknown => write_named(out, name),
-    }
-}
-
-// ---- items
-
-/// What the sheet shows of an item. Beside `ItemText` of xmltoproto, which needs an index: a sheet
-/// is made from the view alone.
-trait Lines {
-    ghost text: { Schema → ℕ → List ℕ };
-
-    /// Writes the lines of item `i`.
-    fn write(&self, out: &mut Output<'_>, v: &View<'_>, i: u32)
-        ensures { Wrote out.old out.new (text v.now i) };
-}
-
-/// Writes the lines of each item of a kind under an owner.
-fn write_under<T: Lines>(out: &mut Output<'_>, v: &View<'_>, kind: u32, owner: u32, by: &T)
-    ensures { Wrote out.old out.new (each (T.text v.now) (under kind owner v.now)) }
-{
-    for i in v.under(kind, owner) {
-        by.write(out, v, i);
-    }
-}
-
-/// Writes the lines of each item of a kind.
-fn write_all<T: Lines>(out: &mut Output<'_>, v: &View<'_>, kind: u32, by: &T)
-    ensures { Wrote out.old out.new (each (T.text v.now) (all_of kind v.now)) }
-{
-    for i in v.all_of(kind) {
-        by.write(out, v, i);
+    let name = s.second(i);
+    match s.declared(i) {
+        Some(Declaration::Named) => write_named(out, name),
+        Some(Declaration::Typed(t)) => write_own_kind(out, s, t),
+        None => {
+            if is_built_in(name) {
+                return write_kind(out, name, 0, b"");
+            }
+            write_named(out, name)
+        }
     }
 }
 
@@ -107,14 +87,15 @@ fn write_all<T: Lines>(out: &mut Output<'_>, v: &View<'_>, kind: u32, by: &T)
 /// The line of an enum's value.
 struct ValueLine;
 
-impl Lines for ValueLine {
-    ghost text = { λ s i. value_shown (value_of (item_at s i)) };
+#[tactic(auto, unfolding(crate::specs::Sheet::shown, crate::specs::Sheet::value_of, crate::specs::internal::SheetLines::value_shown), using(crate::proofs::Sheets::lines))]
+impl ItemText for ValueLine {
+    ghost text = { λ t s i. value_shown (value_of (item_at s i)) };
 
-    fn write(&self, out: &mut Output<'_>, v: &View<'_>, i: u32) {
+    fn write(&self, out: &mut Output<'_>, s: &Index<'_>, i: u32) {
         out.text(b"value\t");
-        write_screaming(out, v.name(i));
+        write_screaming(out, s.name(i));
         out.text(b"\t");
-        out.text(v.second(i));
+        out.text(s.second(i));
         out.text(b"\n");
     }
 }
@@ -122,14 +103,15 @@ impl Lines for ValueLine {
 /// An enum: its line, and those of its values.
 struct EnumLines;
 
-impl Lines for EnumLines {
-    ghost text = { λ s i. enum_shown (enum_of s i) };
+#[tactic(auto, unfolding(crate::specs::Sheet::shown, crate::specs::Sheet::value_of, crate::specs::Sheet::enum_of, crate::specs::Sheet::enum_shown, crate::specs::internal::SheetLines::value_shown), using(crate::proofs::Sheets::lines))]
+impl ItemText for EnumLines {
+    ghost text = { λ t s i. enum_shown (enum_of s i) };
 
-    fn write(&self, out: &mut Output<'_>, v: &View<'_>, i: u32) {
+    fn write(&self, out: &mut Output<'_>, s: &Index<'_>, i: u32) {
         out.text(b"enum\t");
-        out.text(v.name(i));
+        out.text(s.name(i));
         out.text(b"\n");
-        write_under(out, v, VALUE, i, &ValueLine);
+        write_under(out, s, VALUE, i, &ValueLine);
     }
 }
 
@@ -138,14 +120,15 @@ impl Lines for EnumLines {
 /// The line of a member.
 struct MemberLine;
 
-impl Lines for MemberLine {
-    ghost text = { λ s i. part_shown (member_of (item_at s i)) };
+#[tactic(auto, unfolding(crate::specs::Sheet::shown, crate::specs::Sheet::member_of, crate::specs::internal::SheetLines::part_shown), using(crate::proofs::Sheets::lines))]
+impl ItemText for MemberLine {
+    ghost text = { λ t s i. part_shown (member_of (item_at s i)) };
 
-    fn write(&self, out: &mut Output<'_>, v: &View<'_>, i: u32) {
+    fn write(&self, out: &mut Output<'_>, s: &Index<'_>, i: u32) {
         out.text(b"part\t");
-        write_kind_at(out, v, i);
+        write_own_kind(out, s, i);
         out.text(b"\t");
-        write_snake(out, v.name(i));
+        write_snake(out, s.name(i));
         out.text(b"\n");
     }
 }
@@ -153,38 +136,40 @@ impl Lines for MemberLine {
 /// The line of a ref.
 struct RefLine;
 
-impl Lines for RefLine {
-    ghost text = { λ s i. part_shown (ref_of (item_at s i)) };
+#[tactic(auto, unfolding(crate::specs::Sheet::shown, crate::specs::Sheet::ref_of, crate::specs::internal::SheetLines::part_shown), using(crate::proofs::Sheets::lines))]
+impl ItemText for RefLine {
+    ghost text = { λ t s i. part_shown (ref_of (item_at s i)) };
 
-    fn write(&self, out: &mut Output<'_>, v: &View<'_>, i: u32) {
+    fn write(&self, out: &mut Output<'_>, s: &Index<'_>, i: u32) {
         out.text(b"part\t");
-        write_named(out, v.second(i));
+        write_named(out, s.second(i));
         out.text(b"\t");
-        write_snake(out, v.name(i));
+        write_snake(out, s.name(i));
         out.text(b"\n");
     }
 }
 
 /// Writes the line of a composite, and those of its members and refs.
-fn write_composite(out: &mut Output<'_>, v: &View<'_>, i: u32)
-    ensures { Wrote out.old out.new (composite_shown (composite_of v.now i)) }
+#[tactic(auto, unfolding(crate::specs::Sheet::shown, crate::specs::Sheet::member_of, crate::specs::Sheet::ref_of, crate::specs::Sheet::composite_of, crate::specs::Sheet::composite_shown, crate::specs::internal::SheetLines::part_shown), using(crate::proofs::Sheets::lines))]
+fn write_composite(out: &mut Output<'_>, s: &Index<'_>, i: u32)
+    ensures { Wrote out.old out.new (composite_shown (composite_of s.now i)) }
 {
     out.text(b"composite\t");
-    out.text(v.name(i));
+    out.text(s.name(i));
     out.text(b"\n");
-    write_under(out, v, MEMBER, i, &MemberLine);
-    write_under(out, v, REF, i, &RefLine);
+    write_under(out, s, MEMBER, i, &MemberLine);
+    write_under(out, s, REF, i, &RefLine);
 }
 
 /// The lines of a composite, none if it is not printed.
 struct CompositeLines;
 
-impl Lines for CompositeLines {
-    ghost text = { λ s i. pick (is_printed (item_at s i)) (composite_shown (composite_of s i)) [] };
+impl ItemText for CompositeLines {
+    ghost text = { λ t s i. pick (is_printed (item_at s i)) (composite_shown (composite_of s i)) [] };
 
-    fn write(&self, out: &mut Output<'_>, v: &View<'_>, i: u32) {
-        if is_printed(v, i) {
-            write_composite(out, v, i);
+    fn write(&self, out: &mut Output<'_>, s: &Index<'_>, i: u32) {
+        if is_printed(s.view(), i) {
+            write_composite(out, s, i);
         }
     }
 }
@@ -194,15 +179,16 @@ impl Lines for CompositeLines {
 /// The line of a field.
 struct FieldLine;
 
-impl Lines for FieldLine {
-    ghost text = { λ s i. field_shown (field_of s (item_at s i)) };
+#[tactic(auto, unfolding(crate::specs::Sheet::shown, crate::specs::Sheet::field_of, crate::specs::Sheet::field_shown), using(crate::proofs::Sheets::lines))]
+impl ItemText for FieldLine {
+    ghost text = { λ t s i. field_shown (field_of s (item_at s i)) };
 
-    fn write(&self, out: &mut Output<'_>, v: &View<'_>, i: u32) {
-        let id = v.number(i);
+    fn write(&self, out: &mut Output<'_>, s: &Index<'_>, i: u32) {
+        let id = s.number(i);
         out.text(b"field\t");
-        write_kind_of(out, v, v.second(i));
+        write_field_kind(out, s, i);
         out.text(b"\t");
-        write_snake(out, v.name(i));
+        write_snake(out, s.name(i));
         out.text(b"\t");
         out.decimal(id);
         out.text(b"\n");
@@ -210,28 +196,30 @@ impl Lines for FieldLine {
 }
 
 /// Writes the line of a group, without its fields.
-fn write_group_line(out: &mut Output<'_>, v: &View<'_>, i: u32)
-    ensures { Wrote out.old out.new (group_line v.now i) }
+#[tactic(auto, unfolding(crate::specs::Sheet::shown, crate::specs::internal::SheetLines::group_line), using(crate::proofs::Sheets::lines))]
+fn write_group_line(out: &mut Output<'_>, s: &Index<'_>, i: u32)
+    ensures { Wrote out.old out.new (group_line s.now i) }
 {
-    let name = v.name(i);
+    let name = s.name(i);
     out.text(b"group\t");
     write_snake(out, name);
     out.text(b"\t");
     write_singular(out, name);
     out.text(b"\t");
-    out.decimal(v.number(i));
+    out.decimal(s.number(i));
     out.text(b"\n");
 }
 
 /// A group: its line, its fields, and `end`.
 struct GroupLines;
 
-impl Lines for GroupLines {
-    ghost text = { λ s i. group_shown (group_of s i) };
+#[tactic(auto, unfolding(crate::specs::Sheet::shown, crate::specs::Sheet::group_of, crate::specs::Sheet::group_shown, crate::specs::internal::SheetLines::group_line), using(crate::proofs::Sheets::lines))]
+impl ItemText for GroupLines {
+    ghost text = { λ t s i. group_shown (group_of s i) };
 
-    fn write(&self, out: &mut Output<'_>, v: &View<'_>, i: u32) {
-        write_group_line(out, v, i);
-        write_under(out, v, FIELD, i, &FieldLine);
+    fn write(&self, out: &mut Output<'_>, s: &Index<'_>, i: u32) {
+        write_group_line(out, s, i);
+        write_under(out, s, FIELD, i, &FieldLine);
         out.text(b"end\n");
     }
 }
@@ -239,41 +227,51 @@ impl Lines for GroupLines {
 /// A message: its line, its fields, and its groups.
 struct MessageLines;
 
-impl Lines for MessageLines {
-    ghost text = { λ s i. message_shown (message_of s i) };
+#[tactic(auto, unfolding(crate::specs::Sheet::shown, crate::specs::Sheet::message_of, crate::specs::Sheet::message_shown), using(crate::proofs::Sheets::lines))]
+impl ItemText for MessageLines {
+    ghost text = { λ t s i. message_shown (message_of s i) };
 
-    fn write(&self, out: &mut Output<'_>, v: &View<'_>, i: u32) {
+    fn write(&self, out: &mut Output<'_>, s: &Index<'_>, i: u32) {
         out.text(b"message\t");
-        out.text(v.name(i));
+        out.text(s.name(i));
         out.text(b"\t");
-        out.decimal(v.number(i));
+        out.decimal(s.number(i));
         out.text(b"\n");
-        write_under(out, v, FIELD, i, &FieldLine);
-        write_under(out, v, GROUP, i, &GroupLines);
+        write_under(out, s, FIELD, i, &FieldLine);
+        write_under(out, s, GROUP, i, &GroupLines);
     }
 }
 
 // ---- the whole sheet
 
 /// Writes the line of package, id and version.
-fn write_schema_line(out: &mut Output<'_>, v: &View<'_>)
-    ensures { Wrote out.old out.new (schema_line v.now) }
+#[tactic(auto, unfolding(crate::specs::Sheet::shown, crate::specs::internal::SheetLines::schema_line), using(crate::proofs::Sheets::lines))]
+fn write_schema_line(out: &mut Output<'_>, s: &Index<'_>)
+    ensures { Wrote out.old out.new (schema_line s.now) }
 {
     out.text(b"schema\t");
-    out.text(v.package());
+    out.text(s.package());
     out.text(b"\t");
-    out.decimal(v.id());
+    out.decimal(s.id());
     out.text(b"\t");
-    out.decimal(v.version());
+    out.decimal(s.version());
     out.text(b"\n");
 }
 
-/// Writes the wire sheet of a schema.
-pub fn write_sheet(out: &mut Output<'_>, v: &View<'_>)
-    ensures { Wrote out.old out.new (sheet_lines (sheet v.now)) }
+/// Writes the wire sheet of an indexed schema.
+fn write_lines(out: &mut Output<'_>, s: &Index<'_>)
+    ensures { Wrote out.old out.new (sheet_lines (sheet s.now)) }
 {
-    write_schema_line(out, v);
-    write_all(out, v, ENUM, &EnumLines);
-    write_all(out, v, COMPOSITE, &CompositeLines);
-    write_all(out, v, MESSAGE, &MessageLines);
+    write_schema_line(out, s);
+    write_all(out, s, ENUM, &EnumLines);
+    write_all(out, s, COMPOSITE, &CompositeLines);
+    write_all(out, s, MESSAGE, &MessageLines);
+}
+
+/// Writes the wire sheet of a schema.
+pub fn write_sheet(out: &mut Output<'_>, schema: View<'_>)
+    ensures { Wrote out.old out.new (sheet_lines (sheet schema.entry)) }
+{
+    let mut links = [0u16; LINKS_1024];
+    write_lines(out, &Index::of(schema, &mut links));
 }

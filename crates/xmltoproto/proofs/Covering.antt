@@ -6,7 +6,7 @@ use Rattle.printing.proofs.Decimals.{decimal-one}
 use Rattle.index.specs.Declarations.{declaration_of}
 use Rattle.index.specs.declared.seen.Declaration.{Declaration}
 use Rattle.index.specs.declared.seen.Declaration.TheVariants.{Named, Typed}
-use Rattle.model.specs.Schema.{Item, Schema, item_at}
+use Rattle.model.specs.Schema.{Item, Schema, item_at, a_member, a_ref, a_composite, an_enum, a_value, a_message, a_group, a_field}
 use Rattle.xmltoproto.specs.Types.{form_of, built_in}
 use Rattle.xmltoproto.specs.Source.{source}
 use Rattle.xmltoproto.specs.internal.Bound.{named_most, note_most, typed_most, value_most, field_by, field_most, share, Covers}
@@ -30,24 +30,24 @@ note-more zero b h = omega arith
 note-more (suc a) zero h = absurd (omega arith)
 note-more (suc a) (suc b) h = omega arith
 
--- the line of item t: p and e bound the lengths of its texts, d the digits of its size
-pub typed-covered : (t : Item) (n k : ℕ) {p d e q w : ℕ} → length t.second ≤ p → length t.encoding ≤ e → length (decimal (pick t.given t.number 0)) ≤ d → q ≡ named_most n k p → w ≡ note_most e
-    → q + 28 + d + w < 2 ^ 40 → Covers (q + 28 + d + w) (typed_most n k (form_of t))
+-- the line of item t: p and e bound the lengths of its texts
+pub typed-covered : (t : Item) (n : ℕ) {p e q w : ℕ} → length t.second ≤ p → length t.encoding ≤ e → length (decimal (pick t.given t.number 0)) ≤ 10 → q ≡ named_most n 10 p → w ≡ note_most e
+    → q + 28 + 10 + w < 2 ^ 40 → Covers (q + 28 + 10 + w) (typed_most n 10 (form_of t))
 unfolding form_of
-typed-covered t n k {e = e} lp le ld eq ew small = record { least = rw ew (omega (arith, lp, ld, note-more (length t.encoding) e le)); small = small }
+typed-covered t n {e = e} lp le ld eq ew small = record { least = rw ew (omega (arith, lp, ld, note-more (length t.encoding) e le)); small = small }
 
 -- ---- a line by its kind
 
--- a field, by what its type name is declared as: n bounds its name's length, d its number's digits
-module _ (s : Schema) (it : Item) {n d : ℕ} (ln : length it.name ≤ n) (ld : length (decimal it.number) ≤ d) {o : Option Declaration} (eo : o ≡ declaration_of s it.second) where
+-- a field, by what its type name is declared as: n bounds its name's length
+module _ (s : Schema) (it : Item) {n : ℕ} (ln : length it.name ≤ n) (ld : length (decimal it.number) ≤ 10) {o : Option Declaration} (eo : o ≡ declaration_of s it.second) where
   by-declaration : {r : ℕ} → field_by s it o ≤ r → r < 2 ^ 40 → Covers r (field_most s it)
   unfolding field_most
   by-declaration l k = record { least = rw (← eo) l; small = k }
 
-  pub field-typed-most : {k : ℕ} → o ≡ Some (Typed k) → {r : ℕ} → Covers r (typed_most n d (form_of (item_at s k))) → Covers r (field_most s it)
+  pub field-typed-most : {k : ℕ} → o ≡ Some (Typed k) → {r : ℕ} → Covers r (typed_most n 10 (form_of (item_at s k))) → Covers r (field_most s it)
   field-typed-most f c = by-declaration (rw f (omega (arith, c.least, ln, ld))) c.small
 
-  module _ {p : ℕ} (lp : length it.second ≤ p) {r : ℕ} (q : r ≡ named_most n d p) where
+  module _ {p : ℕ} (lp : length it.second ≤ p) {r : ℕ} (q : r ≡ named_most n 10 p) where
     pub field-named : o ≡ Some Named → r < 2 ^ 40 → Covers r (field_most s it)
     field-named f small = by-declaration (rw f (omega (arith, ln, ld, lp))) small
 
@@ -62,39 +62,39 @@ module _ (s : Schema) (i : ℕ) {q : ℕ} (eq : q ≡ (item_at s i).kind) where
   pub kind-told : (k : ℕ) → q ≡ k → (item_at s i).kind ≡ k
   kind-told k f = sym eq ∙ f
 
-  pub share-field : q ≡ 9 → {r : ℕ} → Covers r (field_most s (item_at s i)) → Covers r (share s i)
+  pub share-field : q ≡ a_field → {r : ℕ} → Covers r (field_most s (item_at s i)) → Covers r (share s i)
   unfolding share
-  share-field k c = record { least = rw (kind-told 9 k) (omega (arith, c.least)); small = c.small }
+  share-field k c = record { least = rw (kind-told a_field k) (omega (arith, c.least)); small = c.small }
 
-  pub share-value : q ≡ 6 → {r : ℕ} → Covers r (value_most (item_at s (item_at s i).owner) (item_at s i)) → Covers r (share s i)
+  pub share-value : q ≡ a_value → {r : ℕ} → Covers r (value_most (item_at s (item_at s i).owner) (item_at s i)) → Covers r (share s i)
   unfolding share
-  share-value k c = record { least = rw (kind-told 6 k) (omega (arith, c.least)); small = c.small }
+  share-value k c = record { least = rw (kind-told a_value k) (omega (arith, c.least)); small = c.small }
 
   module _ {n : ℕ} (ln : length (item_at s i).name ≤ n) where
-    pub share-enum : q ≡ 5 → n < 4294967296 → Covers (11 + n) (share s i)
+    pub share-enum : q ≡ an_enum → n < 4294967296 → Covers (11 + n) (share s i)
     unfolding share
-    share-enum k l = record { least = rw (kind-told 5 k) (omega (arith, ln)); small = omega arith }
+    share-enum k l = record { least = rw (kind-told an_enum k) (omega (arith, ln)); small = omega arith }
 
-    pub share-composite : q ≡ 4 → n < 4294967296 → Covers (14 + n) (share s i)
+    pub share-composite : q ≡ a_composite → n < 4294967296 → Covers (14 + n) (share s i)
     unfolding share
-    share-composite k l = record { least = rw (kind-told 4 k) (omega (arith, ln)); small = omega arith }
+    share-composite k l = record { least = rw (kind-told a_composite k) (omega (arith, ln)); small = omega arith }
 
-    pub share-ref : q ≡ 3 → n < 4294967296 → {p : ℕ} → length (item_at s i).second ≤ p → p < 4294967296 → {r : ℕ} → r ≡ named_most n 10 p → Covers r (share s i)
+    pub share-ref : q ≡ a_ref → n < 4294967296 → {p : ℕ} → length (item_at s i).second ≤ p → p < 4294967296 → {r : ℕ} → r ≡ named_most n 10 p → Covers r (share s i)
     unfolding share
-    share-ref k l lp kp w = record { least = rw (kind-told 3 k) (omega (arith, ln, lp)); small = omega arith }
+    share-ref k l lp kp w = record { least = rw (kind-told a_ref k) (omega (arith, ln, lp)); small = omega arith }
 
-    pub share-member : q ≡ 2 → {r : ℕ} → Covers r (typed_most n 10 (form_of (item_at s i))) → Covers r (share s i)
+    pub share-member : q ≡ a_member → {r : ℕ} → Covers r (typed_most n 10 (form_of (item_at s i))) → Covers r (share s i)
     unfolding share
-    share-member k c = record { least = rw (kind-told 2 k) (omega (arith, c.least, ln)); small = c.small }
+    share-member k c = record { least = rw (kind-told a_member k) (omega (arith, c.least, ln)); small = c.small }
 
-    module _ (l : n < 4294967296) {d : ℕ} (ld : length (decimal (item_at s i).number) ≤ d) (kd : d ≤ 10) where
-      pub share-message : q ≡ 7 → Covers (45 + n + d) (share s i)
+    module _ (l : n < 4294967296) (ld : length (decimal (item_at s i).number) ≤ 10) where
+      pub share-message : q ≡ a_message → Covers (45 + n + 10) (share s i)
       unfolding share
-      share-message k = record { least = rw (kind-told 7 k) (omega (arith, ln, ld)); small = omega arith }
+      share-message k = record { least = rw (kind-told a_message k) (omega (arith, ln, ld)); small = omega arith }
 
-      pub share-group : q ≡ 8 → Covers (34 + 4 * n + d) (share s i)
+      pub share-group : q ≡ a_group → Covers (34 + 4 * n + 10) (share s i)
       unfolding share
-      share-group k = record { least = rw (kind-told 8 k) (omega (arith, ln, ld)); small = omega arith }
+      share-group k = record { least = rw (kind-told a_group k) (omega (arith, ln, ld)); small = omega arith }
 
   pub share-none : (q ≡ 2 → ⊥) → (q ≡ 3 → ⊥) → (q ≡ 4 → ⊥) → (q ≡ 5 → ⊥) → (q ≡ 6 → ⊥) → (q ≡ 7 → ⊥) → (q ≡ 8 → ⊥) → (q ≡ 9 → ⊥) → Covers 0 (share s i)
   unfolding share
@@ -112,11 +112,11 @@ pub record Summing (s : Schema) (n most i : ℕ) : Type 0 where
   pub within : i ≤ n
   pub few : n ≤ 1024
 
--- the header, with numbers of a and b digits
-pub summing_start : (s : Schema) {w : List ℕ} → w ≡ s.package_name → {a : ℕ} → length (decimal s.id) ≤ a → {b : ℕ} → length (decimal s.version) ≤ b → a ≤ 10 → b ≤ 10 → length w < 2 ^ 63
-    → {n : ℕ} → n ≡ length s.items → length s.items ≤ 1024 → Summing s n (117 + length w + (a + b)) 0
+-- the header
+pub summing_start : (s : Schema) {w : List ℕ} → w ≡ s.package_name → length (decimal s.id) ≤ 10 → length (decimal s.version) ≤ 10 → length w < 2 ^ 63
+    → {n : ℕ} → n ≡ length s.items → length s.items ≤ 1024 → Summing s n (117 + length w + 20) 0
 unfolding sum_to
-summing_start s ew la lb ka kb lw e f =
+summing_start s ew la lb lw e f =
     record {
       rest = rw (e, ew) (omega (arith, source-most s f));
       small = omega arith;

@@ -1,31 +1,30 @@
 -- Laws of the array refusals.
-use Rattle.std.proofs.Common.{◌≡◌, refl, sym, ap, ◌∙◌, Bool, true, false, Option, Some, None, List, [], ℕ, ◌≤◌, le-ltb, Ok, Err}
+use Rattle.std.proofs.Common.{◌≡◌, sym, ap, ◌∙◌, Bool, true, false, not, Option, Some, None, List, [], ℕ, ◌≤◌, ◌<◌, le-ltb, lt-ltb, Ok, Err}
 use Rattle.refusals.specs.declared.Refusal.TheVariants.{ArrayInComposite, ArrayInMessage}
-use Rattle.texts.specs.Lists.{any}
+use Rattle.texts.specs.Choice.{pick, ◌or◌}
+use Rattle.texts.specs.Lists.{any, among}
+use Rattle.texts.proofs.Choosing.{by-test}
 use Rattle.model.specs.Schema.{Item, Schema, item_at, all_of, under, a_member, a_composite, a_message, a_group, a_field}
-use Rattle.xmltoproto.specs.Types.{form, form_of, built_in, is_char, is_byte, is_array, meaning}
+use Rattle.index.specs.Declarations.{declaration_of}
+use Rattle.index.specs.declared.seen.Declaration.{Declaration}
+use Rattle.index.specs.declared.seen.Declaration.TheVariants.{Named, Typed}
+use Rattle.xmltoproto.specs.Types.{form, form_of, built_ins, built_in, is_char, is_byte, is_array, meaning}
 use Rattle.xmltoproto.specs.Composites.{is_printed}
 use Rattle.xmltoproto.specs.Arrays.{first_from, refused_composite, is_array_type, holds_array, refused_message, array_refusal}
-use Rattle.xmltoproto.specs.internal.Shapes.{meaning_in}
 use Rattle.xmltoproto.specs.internal.Refusing.{refusing}
-use Rattle.xmltoproto.specs.declared.types.Sense.{Sense}
-use Rattle.xmltoproto.specs.declared.types.Sense.TheVariants as sense
+use Rattle.xmltoproto.proofs.Typing.{declared_so, means}
 
 -- ---- one type
 
-array-form : (p : List ℕ) (n : ℕ) (e : List ℕ) → is_array (form p n []) ≡ is_array (form p n e)
-unfolding is_array is_char is_byte
-array-form p n e = refl
+module _ (it : Item) {n : ℕ} (en : n ≡ pick it.given it.number 0) where
+  pub array-long : 1 < n → {u : List ℕ} → u ≡ it.second → {b : Bool} → b ≡ (is_char (form u 0 []) or is_byte (form u 0 [])) → not b ≡ is_array (form_of it)
+  unfolding form_of is_array is_char is_byte
+  array-long h eu eb = rw (← en, lt-ltb 1 n h, ← eu, eb)
 
-pub array_told : (it : Item) {u : List ℕ} {n : ℕ} → u ≡ it.second → n ≡ (form_of it).size → {b : Bool} → b ≡ is_array (form u n []) → b ≡ is_array (form_of it)
-unfolding form_of
-array_told it {u} {n} eu en eb =
-    eb ∙ ap (λ (x : List ℕ). is_array (form x n [])) eu ∙ ap (λ (x : ℕ). is_array (form it.second x [])) en ∙ array-form it.second (form_of it).size it.encoding
-
--- a length of at most 1 is no array
-pub array-small : (it : Item) {n : ℕ} → n ≡ (form_of it).size → n ≤ 1 → false ≡ is_array (form_of it)
-unfolding is_array
-array-small it {n} e h = rw (← e, le-ltb 1 n h)
+  -- a length of at most 1 is no array
+  pub array-short : n ≤ 1 → false ≡ is_array (form_of it)
+  unfolding form_of is_array
+  array-short h = rw (← en, le-ltb 1 n h)
 
 -- nor is an item without a length
 pub array-absent : (it : Item) {g : Bool} → g ≡ it.given → g ≡ false → false ≡ is_array (form_of it)
@@ -45,22 +44,20 @@ module _ (s : Schema) (c : ℕ) {a : Bool} (ea : a ≡ is_printed (item_at s c))
 
 -- ---- messages
 
-module _ (s : Schema) (it : Item) (q : Sense) (h : meaning_in s it.second q ≡ meaning s it.second) where
-  of-sense : is_array_type (meaning_in s it.second q) ≡ is_array_type (meaning s it.second)
-  of-sense = ap is_array_type h
+-- a field's type name, by what it is declared as
+module _ (s : Schema) (name : List ℕ) {d : Option Declaration} (ed : d ≡ declaration_of s name) where
+  by-declaration : is_array_type (declared_so s name d) ≡ is_array_type (meaning s name)
+  by-declaration = ap is_array_type (means s name ed)
 
-  pub field-array-declared : q ≡ sense.Declared → false ≡ is_array_type (meaning s it.second)
-  field-array-declared f = rw f at of-sense
+  pub field-array-named : d ≡ Some Named → false ≡ is_array_type (meaning s name)
+  field-array-named f = rw f at by-declaration
 
-  pub field-array-unknown : q ≡ sense.Unknown → false ≡ is_array_type (meaning s it.second)
-  field-array-unknown f = rw f at of-sense
+  pub field-array-typed : {t : ℕ} → d ≡ Some (Typed t) → {b : Bool} → b ≡ is_array (form_of (item_at s t)) → b ≡ is_array_type (meaning s name)
+  field-array-typed f eb = eb ∙ (rw f at by-declaration)
 
-  pub field-array-built-in : q ≡ sense.BuiltIn → false ≡ is_array_type (meaning s it.second)
+  pub field-array-none : d ≡ None → false ≡ is_array_type (meaning s name)
   unfolding is_array built_in
-  field-array-built-in f = rw f at of-sense
-
-  pub field-array-typed : {t : ℕ} → q ≡ sense.Typed t → {b : Bool} → b ≡ is_array (form_of (item_at s t)) → b ≡ is_array_type (meaning s it.second)
-  field-array-typed f eb = eb ∙ (rw f at of-sense)
+  field-array-none f = by-test (among name built_ins) (λ t. rw (f, t) at by-declaration) (λ t. rw (f, t) at by-declaration)
 
 pub holds-told : (s : Schema) (owner : ℕ) {b : Bool} → b ≡ any (λ f. is_array_type (meaning s (item_at s f).second)) (under a_field owner s) → b ≡ holds_array s owner
 unfolding holds_array

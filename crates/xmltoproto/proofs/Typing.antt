@@ -1,5 +1,5 @@
 -- Laws of how a type prints and of what a type name stands for.
-use Rattle.std.proofs.Common.{◌≡◌, refl, sym, ap, ◌∙◌, Bool, true, false, not, List, [], ◌∷◌, Option, Some, None, is_some, ℕ, ◌≤◌, ◌<◌, lt-ltb, le-ltb}
+use Rattle.std.proofs.Common.{◌≡◌, refl, sym, ap, ◌∙◌, Bool, true, false, List, [], ◌∷◌, Option, Some, None, is_some, ℕ, ◌≤◌, ◌<◌, lt-ltb, le-ltb}
 use Rattle.texts.specs.Choice.{pick, ◌or◌}
 use Rattle.texts.specs.Text.{ascii, same}
 use Rattle.texts.specs.Lists.{among}
@@ -9,11 +9,10 @@ use Rattle.model.specs.Schema.{Schema, item_at, last_named, a_type, a_composite,
 use Rattle.index.specs.Declarations.{declared_by, declaration_of}
 use Rattle.index.specs.declared.seen.Declaration.{Declaration}
 use Rattle.index.specs.declared.seen.Declaration.TheVariants.{Named, Typed}
-use Rattle.xmltoproto.specs.Types.{built_ins, built_in, chars, is_char, is_byte, is_raw, is_array, as_named, of_length, narrow, as_primitive, proto_of, Meaning, declared, typed, form, form_of, is_declared, type_or, meaning}
-use Rattle.xmltoproto.specs.internal.Shapes.{proto_in, meaning_in}
+use Rattle.xmltoproto.specs.Types.{built_ins, built_in, chars, is_char, is_byte, is_raw, as_named, of_length, narrow, as_primitive, proto_of, Meaning, declared, typed, form, form_of, is_declared, type_or, meaning}
+use Rattle.xmltoproto.specs.internal.Shapes.{proto_in}
 use Rattle.xmltoproto.specs.declared.types.Shape.{Shape}
 use Rattle.xmltoproto.specs.declared.types.Shape.TheVariants as shape
-use Rattle.xmltoproto.specs.declared.types.Sense.TheVariants as sense
 
 -- ---- lengths
 
@@ -35,23 +34,18 @@ module _ (p : List ℕ) (n : ℕ) where
   unfolding is_raw
   raw-short h = rw (le-ltb 1 n h)
 
-  pub array-short : n ≤ 1 → false ≡ is_array (form p n [])
-  unfolding is_array
-  array-short h = rw (le-ltb 1 n h)
+  pub raw-long : 1 < n → {b : Bool} → b ≡ is_byte (form p 0 []) → b ≡ is_raw (form p n [])
+  unfolding is_raw is_byte
+  raw-long h e = rw (lt-ltb 1 n h) e
 
-  module _ (h : 1 < n) where
-    pub raw-long : {b : Bool} → b ≡ is_byte (form p 0 []) → b ≡ is_raw (form p n [])
-    unfolding is_raw is_byte
-    raw-long e = rw (lt-ltb 1 n h) e
+module _ (p : List ℕ) {a : Bool} (ea : a ≡ same p (ascii "char")) where
+  pub char-first : a ≡ true → true ≡ (is_char (form p 0 []) or is_byte (form p 0 []))
+  unfolding is_char
+  char-first t = rw (← ea, t)
 
-    module _ {a : Bool} (ea : a ≡ same p (ascii "char")) where
-      pub array-char : a ≡ true → false ≡ is_array (form p n [])
-      unfolding is_array is_char is_byte
-      array-char t = rw (lt-ltb 1 n h, ← ea, t)
-
-      pub array-other : a ≡ false → {b : Bool} → b ≡ is_byte (form p 0 []) → not b ≡ is_array (form p n [])
-      unfolding is_array is_char is_byte
-      array-other t e = rw (lt-ltb 1 n h, ← ea, t, ← e)
+  pub byte-next : a ≡ false → {b : Bool} → b ≡ is_byte (form p 0 []) → b ≡ (is_char (form p 0 []) or is_byte (form p 0 []))
+  unfolding is_char
+  byte-next t e = rw (← ea, t) e
 
 -- ---- primitives
 
@@ -128,25 +122,5 @@ declared-means s name = go (last_named an_enum name s) (last_named a_composite n
     go None None (Some i) = refl
     go None None None = refl
 
-module _ (s : Schema) (name : List ℕ) {d : Option Declaration} (ed : d ≡ declaration_of s name) where
-  pub means : declared_so s name d ≡ meaning s name
-  means = ap (declared_so s name) ed ∙ declared-means s name
-
-  pub sense-declared : d ≡ Some Named → meaning_in s name sense.Declared ≡ meaning s name
-  sense-declared f = rw f at means
-
-  pub sense-typed : {i : ℕ} → d ≡ Some (Typed i) → meaning_in s name (sense.Typed i) ≡ meaning s name
-  sense-typed f = rw f at means
-
-  module _ (f : d ≡ None) {w : List ℕ} (ew : w ≡ name) {b : Bool} (eb : b ≡ among w built_ins) where
-    absent : type_or s name None ≡ meaning s name
-    absent = rw f at means
-
-    told : among name built_ins ≡ b
-    told = ap (λ x. among x built_ins) (sym ew) ∙ sym eb
-
-    pub sense-built-in : b ≡ true → meaning_in s name sense.BuiltIn ≡ meaning s name
-    sense-built-in t = rw (told, t) at absent
-
-    pub sense-unknown : b ≡ false → meaning_in s name sense.Unknown ≡ meaning s name
-    sense-unknown t = rw (told, t) at absent
+pub means : (s : Schema) (name : List ℕ) {d : Option Declaration} → d ≡ declaration_of s name → declared_so s name d ≡ meaning s name
+means s name e = ap (declared_so s name) e ∙ declared-means s name

@@ -3,12 +3,13 @@ ghost use Rattle.std.specs.Prelude.{◌≡◌, Bool, false, ℕ};
 ghost use Rattle.texts.specs.Lists.{any};
 ghost use Rattle.model.specs.Schema.{Schema, item_at, under, all_of};
 ghost use Rattle.xmltoproto.specs.Types.{form_of, is_array, meaning};
-ghost use Rattle.xmltoproto.specs.Arrays.{first_from, refused_composite, is_array_type, holds_array, refused_message, array_refusal};
+ghost use Rattle.xmltoproto.specs.Arrays.{first_from, refused_composite, is_array_type, holds_array};
+ghost use Rattle.xmltoproto.specs.Arrays.{refused_message, array_refusal};
 ghost use Rattle.xmltoproto.specs.internal.Refusing.{refusing, Arrayless};
 
 use crate::composites::is_printed;
-use crate::types::{Sense, is_array, sense_of};
-use index::seen::Index;
+use crate::types::is_char_or_byte;
+use index::seen::{Declaration, Index};
 use model::{COMPOSITE, FIELD, GROUP, MEMBER, MESSAGE};
 use refusals::Refusal;
 
@@ -49,12 +50,11 @@ fn first_place<T: ArrayTest>(s: &Index<'_>, kind: u32, by: &T) -> Option<u32>
 
 /// Whether the type or member at `i` is such an array. Only where it has a length above 1 its
 /// primitive is looked at.
-fn is_member_array(s: &Index<'_>, i: u32) -> bool
+fn is_array(s: &Index<'_>, i: u32) -> bool
     ensures { result ≡ is_array (form_of (item_at s.now i)) }
 {
-    let size = s.size(i);
-    if 1 < size {
-        return is_array(s.second(i), size);
+    if 1 < s.size(i) {
+        return !is_char_or_byte(s.second(i));
     }
     false
 }
@@ -66,7 +66,7 @@ impl ArrayTest for ArrayMember {
     ghost test = { λ s i. is_array (form_of (item_at s i)) };
 
     fn passes(&self, s: &Index<'_>, i: u32) -> bool {
-        is_member_array(s, i)
+        is_array(s, i)
     }
 }
 
@@ -91,11 +91,11 @@ impl ArrayTest for ArrayField {
     ghost test = { λ s i. is_array_type (meaning s (item_at s i).second) };
 
     fn passes(&self, s: &Index<'_>, i: u32) -> bool {
-        match sense_of(s.declared(i), s.second(i)) {
-            Sense::Declared => false,
-            Sense::Typed(t) => is_member_array(s, t),
-            Sense::BuiltIn => false,
-            Sense::Unknown => false,
+        match s.declared(i) {
+            Some(Declaration::Typed(t)) => is_array(s, t),
+            Some(Declaration::Named) => false,
+            // A built-in has no length.
+            None => false,
         }
     }
 }
@@ -132,7 +132,7 @@ fn has_arrays(s: &Index<'_>) -> bool
 {
     for i in 0..s.count() {
         if s.given(i) {
-            if is_member_array(s, i) {
+            if is_array(s, i) {
                 return true;
             }
         }

@@ -1,23 +1,25 @@
 //! An upper bound of the source's length, in one pass over the items that looks at no text.
 //!
-//! Each item counts with the most that it may print, printed or not (specs/internal/Bound.antt); the
-//! constants are the lengths of the fixed text around names and numbers. The sum is a bound since
-//! each item has one owner (proofs/Owning.antt).
+//! Each item counts with the most that it may print, printed or not
+//! (specs/internal/Bound.antt); the constants are the lengths of the fixed text around names and
+//! numbers. The sum is a bound since each item has one owner (proofs/Owning.antt).
 ghost use Rattle.std.specs.Prelude.{◌≡◌, ◌≤◌, ◌<◌, ◌^◌, length};
 ghost use Rattle.printing.specs.Decimal.{decimal};
 ghost use Rattle.model.specs.Schema.{item_at, a_field};
 ghost use Rattle.xmltoproto.specs.Types.{form_of};
 ghost use Rattle.xmltoproto.specs.Source.{source};
-ghost use Rattle.xmltoproto.specs.internal.Bound.{named_most, note_most, typed_most, value_most, field_most, share, Covers};
+ghost use Rattle.xmltoproto.specs.internal.Bound.{named_most, note_most, typed_most};
+ghost use Rattle.xmltoproto.specs.internal.Bound.{value_most, field_most, share, Covers};
 
 use index::seen::{Declaration, Index};
 use model::{COMPOSITE, ENUM, FIELD, GROUP, MEMBER, MESSAGE, REF, VALUE};
 
 /// The most digits of a `u32`.
-const DIGITS: u32 = 10;
+const DIGITS: usize = 10;
 
-/// A line without name, number, type and option: the indent, a space, ` = ` and the end.
-const LINE: usize = 10;
+/// A line without name, number, type and option: the indent of a group's field, a space, ` = ` and
+/// the end.
+const LINE: usize = 4 + 1 + 3 + 2;
 
 /// The longest option, ` [(sbe.encoding) = "uint16"]`. One with a length is no longer but for the
 /// length's digits.
@@ -26,23 +28,40 @@ const OPTION: usize = 28;
 /// The longest option of a built-in, whose length has one digit.
 const BUILT_IN_OPTION: usize = OPTION + 1;
 
-/// A comment without its encoding, in a group.
-const NOTE: usize = 81;
+/// A comment without its encoding, in a group: the indent, `// SBE characterEncoding `, two quotes,
+/// and ` is not UTF-8 compatible, so this field is bytes.` with the end.
+const NOTE: usize = 4 + 25 + 2 + 50;
 
-/// At least the number of digits of `n`, at no cost: those of the longest `u32`, so that only the
-/// proof needs `n`.
-fn digits_most(n: u32) -> u32
-    ensures { (length (decimal n) ≤ result) × (result ≤ 10) }
-{
-    DIGITS
-}
+/// A value without names and number: the indent, the `_` after its enum's name, ` = ` and the end.
+const VALUE_FRAME: usize = 2 + 1 + 3 + 2;
 
-/// The most bytes of a line with a name of `n` bytes, a number of `digits` and a type name of
-/// `word` bytes. Snake case at most doubles a name.
-fn named_most(n: u32, digits: u32, word: u32) -> usize
-    ensures { result ≡ named_most n digits word }
+/// `enum `, ` {` and the end of a line, `}` and the ends of two.
+const ENUM_FRAME: usize = 5 + 3 + 3;
+
+/// `message `, then as for an enum.
+const COMPOSITE_FRAME: usize = 8 + 3 + 3;
+
+/// A composite's, and `  option (sbe.template_id) = ` with the end.
+const MESSAGE_FRAME: usize = COMPOSITE_FRAME + 29 + 2;
+
+/// `  message `, ` {` and the end of a line; `  }` and the end, `  repeated `, a space, ` = ` and the
+/// end.
+const GROUP_FRAME: usize = 10 + 3 + 4 + 11 + 1 + 3 + 2;
+
+/// The header: `syntax = "proto3";`, `package ` with its end, the import, and the two options.
+const HEADER: usize = 20 + 11 + 33 + 27 + 26;
+
+/// What having a number as a `u32` tells of it: the most digits that it has.
+fn has_few_digits(n: u32)
+    ensures { length (decimal n) ≤ 10 }
+{}
+
+/// The most bytes of a line with a name of `n` bytes and a type name of `word` bytes. Snake case at
+/// most doubles a name.
+fn named_most(n: u32, word: u32) -> usize
+    ensures { result ≡ named_most n 10 word }
 {
-    LINE + 2 * (n as usize) + digits as usize + word as usize
+    LINE + 2 * (n as usize) + DIGITS + word as usize
 }
 
 /// The most bytes of the comment on an encoding of `e` bytes, each of them six at most when quoted;
@@ -53,14 +72,13 @@ fn note_most(e: u32) -> usize
     if e == 0 { 0 } else { NOTE + 6 * (e as usize) }
 }
 
-/// The most bytes of the line of the type or member at `t`, under a name of `n` bytes and a number
-/// of `digits`, with its option and its comment.
-fn typed_most(s: &Index<'_>, n: u32, digits: u32, t: u32) -> usize
-    ensures { Covers result (typed_most n digits (form_of (item_at s.now t))) }
+/// The most bytes of the line of the type or member at `t`, under a name of `n` bytes, with its
+/// option and its comment.
+fn typed_most(s: &Index<'_>, n: u32, t: u32) -> usize
+    ensures { Covers result (typed_most n 10 (form_of (item_at s.now t))) }
 {
-    let line = named_most(n, digits, s.second_most(t));
-    let size = digits_most(s.size(t));
-    line + OPTION + size as usize + note_most(s.encoding_most(t))
+    has_few_digits(s.size(t));
+    named_most(n, s.second_most(t)) + OPTION + DIGITS + note_most(s.encoding_most(t))
 }
 
 /// The most bytes of the line of the field at `i`. It requires what `Index::field_declared`
@@ -69,13 +87,13 @@ fn field_most(s: &Index<'_>, i: u32) -> usize
     requires { (length s.now.items ≤ 1024) × ((item_at s.now i).kind ≡ a_field) }
     ensures { Covers result (field_most s.now (item_at s.now i)) }
 {
+    has_few_digits(s.number(i));
     let n = s.name_most(i);
-    let digits = digits_most(s.number(i));
     match s.field_declared(i) {
-        Some(Declaration::Named) => named_most(n, digits, s.second_most(i)),
-        Some(Declaration::Typed(t)) => typed_most(s, n, digits, t),
+        Some(Declaration::Named) => named_most(n, s.second_most(i)),
+        Some(Declaration::Typed(t)) => typed_most(s, n, t),
         // A built-in may need an option.
-        None => named_most(n, digits, s.second_most(i)) + BUILT_IN_OPTION,
+        None => named_most(n, s.second_most(i)) + BUILT_IN_OPTION,
     }
 }
 
@@ -85,7 +103,7 @@ fn value_most(s: &Index<'_>, i: u32) -> usize
 {
     let prefix = s.name_most(s.owner(i));
     let n = s.name_most(i);
-    8 + 2 * (prefix as usize) + 2 * (n as usize) + s.second_most(i) as usize
+    VALUE_FRAME + 2 * (prefix as usize) + 2 * (n as usize) + s.second_most(i) as usize
 }
 
 /// The most bytes that the item at `i` adds, without the items that it holds.
@@ -93,15 +111,17 @@ fn item_most(s: &Index<'_>, i: u32) -> usize
     requires { length s.now.items ≤ 1024 }
     ensures { Covers result (share s.now i) }
 {
+    has_few_digits(s.number(i));
     let kind = s.kind(i);
     match kind {
-        MEMBER => typed_most(s, s.name_most(i), DIGITS, i),
-        REF => named_most(s.name_most(i), DIGITS, s.second_most(i)),
-        COMPOSITE => 14 + s.name_most(i) as usize,
-        ENUM => 11 + s.name_most(i) as usize,
+        MEMBER => typed_most(s, s.name_most(i), i),
+        REF => named_most(s.name_most(i), s.second_most(i)),
+        COMPOSITE => COMPOSITE_FRAME + s.name_most(i) as usize,
+        ENUM => ENUM_FRAME + s.name_most(i) as usize,
         VALUE => value_most(s, i),
-        MESSAGE => 45 + s.name_most(i) as usize + digits_most(s.number(i)) as usize,
-        GROUP => 34 + 4 * (s.name_most(i) as usize) + digits_most(s.number(i)) as usize,
+        MESSAGE => MESSAGE_FRAME + s.name_most(i) as usize + DIGITS,
+        // A group's name is printed in the singular twice, and once in snake case.
+        GROUP => GROUP_FRAME + 4 * (s.name_most(i) as usize) + DIGITS,
         FIELD => field_most(s, i),
         _ => 0,
     }
@@ -112,9 +132,9 @@ pub fn source_most(s: &Index<'_>) -> usize
     requires { length s.now.items ≤ 1024 }
     ensures { length (source s.now) ≤ result }
 {
-    let package = s.package();
-    let digits = digits_most(s.id()) + digits_most(s.version());
-    let mut most = 117 + package.len() + digits as usize;
+    has_few_digits(s.id());
+    has_few_digits(s.version());
+    let mut most = HEADER + s.package().len() + 2 * DIGITS;
     for i in 0..s.count() {
         most += item_most(s, i);
     }

@@ -1,14 +1,13 @@
 //! Prints composites: members, then refs, numbered from 1.
 #![tactic(auto, using(printing::proofs::Writing::writing))]
 
-ghost use Rattle.std.specs.Prelude.{◌≡◌, [], ◌+◌};
+ghost use Rattle.std.specs.Prelude.{◌≡◌, []};
 ghost use Rattle.texts.specs.Choice.{pick};
-ghost use Rattle.texts.specs.Lists.{numbered};
 ghost use Rattle.printing.specs.Written.{Wrote};
-ghost use Rattle.model.specs.Schema.{item_at, under, a_member, a_ref};
+ghost use Rattle.model.specs.Schema.{item_at};
 ghost use Rattle.xmltoproto.specs.Composites.{is_printed};
 ghost use Rattle.xmltoproto.specs.Source.{member_text, ref_text, part_texts, composite_text};
-ghost use Rattle.xmltoproto.specs.internal.Parts.{Members};
+ghost use Rattle.xmltoproto.specs.internal.Parts.{Members, member_texts, ref_texts};
 
 use crate::line::{write_line, write_typed};
 use crate::types::Shape;
@@ -37,7 +36,7 @@ fn write_ref(out: &mut Output<'_>, s: &Index<'_>, i: u32, number: u32)
 
 /// Writes the lines of the members, and returns how many there are.
 fn write_members(out: &mut Output<'_>, s: &Index<'_>, c: u32) -> u32
-    ensures text { Wrote out.old out.new (numbered (λ n i. member_text n (item_at s.now i)) 1 (under a_member c s.now)) }
+    ensures text { Wrote out.old out.new (member_texts s.now c) }
     ensures count { Members s.now c result }
 {
     let mut k = 0;
@@ -51,7 +50,7 @@ fn write_members(out: &mut Output<'_>, s: &Index<'_>, c: u32) -> u32
 /// Writes the lines of the refs, whose numbers follow those of the composite's `members`.
 fn write_refs(out: &mut Output<'_>, s: &Index<'_>, c: u32, members: u32)
     requires { Members s.now c members }
-    ensures { Wrote out.old out.new (numbered (λ n i. ref_text n (item_at s.now i)) (members + 1) (under a_ref c s.now)) }
+    ensures { Wrote out.old out.new (ref_texts s.now c members) }
 {
     let mut k = members;
     for i in s.children(REF, c) {

@@ -6,18 +6,17 @@
 #![tactic(auto, using(printing::proofs::Writing::writing))]
 
 ghost use Rattle.std.specs.Prelude.{◌≡◌};
-ghost use Rattle.texts.specs.Lists.{each};
 ghost use Rattle.printing.specs.Written.{Wrote};
 ghost use Rattle.printing.specs.Printed.{past};
-ghost use Rattle.printing.specs.internal.Standing.{Standing};
 ghost use Rattle.names.specs.Conversions.{prefix_of};
-ghost use Rattle.model.specs.Schema.{item_at, under, a_value};
+ghost use Rattle.model.specs.Schema.{item_at};
 ghost use Rattle.xmltoproto.specs.Source.{value_text, enum_text};
+ghost use Rattle.xmltoproto.specs.internal.Parts.{Prefixed, value_texts};
 
 use crate::walk::ItemText;
-use names::convert::write_screaming;
 use index::seen::Index;
 use model::VALUE;
+use names::convert::write_screaming;
 use printing::Output;
 
 /// Writes the prefix of an enum's values: its name in screaming snake case, and `_`.
@@ -44,7 +43,7 @@ fn prefix_width(name: &[u8]) -> usize
 /// that is past the output's end. It is copied, or skipped where the output is full; the name is
 /// converted again only for the first value and where the copy would not fit.
 fn write_known_prefix(out: &mut Output<'_>, name: &[u8], width: usize, stood: usize)
-    requires { (width ≡ past 0 (prefix_of name.now)) × Standing (prefix_of name.now) out.old.bytes.now stood out.old.at }
+    requires { Prefixed name.now width stood out.old }
     ensures { Wrote out.old out.new (prefix_of name.now) }
 {
     if out.bytes.len() <= out.at {
@@ -59,7 +58,7 @@ fn write_known_prefix(out: &mut Output<'_>, name: &[u8], width: usize, stood: us
 /// Writes the line of the value at `i` of the enum `name`; `width` and `stood` are as above.
 #[tactic(auto, unfolding(crate::specs::Source::value_text), using(printing::proofs::Writing::writing))]
 fn write_value(out: &mut Output<'_>, s: &Index<'_>, name: &[u8], width: usize, stood: usize, i: u32)
-    requires { (width ≡ past 0 (prefix_of name.now)) × Standing (prefix_of name.now) out.old.bytes.now stood out.old.at }
+    requires { Prefixed name.now width stood out.old }
     ensures { Wrote out.old out.new (value_text name.now (item_at s.now i)) }
 {
     out.text(b"  ");
@@ -72,7 +71,7 @@ fn write_value(out: &mut Output<'_>, s: &Index<'_>, name: &[u8], width: usize, s
 
 /// Writes the lines of the values of the enum at `e`, which has this name.
 fn write_values(out: &mut Output<'_>, s: &Index<'_>, name: &[u8], e: u32)
-    ensures { Wrote out.old out.new (each (λ v. value_text name.now (item_at s.now v)) (under a_value e s.now)) }
+    ensures { Wrote out.old out.new (value_texts s.now name.now e) }
 {
     let width = prefix_width(name);
     // No prefix is printed yet.

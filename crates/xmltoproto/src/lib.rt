@@ -19,7 +19,7 @@ mod line;
 mod messages;
 pub mod source;
 pub mod types;
-mod walk;
+pub mod walk;
 
 ghost use Rattle.std.specs.Prelude.{◌≡◌, ◌<◌, ◌^◌, leb, length, replicate};
 ghost use Rattle.printing.specs.Printed.{Printed, past};

@@ -6,17 +6,17 @@ ghost use Rattle.texts.specs.Choice.{pick};
 ghost use Rattle.texts.specs.Text.{ascii};
 ghost use Rattle.printing.specs.Decimal.{decimal};
 ghost use Rattle.printing.specs.Written.{Wrote};
-ghost use Rattle.names.specs.Conversions.{camel_to_snake};
 ghost use Rattle.model.specs.Schema.{item_at};
-ghost use Rattle.xmltoproto.specs.Types.{note_on, form_of, proto_of};
-ghost use Rattle.xmltoproto.specs.internal.Parts.{indent_of};
-ghost use Rattle.xmltoproto.specs.Source.{note_line, bracketed, line};
-ghost use Rattle.xmltoproto.specs.internal.Shapes.{note_in, word_in, option_in, proto_in, length_option, encoding_option};
+ghost use Rattle.xmltoproto.specs.Types.{note_on};
+ghost use Rattle.xmltoproto.specs.Source.{note_line, bracketed};
+ghost use Rattle.xmltoproto.specs.internal.Parts.{indent_of, middle, shaped, typed};
+ghost use Rattle.xmltoproto.specs.internal.Shapes.{note_in, word_in, option_in};
+ghost use Rattle.xmltoproto.specs.internal.Shapes.{length_option, encoding_option};
 
 use crate::types::{Shape, shape_of};
-use names::convert::write_snake;
 use escaping::write_quoted;
 use index::seen::Index;
+use names::convert::write_snake;
 use printing::Output;
 
 /// Writes the indent of a line: in a group if `deep`, otherwise in a message.
@@ -170,7 +170,7 @@ fn write_middle(
     name: &[u8],
     number: u32,
 )
-    ensures { Wrote out.old out.new (indent_of deep ++ word_in shape primitive.now ++ ascii " " ++ camel_to_snake name.now ++ (ascii " = " ++ decimal number)) }
+    ensures { Wrote out.old out.new (middle deep shape primitive.now name.now number) }
 {
     let mut o = Output {
         bytes: out.bytes,
@@ -192,7 +192,7 @@ pub fn write_line(
     name: &[u8],
     number: u32,
 )
-    ensures { Wrote out.old out.new (line (indent_of deep) (proto_in shape primitive.now encoding.now) (camel_to_snake name.now) number) }
+    ensures { Wrote out.old out.new (shaped deep shape primitive.now encoding.now name.now number) }
 {
     write_note(out, deep, shape, encoding);
     write_middle(out, deep, shape, primitive, name, number);
@@ -209,7 +209,7 @@ pub fn write_typed(
     name: &[u8],
     number: u32,
 )
-    ensures { Wrote out.old out.new (line (indent_of deep) (proto_of (form_of (item_at s.now i))) (camel_to_snake name.now) number) }
+    ensures { Wrote out.old out.new (typed deep (item_at s.now i) name.now number) }
 {
     let primitive = s.second(i);
     let encoding = s.encoding(i);

@@ -1,29 +1,25 @@
 //! Prints messages: fields, then groups.
 #![tactic(auto, using(printing::proofs::Writing::writing))]
 
-ghost use Rattle.texts.specs.Choice.{pick};
-ghost use Rattle.texts.specs.Lists.{among};
 ghost use Rattle.printing.specs.Written.{Wrote};
-ghost use Rattle.names.specs.Conversions.{camel_to_snake};
 ghost use Rattle.model.specs.Schema.{item_at};
-ghost use Rattle.xmltoproto.specs.Types.{built_ins, built_in, as_named, proto_of};
-ghost use Rattle.xmltoproto.specs.Source.{line, field_text, group_text, message_text};
-ghost use Rattle.xmltoproto.specs.internal.Parts.{indent_of, group_head};
+ghost use Rattle.xmltoproto.specs.Source.{field_text, group_text, message_text};
+ghost use Rattle.xmltoproto.specs.internal.Parts.{indent_of, undeclared, group_head};
 
 use crate::line::{write_line, write_typed};
 use crate::types::{Shape, shape_of};
 use crate::walk::{ItemText, write_under};
-use names::convert::{write_singular, write_snake};
 use index::ITEMS_1024;
 use index::seen::{Declaration, Index};
 use model::{FIELD, GROUP};
+use names::convert::{write_singular, write_snake};
 use printing::Output;
 
 /// Writes the line of a field whose type name is declared nowhere: a built-in, or a name that is
 /// printed as it stands. `shape_of` covers both, since it leaves a name that is no built-in as it
 /// stands.
 fn write_undeclared(out: &mut Output<'_>, deep: bool, type_name: &[u8], name: &[u8], number: u32)
-    ensures { Wrote out.old out.new (line (indent_of deep) (pick (among type_name.now built_ins) (proto_of (built_in type_name.now)) (as_named type_name.now)) (camel_to_snake name.now) number) }
+    ensures { Wrote out.old out.new (undeclared deep type_name.now name.now number) }
 {
     let shape = shape_of(type_name, 0, b"");
     write_line(out, deep, shape, type_name, b"", name, number);

@@ -1,15 +1,14 @@
-//! How a type prints, and what a field's type name stands for.
+//! How a type prints, and which names are built-ins.
 #![tactic(auto, using(crate::proofs::Laws::types))]
 
 ghost use Rattle.std.specs.Prelude.{◌≡◌, List, [], ℕ, map};
+ghost use Rattle.texts.specs.Choice.{◌or◌};
 ghost use Rattle.texts.specs.Lists.{among};
-ghost use Rattle.model.specs.Schema.{Schema};
-ghost use Rattle.index.specs.Declarations.{declaration_of};
-ghost use Rattle.xmltoproto.specs.Types.{built_ins, chars, is_byte, is_raw, is_array, as_primitive, form, proto_of, meaning};
-ghost use Rattle.xmltoproto.specs.internal.Shapes.{proto_in, meaning_in};
+ghost use Rattle.xmltoproto.specs.Types.{form, built_ins, is_char, is_byte, is_raw, chars};
+ghost use Rattle.xmltoproto.specs.Types.{as_primitive};
+ghost use Rattle.xmltoproto.specs.internal.Shapes.{proto_in, Prints};
 
 use charsets::is_compatible;
-use index::seen::Declaration;
 use swar::same_name;
 
 /// How a type prints. A number is the length in its option.
@@ -81,18 +80,15 @@ pub fn is_raw(primitive: &[u8], size: u32) -> bool
     false
 }
 
-/// Whether this is an array that no proto field represents: a length above 1 of any other primitive
-/// but char.
-pub fn is_array(primitive: &[u8], size: u32) -> bool
-    ensures { result ≡ is_array (form primitive.now size []) }
+/// Whether the primitive is char, uint8 or int8: those of which a proto field represents more than
+/// one.
+pub fn is_char_or_byte(primitive: &[u8]) -> bool
+    ensures { result ≡ (is_char (form primitive.now 0 []) or is_byte (form primitive.now 0 [])) }
 {
-    if 1 < size {
-        if same_name(primitive, b"char") {
-            return false;
-        }
-        return !is_byte(primitive);
+    if same_name(primitive, b"char") {
+        return true;
     }
-    false
+    is_byte(primitive)
 }
 
 /// The shape of a single primitive but char.
@@ -111,7 +107,7 @@ fn primitive_shape(p: &[u8]) -> Shape
 /// The shape of a primitive with a length, 0 if absent, and an encoding.
 #[inline(always)]
 pub fn shape_of(primitive: &[u8], size: u32, encoding: &[u8]) -> Shape
-    ensures { proto_in result primitive.now encoding.now ≡ proto_of (form primitive.now size encoding.now) }
+    ensures { Prints result (form primitive.now size encoding.now) }
 {
     if same_name(primitive, b"char") {
         let n = chars_in(size);
@@ -126,39 +122,9 @@ pub fn shape_of(primitive: &[u8], size: u32, encoding: &[u8]) -> Shape
     primitive_shape(primitive)
 }
 
-/// What a field's type name stands for.
-#[derive(Clone, Copy)]
-pub enum Sense {
-    /// An enum or a composite.
-    Declared,
-    /// The type at this position.
-    Typed(u32),
-    /// A built-in that no type declares anew.
-    BuiltIn,
-    /// Nothing: the name is printed as it stands.
-    Unknown,
-}
-
 /// Whether the name is one of the built-ins.
 pub fn is_built_in(name: &[u8]) -> bool
     ensures { result ≡ among name.now built_ins }
 {
     is_among(name, &BUILT_INS)
-}
-
-/// What a type name stands for, by what it is declared as; a built-in only where it is not
-/// declared.
-pub fn sense_of(declared: Option<Declaration>, name: &[u8]) -> Sense
-    ensures { (s : Schema) → declared ≡ declaration_of s name.now → meaning_in s name.now result ≡ meaning s name.now }
-{
-    match declared {
-        Some(Declaration::Named) => Sense::Declared,
-        Some(Declaration::Typed(i)) => Sense::Typed(i),
-        None => {
-            if is_built_in(name) {
-                return Sense::BuiltIn;
-            }
-            Sense::Unknown
-        }
-    }
 }

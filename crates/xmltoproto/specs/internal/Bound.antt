@@ -8,6 +8,8 @@ use Rattle.index.specs.declared.seen.Declaration.TheVariants.{Named, Typed}
 use Rattle.model.specs.Schema.{Item, Schema, item_at, a_member, a_ref, a_composite, an_enum, a_value, a_message, a_group, a_field}
 use Rattle.xmltoproto.specs.Types.{Form, form_of, built_in}
 
+-- The numbers are the lengths of the fixed texts, as src/bound.rt names them.
+
 -- ---- a line with a name of n bytes and a number of k digits
 
 -- with a type name of p bytes; snake case at most doubles the name

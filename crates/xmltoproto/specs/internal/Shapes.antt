@@ -1,13 +1,10 @@
--- How a form prints, and what a type name stands for, as the code answers it.
-use Rattle.std.specs.Prelude.{List, [], ◌++◌, ℕ}
+-- How a form prints, as the code answers it.
+use Rattle.std.specs.Prelude.{◌≡◌, List, [], ◌++◌, ℕ}
 use Rattle.texts.specs.Text.{ascii}
 use Rattle.printing.specs.Decimal.{decimal}
-use Rattle.model.specs.Schema.{Schema, item_at}
-use Rattle.xmltoproto.specs.Types.{Proto, note_on, Meaning, declared, typed, unknown, form_of, built_in}
+use Rattle.xmltoproto.specs.Types.{Form, Proto, note_on, proto_of}
 use Rattle.xmltoproto.specs.declared.types.Shape.{Shape}
 use Rattle.xmltoproto.specs.declared.types.Shape.TheVariants as shape
-use Rattle.xmltoproto.specs.declared.types.Sense.{Sense}
-use Rattle.xmltoproto.specs.declared.types.Sense.TheVariants as sense
 
 -- ---- a shape over a primitive p and an encoding e
 
@@ -42,14 +39,9 @@ note_in shape.Plain e = []
 abbrev pub proto_in : Shape → List ℕ → List ℕ → Proto
 proto_in s p e = record { word = word_in s p; option = option_in s p; note = note_in s e }
 
--- ---- a type name
-
--- what a sense says of a type name
-abbrev pub meaning_in : Schema → List ℕ → Sense → Meaning
-meaning_in s name sense.Declared = declared
-meaning_in s name (sense.Typed i) = typed (form_of (item_at s i))
-meaning_in s name sense.BuiltIn = typed (built_in name)
-meaning_in s name sense.Unknown = unknown
+-- the shape prints as the form does
+abbrev pub Prints : Shape → Form → Type 0
+Prints s t = proto_in s t.primitive t.encoding ≡ proto_of t
 
 -- ---- an option with a space before it, in its brackets
 

@@ -1,8 +1,8 @@
-use Rattle.printing.proofs.Writing.{◌▹◌}
-use Rattle.xmltoproto.proofs.Sources.{composites-printed}
-use Rattle.wiresheet.proofs.Sheets.{sheet-lines}
+-- An array of `per_item` numbers an item and one for each chain, as `LINKS_1024` of index.
+use Rattle.std.proofs.Common.{◌*◌, ◌+◌, arith}
+use Rattle.index.specs.Blank.{per_item}
+use Rattle.index.proofs.Building.{blank}
 use Rattle.wiresheet.proofs.sheet.write_sheet.Goals as goal
 
-pub returns : goal.returns
-returns c =
-    sheet-lines _ (c.write_schema_line.ensures ▹ c.write_all.ensures ▹ composites-printed _ _ c.write_all-2.ensures ▹ c.write_all-3.ensures)
+pub of-requires : goal.of-requires
+of-requires c = blank c.args.schema (per_item * 1024 + 1024) (λ most. omega arith)

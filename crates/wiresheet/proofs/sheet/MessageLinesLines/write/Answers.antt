@@ -1,7 +1,0 @@
-use Rattle.printing.proofs.Writing.{◌▹◌}
-use Rattle.wiresheet.proofs.Sheets.{message-lines}
-use Rattle.wiresheet.proofs.sheet.MessageLinesLines.write.Goals as goal
-
-pub returns : goal.returns
-returns c =
-    message-lines _ _ c.name.ensures c.number.ensures (c.text.ensures ▹ c.text-2.ensures ▹ c.text-3.ensures ▹ c.decimal.ensures ▹ c.text-4.ensures ▹ c.write_under.ensures ▹ c.write_under-2.ensures)
