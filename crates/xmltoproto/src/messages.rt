@@ -13,10 +13,11 @@ ghost use Rattle.xmltoproto.specs.internal.Parts.{indent_of, group_head};
 use crate::line::{write_line, write_typed};
 use crate::types::{Shape, shape_of};
 use crate::walk::{ItemText, write_under};
-use names::convert::{write_singular, write_snake};
 use index::ITEMS_1024;
 use index::seen::{Declaration, Index};
 use model::{FIELD, GROUP};
+use names::plurals::write_singular;
+use names::snake::write_snake;
 use printing::Output;
 
 /// Writes the line of a field whose type name is declared nowhere: a built-in, or a name that is
