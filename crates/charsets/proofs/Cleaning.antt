@@ -7,7 +7,7 @@ use Rattle.texts.specs.Lists.{among}
 use Rattle.texts.specs.Trim.{trimmed_front, trimmed_back, trimmed}
 use Rattle.texts.proofs.Choosing.{is_true, and_left, and_right}
 use Rattle.texts.proofs.Comparing.{same-lengths}
-use Rattle.names.specs.Letters.{lowered}
+use Rattle.classes.specs.Letters.{lowered}
 use Rattle.charsets.specs.Charset.{is_punctuation, cleaned, charsets, compatible}
 use Rattle.charsets.specs.internal.Names.{is_name}
 use Rattle.charsets.specs.internal.Letters.{Passed}

@@ -3,7 +3,7 @@ use Rattle.std.specs.Prelude.{Bool, List, [], ◌∷◌, ℕ, eqb}
 use Rattle.texts.specs.Choice.{pick, ◌or◌}
 use Rattle.texts.specs.Text.{ascii}
 use Rattle.texts.specs.Trim.{trimmed}
-use Rattle.names.specs.Letters.{lowered}
+use Rattle.classes.specs.Letters.{lowered}
 use Rattle.texts.specs.Lists.{is_empty, among}
 
 -- `-`, `_`, `.`, `:` and the space

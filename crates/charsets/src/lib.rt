@@ -11,7 +11,7 @@ ghost use Rattle.charsets.specs.Charset.{is_punctuation, cleaned, charsets, comp
 ghost use Rattle.charsets.specs.internal.Names.{is_name};
 ghost use Rattle.charsets.specs.internal.Letters.{Passed, Letters};
 
-use names::convert::lower;
+use classes::lower;
 use texts::{is_among, part, trim};
 
 /// The length of the longest known name, cleaned.

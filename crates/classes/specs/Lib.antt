@@ -1,3 +1,4 @@
--- The byte classes, and what the table's numbers say.
+-- The byte classes, what the table's numbers say, and a letter in the other case.
 pub mod Class
 pub mod Table
+pub mod Letters

@@ -1,4 +1,5 @@
-//! Byte classes: space, tag-name end, attribute-name end, upper case, lower case.
+//! Byte classes: space, tag-name end, attribute-name end, upper case, lower case; and a letter in
+//! the other case.
 //!
 //! One table of 256 class numbers decides them all, and its rule is proved over the whole table
 //! (proofs/Ruled.antt). The reader and the name conversions take every class from here.
@@ -7,6 +8,7 @@
 ghost use Rattle.std.specs.Prelude.{◌≡◌};
 ghost use Rattle.classes.specs.Class.{is_space, is_tag_name_end, is_attribute_name_end, is_upper, is_lower};
 ghost use Rattle.classes.specs.Table.{is_name_stop, ClassOf};
+ghost use Rattle.classes.specs.Letters.{lowered, raised};
 
 /// The class number of each byte: 15 space, 7 '>' and '/', 2 ':', 1 '=', 16 upper case, 32 lower
 /// case, 0 any other. Each test is one comparison with the number or with one bit of it: bit 0 ends
@@ -72,4 +74,20 @@ pub fn is_attribute_name_end(b: u8) -> bool
     ensures { result ≡ is_attribute_name_end b }
 {
     class_of(b) & 1 != 0
+}
+
+/// An upper-case letter in lower case; any other byte as it is.
+#[tactic(auto, unfolding(crate::specs::Letters::lowered, crate::specs::Class::is_upper))]
+pub fn lower(b: u8) -> u8
+    ensures { result ≡ lowered b }
+{
+    if is_upper(b) { b + 32 } else { b }
+}
+
+/// A lower-case letter in upper case; any other byte as it is.
+#[tactic(auto, unfolding(crate::specs::Letters::raised, crate::specs::Class::is_lower))]
+pub fn raise(b: u8) -> u8
+    ensures { result ≡ raised b }
+{
+    if is_lower(b) { b - 32 } else { b }
 }

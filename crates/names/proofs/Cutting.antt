@@ -4,9 +4,13 @@ use Rattle.texts.specs.Text.{ascii, piece, starts_with}
 use Rattle.texts.proofs.Choosing.{by-test, pick_yes, pick_no}
 use Rattle.texts.proofs.Comparing.{starts-append, starts-yes, starts-no}
 use Rattle.printing.specs.Repeated.{up_to}
-use Rattle.names.specs.Letters.{raised}
-use Rattle.names.specs.Conversions.{breaks_screaming, screaming_at, camel_to_screaming_snake, prefix_of, without_prefix}
+use Rattle.classes.specs.Letters.{raised}
+use Rattle.names.specs.Conversions.{cased_at, cased, breaks_screaming, camel_to_screaming_snake, prefix_of, without_prefix}
 use Rattle.names.specs.internal.Prefix.{past_text}
+
+-- what a position of the enum's name gives
+abbrev screams : List ℕ → ℕ → List ℕ
+screams = cased_at breaks_screaming raised
 
 -- ---- part by part
 
@@ -46,23 +50,23 @@ module _ (s : List ℕ) (j b : ℕ) where
 -- ---- a position of the enum's name: v is its byte as shown, d whether a `_` goes before it
 
 module _ (s n : List ℕ) (i j : ℕ) {v : ℕ} (ev : v ≡ raised (get_or n i 0)) {d : Bool} (ed : d ≡ breaks_screaming n i) where
-  pub past-plain : d ≡ false → {r : Option ℕ} → r ≡ past_text (v ∷ []) s j → r ≡ past_text (screaming_at n i) s j
-  unfolding screaming_at
+  pub past-plain : d ≡ false → {r : Option ℕ} → r ≡ past_text (v ∷ []) s j → r ≡ past_text (screams n i) s j
+  unfolding cased_at
   past-plain t e = rw (← ev, ← ed, t) e
 
   module _ (t : d ≡ true) {q : Option ℕ} (eq : q ≡ past_text (95 ∷ []) s j) where
-    pub past-broken : {k : ℕ} → q ≡ Some k → {r : Option ℕ} → r ≡ past_text (v ∷ []) s k → r ≡ past_text (screaming_at n i) s j
-    unfolding screaming_at
+    pub past-broken : {k : ℕ} → q ≡ Some k → {r : Option ℕ} → r ≡ past_text (v ∷ []) s k → r ≡ past_text (screams n i) s j
+    unfolding cased_at
     past-broken f e = rw (← ev, ← ed, t) (e ∙ sym (past-append (95 ∷ []) (v ∷ []) s j (sym eq ∙ f)))
 
-    pub past-unbroken : q ≡ None → None ≡ past_text (screaming_at n i) s j
-    unfolding screaming_at
+    pub past-unbroken : q ≡ None → None ≡ past_text (screams n i) s j
+    unfolding cased_at
     past-unbroken f = rw (← ev, ← ed, t) (sym (past-none-append (95 ∷ []) (v ∷ []) s j (sym eq ∙ f)))
 
 -- ---- the whole prefix: j is past the first i positions
 
 pub record Passing (s n : List ℕ) (j i : ℕ) : Type 0 where
-  pub past : past_text (up_to (screaming_at n) i) s 0 ≡ Some j
+  pub past : past_text (up_to (screams n) i) s 0 ≡ Some j
   pub bound : i ≤ length n
 
 pub passing-start : {s n : List ℕ} → Passing s n 0 0
@@ -77,27 +81,27 @@ none_more f s i (suc m) e =
     rw z (past-none-append (up_to f (i + m)) (f (i + m)) s 0 (none_more f s i m e))
 
 module _ {s n : List ℕ} {j i : ℕ} (inv : Passing s n j i) where
-  module _ (h : i < length n) {q : Option ℕ} (e : q ≡ past_text (screaming_at n i) s j) where
+  module _ (h : i < length n) {q : Option ℕ} (e : q ≡ past_text (screams n i) s j) where
     pub passing-on : {k : ℕ} → q ≡ Some k → Passing s n k (i + 1)
     unfolding up_to
     passing-on f =
         record {
-          past = rw add-one (past-append (up_to (screaming_at n) i) (screaming_at n i) s 0 inv.past ∙ sym e ∙ f);
+          past = rw add-one (past-append (up_to (screams n) i) (screams n i) s 0 inv.past ∙ sym e ∙ f);
           bound = omega arith;
         }
 
     pub passing-not : q ≡ None → None ≡ past_text (prefix_of n) s 0
-    unfolding prefix_of camel_to_screaming_snake up_to
+    unfolding prefix_of camel_to_screaming_snake cased up_to
     passing-not f =
-        let here : past_text (up_to (screaming_at n) (suc i)) s 0 ≡ None = past-append (up_to (screaming_at n) i) (screaming_at n i) s 0 inv.past ∙ sym e ∙ f in
+        let here : past_text (up_to (screams n) (suc i)) s 0 ≡ None = past-append (up_to (screams n) i) (screams n i) s 0 inv.past ∙ sym e ∙ f in
         let z : suc i + (length n - suc i) ≡ length n = omega arith in
-        sym (past-none-append (up_to (screaming_at n) (length n)) (ascii "_") s 0 (rw z at (none_more (screaming_at n) s (suc i) (length n - suc i) here)))
+        sym (past-none-append (up_to (screams n) (length n)) (ascii "_") s 0 (rw z at (none_more (screams n) s (suc i) (length n - suc i) here)))
 
   pub passing-end : length n ≤ i → {r : Option ℕ} → r ≡ past_text (95 ∷ []) s j → r ≡ past_text (prefix_of n) s 0
-  unfolding prefix_of camel_to_screaming_snake
+  unfolding prefix_of camel_to_screaming_snake cased
   passing-end h e =
       let z : i ≡ length n = omega (arith, inv.bound) in
-      e ∙ sym (past-append (up_to (screaming_at n) (length n)) (ascii "_") s 0 (rw z at inv.past))
+      e ∙ sym (past-append (up_to (screams n) (length n)) (ascii "_") s 0 (rw z at inv.past))
 
 -- ---- the cut
 

@@ -1,5 +1,4 @@
 -- Laws of the conversions and of the entries.
-pub mod Letters
 pub mod Storing
 pub mod Singular
 pub mod Cutting

@@ -2,7 +2,7 @@
 use Rattle.std.proofs.Common.{◌≡◌, refl, sym, ap, ◌∙◌, Bool, true, false, List, [], ◌∷◌, ◌++◌, ℕ, suc, ◌-◌, ◌≤◌, ◌<◌, arith, ltb, length, get_or, take, drop, take_all, length-take-le, ltb-true}
 use Rattle.texts.proofs.Choosing.{both_true}
 use Rattle.printing.proofs.Writing.{writing}
-use Rattle.names.specs.Letters.{raised}
+use Rattle.classes.specs.Letters.{raised}
 use Rattle.names.specs.Conversions.{ends_in_ies, ends_in_s, singular, capitalized, singular_pascal}
 
 -- ---- what the tests need

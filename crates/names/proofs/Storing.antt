@@ -7,7 +7,7 @@ use Rattle.printing.proofs.Sequencing.{blank, ◌▸◌, length-printed, printed
 use Rattle.printing.proofs.Passing.{stored}
 use Rattle.printing.proofs.Writing.{up_to-more}
 use Rattle.names.specs.internal.Room.{Ample}
-use Rattle.names.specs.internal.Rules.{cased_at, cased}
+use Rattle.names.specs.Conversions.{cased_at, cased}
 
 -- ---- an underscore, stored or not
 

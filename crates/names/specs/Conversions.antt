@@ -6,38 +6,36 @@ use Rattle.texts.specs.Choice.{pick, ◌or◌, ◌and◌}
 use Rattle.texts.specs.Text.{ascii, starts_with}
 use Rattle.classes.specs.Class.{is_upper, is_lower}
 use Rattle.printing.specs.Repeated.{up_to}
-use Rattle.names.specs.Letters.{lowered, raised}
+use Rattle.classes.specs.Letters.{lowered, raised}
 
--- ---- snake case
+-- ---- the two cases with `_` between words
 
--- a `_` goes before position i: an upper-case letter, not the first byte, that stands right after
+-- what position i gives: a `_` where `breaks` puts one, and its byte as `shown` has it
+unfoldable pub cased_at : (List ℕ → ℕ → Bool) → (ℕ → ℕ) → List ℕ → ℕ → List ℕ
+cased_at breaks shown s i = pick (breaks s i) (ascii "_") [] ++ (shown (get_or s i 0) ∷ [])
+
+-- what all positions give
+unfoldable pub cased : (List ℕ → ℕ → Bool) → (ℕ → ℕ) → List ℕ → List ℕ
+cased breaks shown s = up_to (cased_at breaks shown s) (length s)
+
+-- snake case: a `_` goes before an upper-case letter, not the first byte, that stands right after
 -- or right before a lower-case letter
 unfoldable pub breaks_snake : List ℕ → ℕ → Bool
 breaks_snake s i = ltb 0 i and is_upper (get_or s i 0) and (is_lower (get_or s (i - 1) 0) or is_lower (get_or s (i + 1) 0))
 
--- what position i gives: a `_` where one goes before it, and its byte lowered
-unfoldable pub snake_at : List ℕ → ℕ → List ℕ
-snake_at s i = pick (breaks_snake s i) (ascii "_") [] ++ (lowered (get_or s i 0) ∷ [])
-
--- a name in snake case (the scope's "snake")
+-- a name in snake case (the scope's "snake"): its letters lowered
 unfoldable pub camel_to_snake : List ℕ → List ℕ
-camel_to_snake s = up_to (snake_at s) (length s)
+camel_to_snake s = cased breaks_snake lowered s
 
--- ---- screaming snake case
-
--- a `_` goes before position i: an upper-case letter right after a lower-case one
+-- screaming snake case: a `_` goes before an upper-case letter right after a lower-case one
 unfoldable pub breaks_screaming : List ℕ → ℕ → Bool
 breaks_screaming s i = ltb 0 i and is_upper (get_or s i 0) and is_lower (get_or s (i - 1) 0)
 
--- what position i gives: a `_` where one goes before it, and its byte raised
-unfoldable pub screaming_at : List ℕ → ℕ → List ℕ
-screaming_at s i = pick (breaks_screaming s i) (ascii "_") [] ++ (raised (get_or s i 0) ∷ [])
-
--- a name in screaming snake case (the scope's "screaming")
+-- a name in screaming snake case (the scope's "screaming"): its letters raised
 unfoldable pub camel_to_screaming_snake : List ℕ → List ℕ
-camel_to_screaming_snake s = up_to (screaming_at s) (length s)
+camel_to_screaming_snake s = cased breaks_screaming raised s
 
--- ---- camel case and Pascal case, from snake case
+-- ---- the two cases without `_`, from the two with it
 
 -- the byte is `_`
 abbrev pub underscore : ℕ → Bool
@@ -47,22 +45,29 @@ underscore b = eqb b 95
 unfoldable pub follows : List ℕ → ℕ → Bool
 follows s i = ltb 0 i and underscore (get_or s (i - 1) 0)
 
--- what position i gives: nothing for `_`, a letter after `_` raised, any other byte as it is
-unfoldable pub camel_at : List ℕ → ℕ → List ℕ
-camel_at s i = let b = get_or s i 0 in pick (underscore b) [] (pick (follows s i) (raised b) b ∷ [])
+-- what position i gives: nothing for `_`, else what `shown` has there
+unfoldable pub joined_at : (List ℕ → ℕ → ℕ) → List ℕ → ℕ → List ℕ
+joined_at shown s i = pick (underscore (get_or s i 0)) [] (shown s i ∷ [])
+
+-- what all positions give
+unfoldable pub joined : (List ℕ → ℕ → ℕ) → List ℕ → List ℕ
+joined shown s = up_to (joined_at shown s) (length s)
+
+-- camel case: a letter after `_` raised, any other byte as it is
+unfoldable pub camel_shown : List ℕ → ℕ → ℕ
+camel_shown s i = let b = get_or s i 0 in pick (follows s i) (raised b) b
 
 -- snake case made camel case
 unfoldable pub snake_to_camel : List ℕ → List ℕ
-snake_to_camel s = up_to (camel_at s) (length s)
+snake_to_camel s = joined camel_shown s
 
--- what position i gives: nothing for `_`, a letter at the front or after `_` raised, any other
--- lowered
-unfoldable pub pascal_at : List ℕ → ℕ → List ℕ
-pascal_at s i = let b = get_or s i 0 in pick (underscore b) [] (pick (eqb i 0 or follows s i) (raised b) (lowered b) ∷ [])
+-- Pascal case: a letter at the front or after `_` raised, any other lowered
+unfoldable pub pascal_shown : List ℕ → ℕ → ℕ
+pascal_shown s i = let b = get_or s i 0 in pick (eqb i 0 or follows s i) (raised b) (lowered b)
 
 -- screaming snake case made Pascal case
 unfoldable pub screaming_snake_to_pascal : List ℕ → List ℕ
-screaming_snake_to_pascal s = up_to (pascal_at s) (length s)
+screaming_snake_to_pascal s = joined pascal_shown s
 
 -- ---- the enum's prefix
 

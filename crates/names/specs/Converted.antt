@@ -1,11 +1,11 @@
--- Rules: Names. The conversion that each case of `Case` stands for.
+-- Rules: Names. The conversion that each `Conversion` stands for.
 use Rattle.std.specs.Prelude.{List, ℕ}
 use Rattle.names.specs.Conversions.{camel_to_snake, snake_to_camel, camel_to_screaming_snake, screaming_snake_to_pascal, singular_pascal}
-use Rattle.names.specs.declared.entry.Case.{Case}
-use Rattle.names.specs.declared.entry.Case.TheVariants.{Snake, Camel, Screaming, Pascal, Singular}
+use Rattle.names.specs.declared.entry.Conversion.{Conversion}
+use Rattle.names.specs.declared.entry.Conversion.TheVariants.{Snake, Camel, Screaming, Pascal, Singular}
 
 -- the name, converted
-unfoldable pub converted : Case → List ℕ → List ℕ
+unfoldable pub converted : Conversion → List ℕ → List ℕ
 converted Snake name = camel_to_snake name
 converted Camel name = snake_to_camel name
 converted Screaming name = camel_to_screaming_snake name

@@ -1,5 +1,4 @@
 -- Rules: Names. The six conversions of a name, and what an entry for one answers.
-pub mod Letters
 pub mod Conversions
 pub mod Entry
 pub mod Converted

@@ -1,4 +1,3 @@
 -- Internal: what the contracts between functions cite. No customer has to read these.
-pub mod Rules
 pub mod Prefix
 pub mod Room

@@ -13,10 +13,10 @@ ghost use Rattle.printing.specs.Written.{Wrote};
 ghost use Rattle.names.specs.Entry.{tested, tested_two, Answers};
 ghost use Rattle.names.specs.Converted.{converted};
 
-use crate::convert::{
-    write_camel, write_pascal, write_screaming, write_singular, write_snake,
-};
+use crate::camel::{write_camel, write_pascal};
+use crate::plurals::write_singular;
 use crate::prefix::write_stripped;
+use crate::snake::{write_screaming, write_snake};
 use printing::{Output, Print, finish};
 use refusals::Refusal;
 
@@ -63,7 +63,7 @@ fn test_two(value: &[u8], enum_name: &[u8]) -> Result<(), Refusal>
 
 /// The conversions of a single name.
 #[derive(Clone, Copy)]
-enum Case {
+enum Conversion {
     Snake,
     Camel,
     Screaming,
@@ -74,7 +74,7 @@ enum Case {
 /// A name, and the conversion that it is printed in.
 #[derive(Clone, Copy)]
 struct Converted<'a> {
-    to: Case,
+    to: Conversion,
     name: &'a [u8],
 }
 
@@ -83,11 +83,11 @@ impl Print for Converted<'_> {
 
     fn print(&self, out: &mut Output<'_>) {
         match self.to {
-            Case::Snake => write_snake(out, self.name),
-            Case::Camel => write_camel(out, self.name),
-            Case::Screaming => write_screaming(out, self.name),
-            Case::Pascal => write_pascal(out, self.name),
-            Case::Singular => write_singular(out, self.name),
+            Conversion::Snake => write_snake(out, self.name),
+            Conversion::Camel => write_camel(out, self.name),
+            Conversion::Screaming => write_screaming(out, self.name),
+            Conversion::Pascal => write_pascal(out, self.name),
+            Conversion::Singular => write_singular(out, self.name),
         }
     }
 }
@@ -101,8 +101,8 @@ fn answer<P: Print>(tested: Result<(), Refusal>, name: &P, out: &mut [u8]) -> Re
     finish(name, out)
 }
 
-impl Case {
-    /// The entry for this conversion.
+impl Conversion {
+    /// The entry of this conversion.
     fn convert(self, name: &[u8], out: &mut [u8]) -> Result<usize, Refusal>
         ensures { Answers (tested name.now) (converted self name.now) out.old out.new result }
     {
@@ -114,35 +114,35 @@ impl Case {
 pub fn camel_to_snake(name: &[u8], out: &mut [u8]) -> Result<usize, Refusal>
     ensures { Answers (tested name.now) (camel_to_snake name.now) out.old out.new result }
 {
-    Case::Snake.convert(name, out)
+    Conversion::Snake.convert(name, out)
 }
 
 /// Converts to camel case: `order_id` becomes `orderId`.
 pub fn snake_to_camel(name: &[u8], out: &mut [u8]) -> Result<usize, Refusal>
     ensures { Answers (tested name.now) (snake_to_camel name.now) out.old out.new result }
 {
-    Case::Camel.convert(name, out)
+    Conversion::Camel.convert(name, out)
 }
 
 /// Converts to screaming snake case: `MDEntryPx` becomes `MDENTRY_PX`.
 pub fn camel_to_screaming_snake(name: &[u8], out: &mut [u8]) -> Result<usize, Refusal>
     ensures { Answers (tested name.now) (camel_to_screaming_snake name.now) out.old out.new result }
 {
-    Case::Screaming.convert(name, out)
+    Conversion::Screaming.convert(name, out)
 }
 
 /// Converts to Pascal case: `ORDER_ID` becomes `OrderId`.
 pub fn screaming_snake_to_pascal(name: &[u8], out: &mut [u8]) -> Result<usize, Refusal>
     ensures { Answers (tested name.now) (screaming_snake_to_pascal name.now) out.old out.new result }
 {
-    Case::Pascal.convert(name, out)
+    Conversion::Pascal.convert(name, out)
 }
 
 /// Converts to the singular, its first letter raised: `entries` becomes `Entry`.
 pub fn singular_pascal(name: &[u8], out: &mut [u8]) -> Result<usize, Refusal>
     ensures { Answers (tested name.now) (singular_pascal name.now) out.old out.new result }
 {
-    Case::Singular.convert(name, out)
+    Conversion::Singular.convert(name, out)
 }
 
 /// A value's name and its enum's, printed as the value's without the enum's prefix.

@@ -6,7 +6,8 @@
 //! entries of them for customers' own programs, with limits and refusals.
 #![tactic(auto)]
 
-pub mod convert;
+pub mod camel;
 pub mod entry;
 pub mod plurals;
 pub mod prefix;
+pub mod snake;

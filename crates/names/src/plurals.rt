@@ -4,7 +4,7 @@ ghost use Rattle.std.specs.Prelude.{◌≡◌};
 ghost use Rattle.printing.specs.Written.{Wrote};
 ghost use Rattle.names.specs.Conversions.{ends_with, ends_in_ies, ends_in_s, capitalized, singular_pascal};
 
-use crate::convert::raise;
+use classes::raise;
 use printing::Output;
 use texts::part;
 

@@ -4,10 +4,13 @@
 //! that no work buffer is needed.
 ghost use Rattle.std.specs.Prelude.{◌≡◌, [], ◌∷◌, ◌<◌, length};
 ghost use Rattle.printing.specs.Written.{Wrote};
-ghost use Rattle.names.specs.Conversions.{screaming_at, prefix_of, without_prefix, strip_enum_prefix};
+ghost use Rattle.classes.specs.Letters.{raised};
+ghost use Rattle.names.specs.Conversions.{cased_at, breaks_screaming, prefix_of};
+ghost use Rattle.names.specs.Conversions.{without_prefix, strip_enum_prefix};
 ghost use Rattle.names.specs.internal.Prefix.{past_text};
 
-use crate::convert::{Case, Screaming, write_pascal};
+use crate::camel::write_pascal;
+use crate::snake::{Case, Screaming};
 use printing::Output;
 
 /// The position after `j` if `b` stands at `j`, else `None`.
@@ -32,7 +35,7 @@ fn past_position(
     i: usize,
 ) -> Option<usize>
     requires { i < length enum_name.now }
-    ensures { result ≡ past_text (screaming_at enum_name.now i) value.now j }
+    ensures { result ≡ past_text (cased_at breaks_screaming raised enum_name.now i) value.now j }
 {
     let (breaks, shown) = case.at(enum_name, i);
     if breaks {

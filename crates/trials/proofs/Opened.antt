@@ -7,8 +7,8 @@ use Rattle.classes.specs.Class.{is_upper, is_lower, is_space, is_tag_name_end, i
 use Rattle.printing.specs.Decimal.{decimal, digits}
 use Rattle.printing.specs.Repeated.{up_to}
 use Rattle.printing.specs.Output.{finished}
-use Rattle.names.specs.Letters.{lowered, raised}
-use Rattle.names.specs.Conversions.{camel_to_snake, snake_at, breaks_snake, camel_to_screaming_snake, screaming_at, breaks_screaming, ends_in_ies, ends_in_s, singular, capitalized, singular_pascal}
+use Rattle.classes.specs.Letters.{lowered, raised}
+use Rattle.names.specs.Conversions.{camel_to_snake, cased, breaks_snake, camel_to_screaming_snake, cased_at, breaks_screaming, ends_in_ies, ends_in_s, singular, capitalized, singular_pascal}
 use Rattle.entities.specs.Entities.{front, decoded_past}
 use Rattle.tags.specs.Find.{find_in}
 use Rattle.tags.specs.Names.{prefix_length, is_xmlns}
@@ -27,7 +27,7 @@ use Rattle.xmltoproto.specs.Generate.{generated}
 
 -- the conversions of names
 unfoldable pub on_names : Unit {0}
-unfolding camel_to_snake snake_at breaks_snake camel_to_screaming_snake screaming_at breaks_screaming up_to lowered raised is_upper is_lower singular_pascal capitalized singular ends_in_ies ends_in_s starts_with
+unfolding camel_to_snake cased breaks_snake camel_to_screaming_snake cased_at breaks_screaming up_to lowered raised is_upper is_lower singular_pascal capitalized singular ends_in_ies ends_in_s starts_with
 on_names = tt
 
 -- numbers

@@ -7,8 +7,8 @@ use Rattle.texts.specs.Lists.{is_empty, all}
 use Rattle.texts.proofs.Choosing.{by-test, and_left, and_right}
 use Rattle.classes.specs.Class.{is_upper, is_lower}
 use Rattle.printing.specs.Repeated.{up_to}
-use Rattle.names.specs.Letters.{lowered, raised}
-use Rattle.names.specs.Conversions.{camel_to_snake, snake_at, breaks_snake, camel_to_screaming_snake, screaming_at, breaks_screaming, ends_in_ies, ends_in_s, singular, capitalized, singular_pascal}
+use Rattle.classes.specs.Letters.{lowered, raised}
+use Rattle.names.specs.Conversions.{cased_at, cased, camel_to_snake, camel_to_screaming_snake, ends_in_ies, ends_in_s, singular, capitalized, singular_pascal}
 use Rattle.numbers.specs.Numbers.{is_digit}
 use Rattle.wiresheet.specs.Plain.{is_letter, is_name_byte, is_identifier, is_dotted, is_package, is_digits, is_integer}
 use Rattle.wiresheet.proofs.Numbers.{and_both, all_append}
@@ -128,13 +128,17 @@ unfolding all
 led-free true b h = and_both (but 32 b) true h tt
 led-free false b h = and_both (but 32 b) true h tt
 
+cased-free : (breaks : List ℕ → ℕ → Bool) (shown : ℕ → ℕ) → ((b : ℕ) → T (but 32 b) → T (but 32 (shown b))) → (s : List ℕ) → Free 32 s → Free 32 (cased breaks shown s)
+unfolding cased cased_at
+cased-free breaks shown free s h = up-free (cased_at breaks shown s) (λ i. led-free (breaks s i) (shown (get_or s i 0)) (free (get_or s i 0) (at-free s i h))) (length s)
+
 pub snake-free : (s : List ℕ) → Free 32 s → Free 32 (camel_to_snake s)
-unfolding camel_to_snake snake_at
-snake-free s h = up-free (snake_at s) (λ i. led-free (breaks_snake s i) (lowered (get_or s i 0)) (lowered-free (get_or s i 0) (at-free s i h))) (length s)
+unfolding camel_to_snake
+snake-free = cased-free _ _ lowered-free
 
 pub screaming-free : (s : List ℕ) → Free 32 s → Free 32 (camel_to_screaming_snake s)
-unfolding camel_to_screaming_snake screaming_at
-screaming-free s h = up-free (screaming_at s) (λ i. led-free (breaks_screaming s i) (raised (get_or s i 0)) (raised-free (get_or s i 0) (at-free s i h))) (length s)
+unfolding camel_to_screaming_snake
+screaming-free = cased-free _ _ raised-free
 
 take-free : (n : ℕ) (s : List ℕ) → Free 32 s → Free 32 (take n s)
 unfolding all

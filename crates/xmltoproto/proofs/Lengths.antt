@@ -7,8 +7,7 @@ use Rattle.texts.proofs.Choosing.{by-test}
 use Rattle.printing.specs.Decimal.{decimal}
 use Rattle.printing.specs.Repeated.{up_to}
 use Rattle.printing.proofs.Decimals.{decimal-one, decimal-more}
-use Rattle.names.specs.Letters.{lowered, raised}
-use Rattle.names.specs.Conversions.{breaks_snake, snake_at, camel_to_snake, breaks_screaming, screaming_at, camel_to_screaming_snake, prefix_of, ends_in_ies, ends_in_s, singular, capitalized, singular_pascal}
+use Rattle.names.specs.Conversions.{cased_at, cased, camel_to_snake, camel_to_screaming_snake, prefix_of, ends_in_ies, ends_in_s, singular, capitalized, singular_pascal}
 use Rattle.names.proofs.Singular.{ies-least}
 use Rattle.escaping.specs.Escape.{hex_digit, hex, escaped, quoted}
 
@@ -28,13 +27,17 @@ two-most : (b : Bool) (x : ℕ) → length (pick b (ascii "_") [] ++ (x ∷ []))
 two-most true x = omega arith
 two-most false x = omega arith
 
+cased-most : (breaks : List ℕ → ℕ → Bool) (shown : ℕ → ℕ) (s : List ℕ) → length (cased breaks shown s) ≤ 2 * length s
+unfolding cased cased_at
+cased-most breaks shown s = up-to-most (cased_at breaks shown s) (λ i. two-most (breaks s i) (shown _)) (length s)
+
 pub snake-most : (s : List ℕ) → length (camel_to_snake s) ≤ 2 * length s
-unfolding camel_to_snake snake_at
-snake-most s = up-to-most (snake_at s) (λ i. two-most (breaks_snake s i) (lowered _)) (length s)
+unfolding camel_to_snake
+snake-most s = cased-most _ _ s
 
 pub screaming-most : (s : List ℕ) → length (camel_to_screaming_snake s) ≤ 2 * length s
-unfolding camel_to_screaming_snake screaming_at
-screaming-most s = up-to-most (screaming_at s) (λ i. two-most (breaks_screaming s i) (raised _)) (length s)
+unfolding camel_to_screaming_snake
+screaming-most s = cased-most _ _ s
 
 pub prefix-most : (s : List ℕ) → length (prefix_of s) ≤ 2 * length s + 1
 unfolding prefix_of

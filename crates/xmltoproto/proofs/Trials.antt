@@ -6,8 +6,8 @@ use Rattle.texts.specs.Lists.{each, numbered, any, among}
 use Rattle.classes.specs.Class.{is_upper, is_lower}
 use Rattle.printing.specs.Decimal.{decimal, digits}
 use Rattle.printing.specs.Repeated.{up_to}
-use Rattle.names.specs.Letters.{lowered, raised}
-use Rattle.names.specs.Conversions.{camel_to_snake, snake_at, breaks_snake, camel_to_screaming_snake, screaming_at, breaks_screaming, prefix_of, ends_in_ies, ends_in_s, singular, capitalized, singular_pascal}
+use Rattle.classes.specs.Letters.{lowered, raised}
+use Rattle.names.specs.Conversions.{camel_to_snake, cased, breaks_snake, camel_to_screaming_snake, cased_at, breaks_screaming, prefix_of, ends_in_ies, ends_in_s, singular, capitalized, singular_pascal}
 use Rattle.refusals.specs.declared.Refusal.TheVariants.{ArrayInComposite, ArrayInMessage}
 use Rattle.escaping.specs.Escape.{hex, escaped, quoted}
 use Rattle.charsets.specs.Charset.{is_punctuation, cleaned, compatible}
@@ -94,5 +94,5 @@ pub printed
     × (length (source (schema [])) ≡ 108)
     × (array_refusal full ≡ None)
     × (source full ≡ ascii "syntax = \"proto3\";\n\npackage a.b1;\n\nimport \"sbe/annotations.proto\";\n\noption (sbe.schema_id) = 1;\noption (sbe.version) = 2;\n\nenum Side {\n  SIDE_BUY_NOW = -1;\n}\n\nmessage Box {\n  string tag = 1 [(sbe.length) = 5];\n  // SBE characterEncoding \"Latin\\\"1\\n\" is not UTF-8 compatible, so this field is bytes.\n  bytes old = 2 [(sbe.length) = 1];\n  bytes blob = 3 [(sbe.length) = 3];\n  Side which_side = 4;\n}\n\nmessage Hit {\n  option (sbe.template_id) = 3;\n  Box box = 4;\n  uint64 f = 5;\n}\n\n")
-unfolding source header package_line enum_text value_text note_line bracketed line is_printed printed_composites member_text ref_text part_texts composite_text field_text group_text message_text each numbered is_char is_byte is_raw chars form_of built_in as_named of_length note_on narrow as_primitive proto_of meaning is_declared last_named last positions_from all_of under same among decimal digits camel_to_snake snake_at breaks_snake camel_to_screaming_snake screaming_at breaks_screaming prefix_of ends_in_ies ends_in_s singular capitalized singular_pascal starts_with lowered raised is_upper is_lower up_to is_blank trimmed_front trimmed_back trimmed is_punctuation cleaned compatible hex escaped quoted array_refusal first_from refused_composite holds_array refused_message any is_array
+unfolding source header package_line enum_text value_text note_line bracketed line is_printed printed_composites member_text ref_text part_texts composite_text field_text group_text message_text each numbered is_char is_byte is_raw chars form_of built_in as_named of_length note_on narrow as_primitive proto_of meaning is_declared last_named last positions_from all_of under same among decimal digits camel_to_snake cased breaks_snake camel_to_screaming_snake cased_at breaks_screaming prefix_of ends_in_ies ends_in_s singular capitalized singular_pascal starts_with lowered raised is_upper is_lower up_to is_blank trimmed_front trimmed_back trimmed is_punctuation cleaned compatible hex escaped quoted array_refusal first_from refused_composite holds_array refused_message any is_array
 printed = (refl, refl, refl, refl)

@@ -16,7 +16,7 @@ ghost use Rattle.xmltoproto.specs.internal.Parts.{Prefixed, value_texts};
 use crate::walk::ItemText;
 use index::seen::Index;
 use model::VALUE;
-use names::convert::write_screaming;
+use names::snake::write_screaming;
 use printing::Output;
 
 /// Writes the prefix of an enum's values: its name in screaming snake case, and `_`.

@@ -16,7 +16,7 @@ ghost use Rattle.xmltoproto.specs.internal.Shapes.{length_option, encoding_optio
 use crate::types::{Shape, shape_of};
 use escaping::write_quoted;
 use index::seen::Index;
-use names::convert::write_snake;
+use names::snake::write_snake;
 use printing::Output;
 
 /// Writes the indent of a line: in a group if `deep`, otherwise in a message.

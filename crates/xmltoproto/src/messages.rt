@@ -12,7 +12,8 @@ use crate::walk::{ItemText, write_under};
 use index::ITEMS_1024;
 use index::seen::{Declaration, Index};
 use model::{FIELD, GROUP};
-use names::convert::{write_singular, write_snake};
+use names::plurals::write_singular;
+use names::snake::write_snake;
 use printing::Output;
 
 /// Writes the line of a field whose type name is declared nowhere: a built-in, or a name that is

@@ -1,7 +1,7 @@
 use lib.ListN.{length}
-use Rattle.names.specs.internal.Rules.{cased_at}
+use Rattle.names.specs.Conversions.{cased_at}
 use Rattle.names.proofs.Storing.{Storing}
-use Rattle.names.proofs.convert.store.Given as goal
+use Rattle.names.proofs.snake.store.Given as goal
 
 abbrev pub invariant-loop-i : goal.invariant-loop-i
 invariant-loop-i g l =

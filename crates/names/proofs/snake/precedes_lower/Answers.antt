@@ -1,7 +1,7 @@
 use Rattle.std.proofs.Common.{refl, ◌+◌, arith}
 use Rattle.std.proofs.lemmas.List.{get_or_past}
 use Rattle.classes.specs.Class.{is_lower}
-use Rattle.names.proofs.convert.precedes_lower.Goals as goal
+use Rattle.names.proofs.snake.precedes_lower.Goals as goal
 
 pub returns-then-name-i : goal.returns-then-name-i
 unfolding is_lower

@@ -1,6 +1,6 @@
 use native.Mathlib.Omega.{arith}
 use Rattle.names.proofs.Storing.{storing-start, storing-within, storing-on, cased-is, cased-stored}
-use Rattle.names.proofs.convert.store.Goals as goal
+use Rattle.names.proofs.snake.store.Goals as goal
 
 pub loop-i-init : goal.loop-i-init
 loop-i-init g c = storing-start (omega arith) (omega arith)

@@ -1,7 +1,0 @@
-use Rattle.printing.specs.Repeated.{up_to}
-use Rattle.printing.specs.Written.{Wrote}
-use Rattle.names.specs.internal.Rules.{cased_at}
-use Rattle.names.proofs.convert.write_each.Given as goal
-
-abbrev pub invariant-loop-i : goal.invariant-loop-i
-invariant-loop-i g l = Wrote l.initial.out l.out (up_to (cased_at g.C.Case.breaks g.C.Case.shown l.name) l.i)
