@@ -8,10 +8,11 @@ ghost use Rattle.builder.specs.internal.Layout.{stack_of, builder_in, deeper, pu
 ghost use Rattle.builder.specs.internal.Taking.{Finds};
 
 use crate::state::{Limits, Place, State};
+use elements::Element;
 use model::word;
+use swar::same_name;
 use tags::tag::{Noted, Notes, noted_of};
 use texts::{equal, part};
-use swar::same_name;
 
 /// The document, and the two buffers for what is read of it: items and open names, and texts.
 #[derive(Drop)]
@@ -22,13 +23,14 @@ pub struct Work<'d, 'a> {
     pub text: &'a mut [u8],
 }
 
-/// An open tag: the place of its `<`, its local name, where its attributes begin, where it ends,
-/// and what the reader noted of it.
+/// An open tag: the place of its `<`, its local name and element, where its attributes begin, where
+/// it ends, and what the reader noted of it.
 #[derive(Clone, Copy)]
 pub struct Tag {
     pub place: usize,
     pub name: usize,
     pub len: usize,
+    pub element: Element,
     pub attributes: usize,
     pub next: usize,
     pub noted: Notes,

@@ -4,7 +4,9 @@ use Rattle.std.proofs.lemmas.List.Edits.{sets}
 use Rattle.texts.specs.Text.{ascii, piece, same}
 use Rattle.texts.specs.declared.Range.{Range}
 use Rattle.refusals.specs.declared.Refusal.{Refusal}
-use Rattle.tags.specs.internal.Noting.{keys_of, NotedBy}
+use Rattle.elements.specs.Elements.{element_of}
+use Rattle.elements.specs.Keys.{keys_of}
+use Rattle.tags.specs.internal.Noting.{NotedBy}
 pub use Rattle.saxlite.specs.internal.Moving.{Tagged}
 use Rattle.builder.specs.Builder.{Builder, Outcome, on, refused, top, rest}
 use Rattle.model.specs.internal.Store.{entry_at, words_of, item_of, schema_of}
@@ -127,10 +129,11 @@ pub record Ready (w : Work) (s : State) (n : ℕ) : Type 0 where
   pub kept : Kept w s
   pub room : s.place.low + n ≤ s.place.high
 
--- what is known of a tag that was read: where it lies, and what was noted of it
+-- what is known of a tag that was read: where it lies, its element, and what was noted of it
 pub record IsTag (doc : List ℕ) (tag : Tag) : Type 0 where
   pub tagged : Tagged doc tag.attributes tag.next
-  pub noted : NotedBy (keys_of (piece doc tag.name tag.len)) doc tag.attributes tag.noted
+  pub named : tag.element ≡ element_of (piece doc tag.name tag.len)
+  pub noted : NotedBy (keys_of tag.element) doc tag.attributes tag.noted
   pub inside : tag.name + tag.len ≤ length doc
 
 -- how many bytes of the text buffer a tag may take

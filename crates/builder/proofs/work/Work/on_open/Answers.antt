@@ -6,4 +6,4 @@ pub returns-then-self-s : goal.returns-then-self-s
 returns-then-self-s c = open-deep _ _ _ (omega (arith, c.if-self-s.true))
 
 pub open_by-requires : goal.open_by-requires
-open_by-requires c = pushed-opens c.requires.0 c.requires.1 c.if-self-s.false c.element_at-e.ensures c.push-inner.ensures.0 c.push-inner.ensures.1
+open_by-requires c = pushed-opens c.requires.0 c.requires.1 c.if-self-s.false c.push-inner.ensures.0 c.push-inner.ensures.1
