@@ -10,7 +10,7 @@ use Rattle.refusals.specs.declared.Refusal.{Refusal}
 use Rattle.refusals.specs.declared.Refusal.TheVariants.{BadNumber, TooDeep}
 use Rattle.tags.specs.declared.tag.Noted.{Noted}
 use Rattle.tags.specs.Attributes.{attribute_at, raw_length}
-use Rattle.tags.specs.internal.Noting.{schema_keys}
+use Rattle.elements.specs.Keys.{schema_keys, keys_of}
 use Rattle.saxlite.specs.Event.{value_in}
 use Rattle.numbers.specs.Numbers.{number_of}
 use Rattle.model.specs.Schema.{Schema}
@@ -18,16 +18,14 @@ use Rattle.builder.specs.Builder.{Builder, on, refused, Attributes, number_in, t
 use Rattle.model.specs.internal.Store.{items_of, schema_of}
 use Rattle.builder.specs.Limits.{max_depth}
 use Rattle.builder.specs.internal.Layout.{model_in, builder_in, texted, parent_composite, pushed, with_name, room, Alike, Ready, IsTag, After}
-use Rattle.builder.specs.internal.Taking.{attributes_of, keys_for, TakenAt, NumberRead, ReadyToOpen, Finds}
+use Rattle.builder.specs.internal.Taking.{attributes_of, TakenAt, NumberRead, ReadyToOpen, Finds}
 use Rattle.elements.specs.Elements.{element_of}
-use Rattle.elements.specs.declared.Element.{Element}
 use Rattle.builder.specs.declared.state.State.{State}
 use Rattle.builder.specs.declared.work.Tag.{Tag}
 use Rattle.builder.specs.declared.work.Work.{Work}
 use Rattle.builder.proofs.Alikes.{alike_self, alike-wider, alike-trans, builder-alike}
 use Rattle.builder.proofs.Stacking.{length-stack, push-ready, push-builder}
 use Rattle.builder.proofs.Adding.{same-trans, after-as, after-refused}
-use Rattle.builder.proofs.Keying.{noted-element}
 use Rattle.builder.proofs.Finding.{second-said, third-said, third-room}
 use Rattle.builder.proofs.Numbering.{is_number, no-number, refused-by, number-ok, number-err}
 
@@ -121,29 +119,29 @@ opened-by : (w : Work) (place : ℕ) (name : List ℕ) (a : Attributes) (b : Bui
 unfolding opened
 opened-by w place name a b h = rw h
 
-module _ {w : Work} {s : State} {tag : Tag} (r : Ready w s (room tag)) (g : IsTag w.doc.now tag) (d : s.usage.depth < w.limits.depth) (m : w.limits.depth ≤ max_depth) {e : Element} (ee : e ≡ element_of (piece w.doc.now tag.name tag.len)) {p : State} (ep : p ≡ pushed s) {w₁ : Work} (ew : w₁ ≡ with_name w s tag.name tag.len) where
+module _ {w : Work} {s : State} {tag : Tag} (r : Ready w s (room tag)) (g : IsTag w.doc.now tag) (d : s.usage.depth < w.limits.depth) (m : w.limits.depth ≤ max_depth) {p : State} (ep : p ≡ pushed s) {w₁ : Work} (ew : w₁ ≡ with_name w s tag.name tag.len) where
   deep : s.usage.depth < max_depth
   deep = omega arith
 
-  pub pushed-opens : ReadyToOpen (keys_for e) w₁ p tag
+  pub pushed-opens : ReadyToOpen (keys_of tag.element) w₁ p tag
   pushed-opens =
       rw (ep, ew)
       (record {
         ready = push-ready w s tag.name tag.len (room tag) r deep;
         tagged = g.tagged;
-        noted = noted-element w.doc.now tag.name tag.len tag.attributes tag.noted e ee g.noted;
+        noted = g.noted;
       })
 
-  pub open_done : {w' : Work} {c : Result State Refusal} → After (open_by e w₁.limits tag.place (parent_composite (builder_in w₁ p)) (attributes_of w₁ tag) (builder_in w₁ p)) w₁ p (room tag) w' c
+  pub open_done : {w' : Work} {c : Result State Refusal} → After (open_by tag.element w₁.limits tag.place (parent_composite (builder_in w₁ p)) (attributes_of w₁ tag) (builder_in w₁ p)) w₁ p (room tag) w' c
       → After (opened w.limits tag.place (piece w.doc.now tag.name tag.len) (attributes_of w tag) (builder_in w s)) w s (room tag) w' c
   open_done {c = c} f =
       let name = piece w.doc.now tag.name tag.len in
       let b = builder_in w s in
       let k : leb w.limits.depth (length b.stack) ≡ false = rw (length-stack s.usage.depth w.records.now w.doc.now) (lt-leb w.limits.depth s.usage.depth d) in
       let h = rw (ep, ew) at f in
-      let q : open_by e w.limits tag.place (parent_composite (builder_in (with_name w s tag.name tag.len) (pushed s))) (attributes_of w tag) (builder_in (with_name w s tag.name tag.len) (pushed s)) ≡ opened w.limits tag.place name (attributes_of w tag) b =
-      ap (λ x. open_by e w.limits tag.place (parent_composite x) (attributes_of w tag) x) (push-builder w s tag.name tag.len (room tag) r deep)
-      ∙ ap (λ x. open_by x w.limits tag.place (same (top b.stack) (ascii "composite")) (attributes_of w tag) (with_stack (name ∷ b.stack) b)) ee
+      let q : open_by tag.element w.limits tag.place (parent_composite (builder_in (with_name w s tag.name tag.len) (pushed s))) (attributes_of w tag) (builder_in (with_name w s tag.name tag.len) (pushed s)) ≡ opened w.limits tag.place name (attributes_of w tag) b =
+      ap (λ x. open_by tag.element w.limits tag.place (parent_composite x) (attributes_of w tag) x) (push-builder w s tag.name tag.len (room tag) r deep)
+      ∙ ap (λ x. open_by x w.limits tag.place (same (top b.stack) (ascii "composite")) (attributes_of w tag) (with_stack (name ∷ b.stack) b)) g.named
       ∙ opened-by w tag.place name (attributes_of w tag) b k in
       let a = after-as s q refl (omega arith) h in
       record { is = a.is; sound = a.sound; used = a.used; same = same-trans (record { limits = refl; doc = refl; records = refl; text = refl }) a.same }

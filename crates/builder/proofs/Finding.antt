@@ -5,7 +5,7 @@ use Rattle.texts.specs.Text.{ascii, same}
 use Rattle.refusals.specs.declared.Refusal.{Refusal}
 use Rattle.tags.specs.declared.tag.Noted.{Noted}
 use Rattle.tags.specs.Attributes.{attribute_at, raw_length}
-use Rattle.tags.specs.internal.Noting.{Keys, schema_keys, field_keys, type_keys, enum_keys}
+use Rattle.elements.specs.Keys.{Keys, schema_keys, field_keys, type_keys, enum_keys}
 use Rattle.builder.specs.Builder.{plain_item, type_item, text_in}
 use Rattle.builder.specs.internal.Layout.{room, Sound, Ready}
 use Rattle.builder.specs.internal.Taking.{attributes_of, NumberRead, ReadyToOpen, Finds, Reads, Adds, drafted, drafted_item, draft_length}

@@ -6,7 +6,6 @@ pub mod Adding
 pub mod Finding
 pub mod Opening
 pub mod Numbering
-pub mod Keying
 pub mod Dispatching
 pub mod Closing
 pub mod Laws

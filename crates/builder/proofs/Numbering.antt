@@ -7,7 +7,7 @@ use Rattle.refusals.specs.declared.Refusal.{Refusal}
 use Rattle.refusals.specs.declared.Refusal.TheVariants.{BadNumber, MisplacedField}
 use Rattle.tags.specs.declared.tag.Noted.{Noted}
 use Rattle.tags.specs.Attributes.{attribute_at}
-use Rattle.tags.specs.internal.Noting.{Keys, field_keys, type_keys}
+use Rattle.elements.specs.Keys.{Keys, field_keys, type_keys}
 use Rattle.saxlite.specs.Event.{value_in}
 use Rattle.model.specs.Schema.{Item, item_at, a_type, a_member, a_message, a_group, a_field}
 use Rattle.builder.specs.Builder.{Builder, Outcome, on, refused, added, open_type, open_message, open_group, open_field, now_message, now_group}

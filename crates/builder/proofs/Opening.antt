@@ -4,7 +4,7 @@ use Rattle.texts.specs.Choice.{pick}
 use Rattle.refusals.specs.declared.Refusal.{Refusal}
 use Rattle.refusals.specs.declared.Refusal.TheVariants.{BadNumber, MisplacedField}
 use Rattle.tags.specs.declared.tag.Noted.{Noted}
-use Rattle.tags.specs.internal.Noting.{field_keys, enum_keys}
+use Rattle.elements.specs.Keys.{field_keys, enum_keys}
 use Rattle.model.specs.Schema.{Item, item_at, a_type, a_member, a_ref, a_composite, an_enum, a_value, a_message, a_group, a_field}
 use Rattle.builder.specs.Builder.{Builder, Outcome, on, refused, added, and_then, plain_item, type_item, text_in, open_type, open_ref, open_composite, open_enum, open_value, open_message, open_group, open_field, Attributes, number_in, now_composite, now_enum, now_message, now_group, with_text, next_position}
 use Rattle.builder.specs.internal.Layout.{builder_in, room, After}

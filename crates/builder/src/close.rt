@@ -2,6 +2,7 @@
 #![tactic(auto, using(crate::proofs::Laws::closing))]
 
 ghost use Rattle.std.specs.Prelude.{◌≡◌, ◌+◌, ◌-◌, ◌≤◌};
+ghost use Rattle.elements.specs.Elements.{element_of};
 ghost use Rattle.model.specs.Schema.{a_value};
 ghost use Rattle.model.specs.Search.{last_under};
 ghost use Rattle.builder.specs.Limits.{min_text};
@@ -10,7 +11,7 @@ ghost use Rattle.builder.specs.internal.Layout.{builder_in, Sound, Ready, Turns,
 
 use crate::state::{Current, State, Usage};
 use crate::work::Work;
-use elements::{Element, element_at};
+use elements::Element;
 use entities::decode_room;
 use model::view::View;
 use model::{Entry, VALUE, put_entry};
@@ -104,23 +105,23 @@ impl<'d, 'a> Work<'d, 'a> {
         State { current, ..s }
     }
 
-    /// Takes a close tag, whose `<` is at `place` and whose name is the `len` bytes at `name`: pops
-    /// the innermost open name. Refused (30) if that is another one.
+    /// Takes a close tag of this element, whose `<` is at `place` and whose name is the `len` bytes
+    /// at `name`: pops the innermost open name. Refused (30) if that is another one.
     pub fn on_close(
         &mut self,
         s: State,
         place: usize,
         name: usize,
         len: usize,
+        element: Element,
     ) -> Result<State, Refusal>
-        requires { Sound self.old s }
+        requires { Sound self.old s × (element ≡ element_of (doc_piece self.old name len)) }
         ensures { Makes (closed place (doc_piece self.old name len)) self.old s 0 self.new result }
     {
         if !self.is_open(s, name, len) {
             return Err(Refusal::WrongClose { place });
         }
-        let e = element_at(self.doc, name, len);
-        Ok(self.close_by(s.popped(), e))
+        Ok(self.close_by(s.popped(), element))
     }
 
     /// Takes the text of `len` bytes at `from`: while text is collected, appends it, decoded.

@@ -6,16 +6,16 @@
 
 ghost use Rattle.std.specs.Prelude.{◌≡◌};
 ghost use Rattle.texts.specs.Text.{piece};
-ghost use Rattle.tags.specs.internal.Noting.{schema_keys, type_keys, enum_keys, field_keys};
+ghost use Rattle.elements.specs.Keys.{schema_keys, type_keys, enum_keys, field_keys, keys_of};
 ghost use Rattle.saxlite.specs.Event.{attributes_in};
 ghost use Rattle.builder.specs.Builder.{open_schema, open_type, open_ref, open_composite, open_enum, open_value, open_message, open_group, open_field, open_by, opened};
 ghost use Rattle.builder.specs.internal.Layout.{builder_in, parent_composite, room, Ready, IsTag, After};
-ghost use Rattle.builder.specs.internal.Taking.{attributes_of, keys_for, ReadyToOpen};
+ghost use Rattle.builder.specs.internal.Taking.{attributes_of, ReadyToOpen};
 
 use crate::state::{Current, State, Usage};
 use crate::take::{Draft, take_value};
 use crate::work::{Tag, Work};
-use elements::{Element, element_at};
+use elements::Element;
 use model::Head;
 use refusals::Refusal;
 
@@ -196,12 +196,12 @@ impl<'d, 'a> Work<'d, 'a> {
         self.add(s, tag, d)
     }
 
-    /// ReadyToOpen the element `e`, whose name is pushed already.
-    fn open_by(&mut self, s: State, e: Element, tag: &Tag) -> Result<State, Refusal>
-        requires { ReadyToOpen (keys_for e) self.old s tag.now }
-        ensures { After (open_by e self.old.limits tag.now.place (parent_composite (builder_in self.old s)) (attributes_of self.old tag.now) (builder_in self.old s)) self.old s (room tag.now) self.new result }
+    /// Opens the tag's element, whose name is pushed already.
+    fn open_by(&mut self, s: State, tag: &Tag) -> Result<State, Refusal>
+        requires { ReadyToOpen (keys_of tag.now.element) self.old s tag.now }
+        ensures { After (open_by tag.now.element self.old.limits tag.now.place (parent_composite (builder_in self.old s)) (attributes_of self.old tag.now) (builder_in self.old s)) self.old s (room tag.now) self.new result }
     {
-        match e {
+        match tag.element {
             Element::MessageSchema => self.open_schema(s, tag),
             Element::Type => self.open_type(s, tag),
             Element::Ref => self.open_ref(s, tag),
@@ -223,8 +223,7 @@ impl<'d, 'a> Work<'d, 'a> {
         if self.limits.depth <= s.usage.depth {
             return Err(Refusal::TooDeep { place: tag.place });
         }
-        let e = element_at(self.doc, tag.name, tag.len);
         let inner = self.push(s, tag.name, tag.len);
-        self.open_by(inner, e, &tag)
+        self.open_by(inner, &tag)
     }
 }

@@ -10,6 +10,7 @@ ghost use Rattle.builder.specs.internal.Taking.{Finds};
 
 use crate::limits::{Limits, NAMES_FROM};
 use crate::state::{State, Usage};
+use elements::Element;
 use model::word;
 use swar::same_name;
 use tags::tag::{Noted, Notes, noted_of};
@@ -24,13 +25,14 @@ pub struct Work<'d, 'a> {
     pub text: &'a mut [u8],
 }
 
-/// An open tag: the place of its `<`, its local name, where its attributes begin, where it ends,
-/// and what the reader noted of it.
+/// An open tag: the place of its `<`, its local name and element, where its attributes begin, where
+/// it ends, and what the reader noted of it.
 #[derive(Clone, Copy)]
 pub struct Tag {
     pub place: usize,
     pub name: usize,
     pub len: usize,
+    pub element: Element,
     pub attributes: usize,
     pub next: usize,
     pub noted: Notes,

@@ -1,2 +1,3 @@
--- Rules: The builder. The elements that it knows.
+-- Rules: The builder. The elements that it knows, and the attributes that each looks up.
 pub mod Elements
+pub mod Keys

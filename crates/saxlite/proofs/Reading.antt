@@ -14,12 +14,12 @@ use Rattle.saxlite.proofs.Following.{from_end}
 
 module _ (doc : List ℕ) (c : Cursor) where
   -- an owed close
-  pub asked-owed : {o : Owed} → c.owed ≡ Some o → {r : Read} → r ≡ bare (Close o.name o.len) o.place c.at → Asked doc c (Ok (Some r))
+  pub asked-owed : {o : Owed} → c.owed ≡ Some o → {r : Read} → r ≡ bare (Close o.name o.len) o.element o.place c.at → Asked doc c (Ok (Some r))
   asked-owed t e =
       rw e
       (record {
         is = rw t refl;
-        moves = record { grows = omega arith; less = omega (arith, ap owing t); within = λ h. h; inside = tt; noted = tt };
+        moves = record { grows = omega arith; less = omega (arith, ap owing t); sound = λ h. record { within = h.within; owed = tt }; inside = tt; element = λ h. rw t at h.owed; noted = tt };
       })
 
   -- where none is owed, past markup that is no event
@@ -54,8 +54,9 @@ module _ (doc : List ℕ) (c : Cursor) where
                   record {
                     grows = omega (arith, passed.0.forward, m.grows);
                     less = omega (arith, passed.0.forward, m.less, z);
-                    within = λ l. m.within (passed.0.within l);
+                    sound = λ l. m.sound (record { within = passed.0.within l.within; owed = tt });
                     inside = m.inside;
+                    element = λ l. m.element (record { within = passed.0.within l.within; owed = tt });
                     noted = m.noted;
                   };
             }

@@ -14,18 +14,20 @@ use Rattle.tags.specs.declared.beginning.Beginning.{Beginning}
 use Rattle.tags.specs.Names.{prefix_length, local_name}
 use Rattle.tags.specs.Attributes.{tag_at}
 use Rattle.tags.specs.internal.Noting.{NotedBy}
-use Rattle.tags.specs.internal.Known.{keys_by}
 use Rattle.tags.specs.internal.Beginning.{Opens, BeginsAt}
 use Rattle.tags.proofs.Searching.{stands-within, stands_on, stands-fits, scan-within, scan-moves}
 use Rattle.tags.proofs.Naming.{local-range, lost-within, lost-fits}
-use Rattle.tags.proofs.Coding.{by-keys}
 use Rattle.tags.proofs.Ranges.{ending-past, ending-inside}
-use Rattle.tags.proofs.Begun.{closing-within, closing-fits, closing-next-fits, closing-lost, closing-local-fits, closing-ends, closing-due, closing-stands, closing-prefix, begun-from, begun-lost, begun-fits}
+use Rattle.tags.proofs.Begun.{closing-within, closing-fits, closing-next-fits, closing-lost, closing-local-fits, closing-ends, closing-due, closing-stands, closing-prefix, closing-element, begun-from, begun-lost, begun-fits}
 use Rattle.saxlite.specs.Event.{Events, opens, closes, next, attributes_in}
 use Rattle.saxlite.specs.Events.{text_at, close_at, open_by, open_at, events_at, events_from}
 use Rattle.saxlite.specs.internal.Passing.{is_silent}
 use Rattle.saxlite.specs.Reader.{owed_before}
-use Rattle.saxlite.specs.internal.Moving.{bare, behind, owing, Here}
+use Rattle.elements.specs.Elements.{element_of}
+use Rattle.elements.specs.Keys.{keys_of}
+use Rattle.elements.specs.declared.Element.{Element}
+use Rattle.elements.specs.declared.Element.TheVariants.{Other}
+use Rattle.saxlite.specs.internal.Moving.{bare, behind, owing, OwedElement, Here}
 use Rattle.saxlite.specs.declared.event.Event.TheVariants.{Text, Open, Close}
 use Rattle.saxlite.specs.declared.event.Owed.{Owed}
 use Rattle.saxlite.specs.declared.event.Cursor.{Cursor}
@@ -36,7 +38,7 @@ use Rattle.saxlite.proofs.Silence.{front-not, second-differs, silent-not}
 -- ---- text
 
 pub text-told : (doc : List ℕ) (at : ℕ) → at < length doc → starts_with (ascii "<") (drop at doc) ≡ false → {end : ℕ} → end ≡ scan (until (is 60)) doc at
-    → {r : Read} → r ≡ bare (Text at (end - at)) at end → Here (text_at (events_from doc) doc at) doc at (Ok r)
+    → {r : Read} → r ≡ bare (Text at (end - at)) Other at end → Here (text_at (events_from doc) doc at) doc at (Ok r)
 unfolding text_at
 text-told doc at h f {end} e k =
     let m : at < end = rw e (scan-moves 60 doc at h f) in
@@ -44,23 +46,24 @@ text-told doc at h f {end} e k =
     rw k
     (record {
       is = rw (← e) refl;
-      moves = record { grows = omega arith; less = omega arith; within = λ l. w; inside = tt; noted = tt };
+      moves = record { grows = omega arith; less = omega arith; sound = λ l. record { within = w; owed = tt }; inside = tt; element = λ l. tt; noted = tt };
     })
 
 -- ---- a close tag
 
 module _ (doc : List ℕ) (at : ℕ) {end : ℕ} (e : end ≡ scan (until is_tag_name_end) doc (at + 2)) {due : ℕ} (d : due ≡ scan is_space doc end) {b : Bool} (s : b ≡ starts_with (ascii ">") (drop due doc)) where
   pub close-told : b ≡ true → {w : List ℕ} → w ≡ piece doc (at + 2) (end - (at + 2)) → {lost : ℕ} → lost ≡ prefix_length w
-      → {r : Read} → r ≡ bare (Close (at + 2 + lost) (end - (at + 2) - lost)) at (due + 1) → Here (close_at (events_from doc) doc at) doc at (Ok r)
+      → {v : List ℕ} → v ≡ piece doc (at + 2 + lost) (end - (at + 2) - lost) → {f : Element} → f ≡ element_of v
+      → {r : Read} → r ≡ bare (Close (at + 2 + lost) (end - (at + 2) - lost)) f at (due + 1) → Here (close_at (events_from doc) doc at) doc at (Ok r)
   unfolding close_at
-  close-told t {w} p {lost} l k =
+  close-told t {w} p {lost} l {v} u {f} i k =
       let n : piece doc (at + 2 + lost) (end - (at + 2) - lost) ≡ local_name (piece doc (at + 2) (end - (at + 2))) = rw (l, p) (local-range doc (at + 2) (end - (at + 2))) in
       let h : due + 1 ≤ length doc = stands-within (ascii ">") doc due (sym s ∙ t) (omega arith) in
-      let f : at + 2 ≤ due = omega (arith, e, d, scan-from (until is_tag_name_end) doc (at + 2), scan-from is_space doc end) in
+      let g : at + 2 ≤ due = omega (arith, e, d, scan-from (until is_tag_name_end) doc (at + 2), scan-from is_space doc end) in
       rw k
       (record {
         is = rw (← e, ← d, ← s, t) (ap (λ m. next at (closes m) (events_from doc (due + 1))) (sym n));
-        moves = record { grows = omega arith; less = omega arith; within = λ z. h; inside = tt; noted = tt };
+        moves = record { grows = omega arith; less = omega arith; sound = λ z. record { within = h; owed = tt }; inside = tt; element = λ z. i ∙ ap element_of u; noted = tt };
       })
 
   pub close-open : b ≡ false → Here (close_at (events_from doc) doc at) doc at (Err (NoCloseTagEnd due at))
@@ -68,16 +71,20 @@ module _ (doc : List ℕ) (at : ℕ) {end : ℕ} (e : end ≡ scan (until is_tag
   close-open t = record { is = rw (← e, ← d, ← s, t) refl; moves = tt }
 
 pub known-told : (doc : List ℕ) (at : ℕ) {k : Opening} → Opens 62 doc (at + 2) k
-    → {r : Read} → r ≡ bare (Close (at + 2 + k.lost) (k.len - k.lost)) at (at + 2 + k.len + 1) → Here (close_at (events_from doc) doc at) doc at (Ok r)
+    → {r : Read} → r ≡ bare (Close (at + 2 + k.lost) (k.len - k.lost)) k.element at (at + 2 + k.len + 1) → Here (close_at (events_from doc) doc at) doc at (Ok r)
 known-told doc at {k} b e =
     let z : at + 2 + k.len - (at + 2) ≡ k.len = omega arith in
-    close-told doc at (closing-ends doc at b) (closing-due doc at b) (closing-stands doc at b) refl refl (closing-prefix doc at b ∙ rw z refl) (e ∙ rw z refl)
+    close-told doc at (closing-ends doc at b) (closing-due doc at b) (closing-stands doc at b) refl refl (closing-prefix doc at b ∙ rw z refl) refl (closing-element doc at b ∙ rw z refl) (e ∙ rw z refl)
 
 -- ---- an open tag
 
 owing-most : (closed : Bool) (o : Owed) → owing (pick closed (Some o) None) ≤ 1
 owing-most true o = omega arith
 owing-most false o = omega arith
+
+owed-right : (doc : List ℕ) (o : Owed) (closed : Bool) → o.element ≡ element_of (piece doc o.name o.len) → OwedElement doc (pick closed (Some o) None)
+owed-right doc o true e = e
+owed-right doc o false e = tt
 
 owed-behind : (doc : List ℕ) (at : ℕ) (name : List ℕ) (o : Owed) (closed : Bool) (more : Events) → o.place ≡ at → piece doc o.name o.len ≡ name
     → pick closed (next at (closes name) more) more ≡ owed_before doc (pick closed (Some o) None) more
@@ -89,7 +96,7 @@ module _ (doc : List ℕ) (at : ℕ) (h : at + 1 ≤ length doc) {b : Beginning}
   unfolding open_at
   open-unnamed q = record { is = rw (← a.ends, eq-eqb b.end (at + 1) q) refl; moves = tt }
 
-  module _ (q : b.end ≡ at + 1 → ⊥) {w : Whole} (t : (w.ending ≡ (tag_at doc b.end at).ending) × NotedBy (keys_by b.kind) doc b.end w.noted) where
+  module _ (q : b.end ≡ at + 1 → ⊥) {w : Whole} (t : (w.ending ≡ (tag_at doc b.end at).ending) × NotedBy (keys_of b.element) doc b.end w.noted) where
     pub open-broken : {refusal : Refusal} → w.ending ≡ Err refusal → Here (open_at (events_from doc) doc at) doc at (Err refusal)
     unfolding open_at open_by
     open-broken f = record { is = rw (← a.ends, ne_eqb b.end (at + 1) q, ← t.0, f) refl; moves = tt }
@@ -100,8 +107,8 @@ module _ (doc : List ℕ) (at : ℕ) (h : at + 1 ≤ length doc) {b : Beginning}
     abbrev long : ℕ
     long = b.end - (at + 1) - b.lost
 
-    pub open-told : {ending : Ending} → w.ending ≡ Ok ending → {c : Cursor} → c ≡ behind ending (record { place = at; name = local; len = long })
-        → Here (open_at (events_from doc) doc at) doc at (Ok (record { told = record { event = Open local long b.end ending.next; place = at; noted = w.noted }; cursor = c }))
+    pub open-told : {ending : Ending} → w.ending ≡ Ok ending → {c : Cursor} → c ≡ behind ending (record { place = at; name = local; len = long; element = b.element })
+        → Here (open_at (events_from doc) doc at) doc at (Ok (record { told = record { event = Open local long b.end ending.next; element = b.element; place = at; noted = w.noted }; cursor = c }))
     unfolding open_at open_by
     open-told {ending} f {c} k =
         let n : piece doc local long ≡ local_name (piece doc (at + 1) (b.end - (at + 1))) = rw a.lost (local-range doc (at + 1) (b.end - (at + 1))) in
@@ -113,14 +120,15 @@ module _ (doc : List ℕ) (at : ℕ) (h : at + 1 ≤ length doc) {b : Beginning}
         record {
           is =
               rw (← a.ends, ne_eqb b.end (at + 1) q, g, ← n, k)
-              (ap (next at (opens (piece doc local long) (attributes_in doc b.end))) (owed-behind doc at (piece doc local long) (record { place = at; name = local; len = long }) ending.self_closed (events_from doc ending.next) refl refl));
+              (ap (next at (opens (piece doc local long) (attributes_in doc b.end))) (owed-behind doc at (piece doc local long) (record { place = at; name = local; len = long; element = b.element }) ending.self_closed (events_from doc ending.next) refl refl));
           moves =
               record {
                 grows = rw k (omega arith);
-                less = rw k (omega (arith, owing-most ending.self_closed (record { place = at; name = local; len = long })));
-                within = λ z. rw k i;
+                less = rw k (omega (arith, owing-most ending.self_closed (record { place = at; name = local; len = long; element = b.element })));
+                sound = λ z. rw k (record { within = i; owed = owed-right doc (record { place = at; name = local; len = long; element = b.element }) ending.self_closed a.element });
                 inside = (record { place = at; closed = ending.self_closed; is = g }, omega arith);
-                noted = by-keys doc b.end a.kind t.1;
+                element = λ z. a.element;
+                noted = t.1;
               };
         }
 

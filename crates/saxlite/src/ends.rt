@@ -10,8 +10,8 @@ ghost use Rattle.texts.specs.Text.{ascii};
 ghost use Rattle.swar.specs.internal.Standing.{ShortText};
 ghost use Rattle.saxlite.specs.internal.Passing.{Stands, FoundAt, FirstAt, EndsAt};
 
-use tags::scan::find;
 use swar::{byte_from, stands_short, text_from};
+use tags::scan::find;
 
 /// Where `needle` first stands from `from` on, or the document's length.
 fn found(doc: &[u8], from: usize, needle: &[u8]) -> usize

@@ -5,6 +5,7 @@ ghost use Rattle.std.specs.Prelude.{◌≡◌};
 ghost use Rattle.saxlite.specs.Reader.{cursor_at};
 ghost use Rattle.saxlite.specs.internal.Moving.{bare};
 
+use elements::Element;
 use tags::tag::{Notes, nothing};
 
 /// What the reader yields, as ranges of the document.
@@ -29,20 +30,23 @@ pub enum Event {
     },
 }
 
-/// An event, its place (a tag's '<', a text's first byte), and what was noted of an open tag.
+/// An event, the element of a tag (`Other` beside a text), its place (a tag's '<', a text's first
+/// byte), and what was noted of an open tag.
 #[derive(Clone, Copy)]
 pub struct Told {
     pub event: Event,
+    pub element: Element,
     pub place: usize,
     pub noted: Notes,
 }
 
-/// The close that a self-closed tag owes: the place of its '<', and its local name.
+/// The close that a self-closed tag owes: the place of its '<', its local name, and its element.
 #[derive(Clone, Copy)]
 pub(crate) struct Owed {
     pub place: usize,
     pub name: usize,
     pub len: usize,
+    pub element: Element,
 }
 
 /// Where the reader stands, and the close that it yields before it goes on there.
@@ -70,12 +74,13 @@ impl Cursor {
 
 impl Read {
     /// An event without notes, behind which the reader goes on at `next`.
-    pub(crate) fn bare(event: Event, place: usize, next: usize) -> Read
-        ensures { result ≡ bare event place next }
+    pub(crate) fn bare(event: Event, element: Element, place: usize, next: usize) -> Read
+        ensures { result ≡ bare event element place next }
     {
         Read {
             told: Told {
                 event,
+                element,
                 place,
                 noted: nothing(),
             },

@@ -9,12 +9,13 @@ ghost use Rattle.saxlite.specs.internal.Moving.{behind, Here};
 ghost use Rattle.saxlite.specs.internal.Passing.{is_silent};
 
 use crate::event::{Cursor, Event, Owed, Read, Told};
+use elements::{Element, element_of};
 use refusals::Refusal;
+use swar::byte_from;
 use tags::beginning::{begin_at, closing_at};
 use tags::part::Ending;
 use tags::scan::{prefix_len, skip_space, tag_name_end};
 use tags::tag::tag_noting;
-use swar::byte_from;
 
 /// The text at `at`, up to the next '<' or the document's end.
 fn read_text(doc: &[u8], at: usize) -> Result<Read, Refusal>
@@ -23,7 +24,8 @@ fn read_text(doc: &[u8], at: usize) -> Result<Read, Refusal>
 {
     let end = byte_from(doc, at, b'<');
     let len = end - at;
-    Ok(Read::bare(Event::Text { from: at, len }, at, end))
+    let text = Event::Text { from: at, len };
+    Ok(Read::bare(text, Element::Other, at, end))
 }
 
 /// The close tag at `at`, of any name. Refused (14) without its '>'.
@@ -40,7 +42,9 @@ fn read_any_close(doc: &[u8], at: usize) -> Result<Read, Refusal>
         let lost = prefix_len(texts::part(doc, start, n));
         let name = start + lost;
         let name_len = n - lost;
-        return Ok(Read::bare(Event::Close { name, name_len }, at, next));
+        let element = element_of(texts::part(doc, name, name_len));
+        let event = Event::Close { name, name_len };
+        return Ok(Read::bare(event, element, at, next));
     }
     Err(Refusal::NoCloseTagEnd {
         offset: due,
@@ -58,7 +62,8 @@ fn read_close(doc: &[u8], at: usize) -> Result<Read, Refusal>
         let name = start + known.lost;
         let name_len = known.len - known.lost;
         let next = start + known.len + 1;
-        return Ok(Read::bare(Event::Close { name, name_len }, at, next));
+        let event = Event::Close { name, name_len };
+        return Ok(Read::bare(event, known.element, at, next));
     }
     read_any_close(doc, at)
 }
@@ -89,12 +94,14 @@ fn read_open(doc: &[u8], at: usize) -> Result<Read, Refusal>
     }
     let name = start + begun.lost;
     let name_len = end - start - begun.lost;
-    let tag = tag_noting(doc, end, at, begun.kind);
+    let element = begun.element;
+    let tag = tag_noting(doc, end, at, element);
     let ending = tag.ending?;
     let owed = Owed {
         place: at,
         name,
         len: name_len,
+        element,
     };
     let event = Event::Open {
         name,
@@ -105,6 +112,7 @@ fn read_open(doc: &[u8], at: usize) -> Result<Read, Refusal>
     Ok(Read {
         told: Told {
             event,
+            element,
             place: at,
             noted: tag.noted,
         },

@@ -15,13 +15,13 @@ use tags::tag::nothing;
 impl Owed {
     /// The close event, behind which the reader goes on at `at`.
     fn close(self, at: usize) -> Read
-        ensures { result ≡ bare (Close self.name self.len) self.place at }
+        ensures { result ≡ bare (Close self.name self.len) self.element self.place at }
     {
         let event = Event::Close {
             name: self.name,
             name_len: self.len,
         };
-        Read::bare(event, self.place, at)
+        Read::bare(event, self.element, self.place, at)
     }
 }
 

@@ -14,54 +14,48 @@ use Rattle.tags.specs.declared.part.TagPart.TheVariants.{Attribute as Part, TagE
 use Rattle.tags.specs.declared.part.Quick.{Quick}
 use Rattle.tags.specs.declared.tag.Notes.{Notes}
 use Rattle.refusals.specs.declared.Refusal.{Refusal}
-use Rattle.tags.specs.declared.tag.TagKind.{TagKind}
-use Rattle.tags.specs.declared.tag.TagKind.TheVariants.{Schema, «Type», Enum, Other}
+use Rattle.elements.specs.declared.Element.{Element}
+use Rattle.elements.specs.declared.Element.TheVariants.{MessageSchema, «Type», Ref, Composite, Enum, ValidValue, Message, Group, Field, Other}
+use Rattle.elements.specs.Keys.{Keys, field_keys, keys_of}
 use Rattle.tags.specs.Names.{prefix_length, local_name, is_xmlns}
 use Rattle.tags.specs.Attributes.{tag_part_at, tag_at, later, attribute_at}
-use Rattle.tags.specs.internal.Noting.{Keys, no_notes, found_at, value_if_named, keys_of, NotedWith, NotedBy}
-use Rattle.tags.specs.internal.Known.{known_name, keys_by, codes, CodesOf, Apart, QuickAt, NamedAs, Declares, NotedMore}
+use Rattle.tags.specs.internal.Noting.{no_notes, found_at, value_if_named, NotedWith, NotedBy}
+use Rattle.tags.specs.internal.Known.{known_name, codes, CodesOf, Apart, QuickAt, NamedAs, Declares, NotedMore}
 use Rattle.tags.proofs.Tagging.{Going, part-less, part-value, going_on, going_end, going-bad}
 use Rattle.tags.proofs.Looking.{found-value, Looking, looking-start, looking-on, looking-end, looking-bad}
 use Rattle.tags.proofs.Knowing.{up-each, count-to, goes, plain_name, known-plain, goes-all, goes_other}
 
 -- ---- the codes of the names that matter
 
-module _ {kind : TagKind} where
-  pub codes-schema : kind ≡ Schema → CodesOf (keys_by kind) (record { first = 2; second = 8; third = 9; fourth = 0 })
+module _ {e : Element} where
+  pub codes-schema : e ≡ MessageSchema → CodesOf (keys_of e) (record { first = 2; second = 8; third = 9; fourth = 0 })
   unfolding same
-  codes-schema e = rw e (record { first = tt; second = tt; third = tt; fourth = tt })
+  codes-schema q = rw q (record { first = tt; second = tt; third = tt; fourth = tt })
 
-  pub codes-type : kind ≡ «Type» → CodesOf (keys_by kind) (record { first = 4; second = 1; third = 5; fourth = 7 })
+  pub codes-type : e ≡ «Type» → CodesOf (keys_of e) (record { first = 4; second = 1; third = 5; fourth = 7 })
   unfolding same
-  codes-type e = rw e (record { first = tt; second = tt; third = tt; fourth = tt })
+  codes-type q = rw q (record { first = tt; second = tt; third = tt; fourth = tt })
 
-  pub codes-enum : kind ≡ Enum → CodesOf (keys_by kind) (record { first = 1; second = 6; third = 0; fourth = 0 })
+  pub codes-enum : e ≡ Enum → CodesOf (keys_of e) (record { first = 1; second = 6; third = 0; fourth = 0 })
   unfolding same
-  codes-enum e = rw e (record { first = tt; second = tt; third = tt; fourth = tt })
+  codes-enum q = rw q (record { first = tt; second = tt; third = tt; fourth = tt })
 
-  pub codes-other : kind ≡ Other → CodesOf (keys_by kind) (record { first = 2; second = 1; third = 3; fourth = 0 })
-  unfolding same
-  codes-other e = rw e (record { first = tt; second = tt; third = tt; fourth = tt })
+-- an element that is none of the three
+keys_else : (e : Element) → (e ≡ MessageSchema → ⊥) → (e ≡ «Type» → ⊥) → (e ≡ Enum → ⊥) → keys_of e ≡ field_keys
+keys_else MessageSchema a b c = absurd (a refl)
+keys_else «Type» a b c = absurd (b refl)
+keys_else Ref a b c = refl
+keys_else Composite a b c = refl
+keys_else Enum a b c = absurd (c refl)
+keys_else ValidValue a b c = refl
+keys_else Message a b c = refl
+keys_else Group a b c = refl
+keys_else Field a b c = refl
+keys_else Other a b c = refl
 
--- by the element's name; each b is the result of a comparison
-module _ (name : List ℕ) {b₁ : Bool} (e₁ : b₁ ≡ same name (ascii "messageSchema")) where
-  pub keys-schema : b₁ ≡ true → keys_by Schema ≡ keys_of name
-  unfolding keys_of
-  keys-schema t = rw (← e₁, t)
-
-  module _ (f₁ : b₁ ≡ false) {b₂ : Bool} (e₂ : b₂ ≡ same name (ascii "type")) where
-    pub keys-type : b₂ ≡ true → keys_by «Type» ≡ keys_of name
-    unfolding keys_of
-    keys-type t = rw (← e₁, f₁, ← e₂, t)
-
-    module _ (f₂ : b₂ ≡ false) {b₃ : Bool} (e₃ : b₃ ≡ same name (ascii "enum")) where
-      pub keys-enum : b₃ ≡ true → keys_by Enum ≡ keys_of name
-      unfolding keys_of
-      keys-enum t = rw (← e₁, f₁, ← e₂, f₂, ← e₃, t)
-
-      pub keys-field : b₃ ≡ false → keys_by Other ≡ keys_of name
-      unfolding keys_of
-      keys-field t = rw (← e₁, f₁, ← e₂, f₂, ← e₃, t)
+pub codes-other : {e : Element} → (e ≡ MessageSchema → ⊥) → (e ≡ «Type» → ⊥) → (e ≡ Enum → ⊥) → CodesOf (keys_of e) (record { first = 2; second = 1; third = 3; fourth = 0 })
+unfolding same
+codes-other {e} a b c = rw (keys_else e a b c) (record { first = tt; second = tt; third = tt; fourth = tt })
 
 -- ---- what is noted
 
@@ -176,19 +170,19 @@ module _ {doc : List ℕ} {name n : ℕ} {known : Option ℕ} {code : ℕ} (e : 
   pub by_name : (value len : ℕ) {was r : Notes} {cs : Codes} {k : Keys} → ((j : Keys) → CodesOf j cs → NotedMore (known_name code) value len j was r) → CodesOf k cs → NotedMore (piece doc name n) value len k was r
   by_name value len {k = k} m t = rw (e.named code h).2 (m k t)
 
--- by the kind of the tag, where an attribute has any name
-module _ (raw : List ℕ) (value len : ℕ) {kind : TagKind} {was r : Notes} where
-  pub other-schema : kind ≡ Schema → NotedWith raw value len (ascii "id") (ascii "version") (ascii "package") [] was r → NotedMore raw value len (keys_by kind) was r
-  other-schema e n = rw e (record { first = n.0; second = n.1; third = n.2; fourth = n.3 })
+-- by the element, where an attribute has any name
+module _ (raw : List ℕ) (value len : ℕ) {e : Element} {was r : Notes} where
+  pub other-schema : e ≡ MessageSchema → NotedWith raw value len (ascii "id") (ascii "version") (ascii "package") [] was r → NotedMore raw value len (keys_of e) was r
+  other-schema q n = rw q (record { first = n.0; second = n.1; third = n.2; fourth = n.3 })
 
-  pub other-type : kind ≡ «Type» → NotedWith raw value len (ascii "length") (ascii "name") (ascii "primitiveType") (ascii "characterEncoding") was r → NotedMore raw value len (keys_by kind) was r
-  other-type e n = rw e (record { first = n.0; second = n.1; third = n.2; fourth = n.3 })
+  pub other-type : e ≡ «Type» → NotedWith raw value len (ascii "length") (ascii "name") (ascii "primitiveType") (ascii "characterEncoding") was r → NotedMore raw value len (keys_of e) was r
+  other-type q n = rw q (record { first = n.0; second = n.1; third = n.2; fourth = n.3 })
 
-  pub other-enum : kind ≡ Enum → NotedWith raw value len (ascii "name") (ascii "encodingType") [] [] was r → NotedMore raw value len (keys_by kind) was r
-  other-enum e n = rw e (record { first = n.0; second = n.1; third = n.2; fourth = n.3 })
+  pub other-enum : e ≡ Enum → NotedWith raw value len (ascii "name") (ascii "encodingType") [] [] was r → NotedMore raw value len (keys_of e) was r
+  other-enum q n = rw q (record { first = n.0; second = n.1; third = n.2; fourth = n.3 })
 
-  pub other-field : kind ≡ Other → NotedWith raw value len (ascii "id") (ascii "name") (ascii "type") [] was r → NotedMore raw value len (keys_by kind) was r
-  other-field e n = rw e (record { first = n.0; second = n.1; third = n.2; fourth = n.3 })
+  pub other-field : (e ≡ MessageSchema → ⊥) → (e ≡ «Type» → ⊥) → (e ≡ Enum → ⊥) → NotedWith raw value len (ascii "id") (ascii "name") (ascii "type") [] was r → NotedMore raw value len (keys_of e) was r
+  other-field a b c n = rw (keys_else e a b c) (record { first = n.0; second = n.1; third = n.2; fourth = n.3 })
 
 -- ---- the loop of `tag_noting` is at i; q is the part there
 
@@ -270,7 +264,3 @@ module _ {doc : List ℕ} {name n : ℕ} {code : Option ℕ} where
 
   pub declares-not : {b : Bool} → Declares doc name n code b → b ≡ false → Declares doc name n code false
   declares-not d f = rw f at d
-
--- the names that matter by another name
-pub by-keys : (doc : List ℕ) (at : ℕ) {noted : Notes} {k j : Keys} → k ≡ j → NotedBy k doc at noted → NotedBy j doc at noted
-by-keys doc at e n = rw (← e) n

@@ -10,7 +10,7 @@ use Rattle.swar.specs.internal.Standing.{ShortText, StandsShort}
 use Rattle.classes.specs.Class.{is_space, is_tag_name_end, is_attribute_name_end}
 use Rattle.tags.specs.declared.tag.Notes.{Notes}
 use Rattle.tags.specs.Names.{is_xmlns}
-use Rattle.tags.specs.internal.Noting.{Keys}
+use Rattle.elements.specs.Keys.{Keys}
 use Rattle.tags.specs.internal.Known.{NotedMore}
 use Rattle.tags.proofs.Knowing.{starts-split}
 use Rattle.tags.proofs.Looking.{named-xmlns}

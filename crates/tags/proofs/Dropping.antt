@@ -11,7 +11,7 @@ use Rattle.tags.specs.declared.part.TagPart.{TagPart}
 use Rattle.tags.specs.declared.part.TagPart.TheVariants.{Attribute as Part, TagEnd}
 use Rattle.tags.specs.declared.tag.Notes.{Notes}
 use Rattle.tags.specs.Names.{is_xmlns}
-use Rattle.tags.specs.internal.Noting.{Keys}
+use Rattle.elements.specs.Keys.{Keys}
 use Rattle.tags.specs.Find.{stands}
 use Rattle.tags.specs.Attributes.{quoted_at, value_at, attribute_part_at, tag_part_at, Tag, with_part, tag_at, last_of, later}
 use Rattle.tags.specs.internal.Dropping.{Unchanged, next_of}

@@ -1,55 +1,54 @@
-//! Where a tag begins: its raw name, its prefix, and which attribute names matter. Nearly every tag
-//! of a schema has one of eleven raw names, with a space behind it, or '>' where it closes:
-//! comparing one or two words of eight bytes finds it. Any other raw name is scanned.
+//! Where a tag begins: its raw name, its prefix, and its element. Nearly every tag of a schema has
+//! one of eleven raw names, with a space behind it, or '>' where it closes: comparing one or two
+//! words of eight bytes finds it. Any other raw name is scanned.
 //!
 //! As in `known`, a text to compare is given by integers, and callers test for sixteen bytes.
-#![tactic(auto, unfolding(swar::specs::Word::word_of, crate::specs::internal::Noting::keys_of, crate::specs::Names::prefix_length, texts::specs::Text::same), using(crate::proofs::Laws::beginning))]
+#![tactic(auto, unfolding(swar::specs::Word::word_of, elements::specs::Elements::element_of, elements::specs::Elements::other_element_of, crate::specs::Names::prefix_length, texts::specs::Text::same, texts::specs::Lists::all, classes::specs::Class::is_tag_name_end, classes::specs::Class::is_space), using(crate::proofs::Laws::beginning))]
 
 ghost use Rattle.std.specs.Prelude.{◌≡◌, ◌+◌, ◌≤◌, length};
+ghost use Rattle.elements.specs.declared.Element.TheVariants.{Message, MessageSchema as «Schema»};
 ghost use Rattle.tags.specs.internal.Beginning.{tagged_text, KnownBeginning, KnownShort, KnownLong, BeginsAt};
 
 use crate::scan::raw_name;
-use crate::tag::TagKind::{Enum, Other, Schema, Type};
-use crate::tag::{TagKind, kind_of};
+use elements::Element::{
+    Composite, Enum, Field, Group, Message, MessageSchema, Other, Ref, Type, ValidValue,
+};
+use elements::{Element, element_of};
 use swar::{stands_long, stands_short};
 
-/// A known beginning: the code of its raw name (specs/internal/Beginning.antt; a number, as in `known`),
-/// which names matter there, and the lengths of the raw name and of its prefix.
+/// A known beginning: its element, and the lengths of the raw name and of its prefix.
 #[derive(Clone, Copy)]
 pub struct Opening {
-    pub code: usize,
-    pub kind: TagKind,
+    pub element: Element,
     pub len: usize,
     pub lost: usize,
 }
 
-/// Any beginning: where the raw name ends, the length of its prefix, and which names matter.
+/// Any beginning: where the raw name ends, the length of its prefix, and the element.
 #[derive(Clone, Copy)]
 pub struct Beginning {
     pub end: usize,
     pub lost: usize,
-    pub kind: TagKind,
+    pub element: Element,
 }
 
-/// The beginning of this code, if its raw name stands at `at` with `behind` behind it: less than
+/// The beginning of this element, if its raw name stands at `at` with `behind` behind it: less than
 /// eight bytes. The integers hold `behind` too; as a parameter it serves the contract alone.
 fn opening_short(
     doc: &[u8],
     at: usize,
     behind: u8,
-    code: usize,
-    kind: TagKind,
+    element: Element,
     len: usize,
     modulus: u64,
     front: u64,
 ) -> Option<Opening>
-    requires { (at + 8 ≤ length doc.now) × KnownShort behind code kind len modulus front }
+    requires { (at + 8 ≤ length doc.now) × KnownShort behind element len modulus front }
     ensures { KnownBeginning behind doc.now at result }
 {
     if stands_short(doc, at, modulus, front) {
         Some(Opening {
-            code,
-            kind,
+            element,
             len,
             lost: 0,
         })
@@ -58,28 +57,23 @@ fn opening_short(
     }
 }
 
-/// As `opening_short`, for a text of 8 to 15 bytes in a tag of kind `Other`.
+/// As `opening_short`, for a text of 8 to 15 bytes.
 fn opening_long(
     doc: &[u8],
     at: usize,
     behind: u8,
-    code: usize,
+    element: Element,
     len: usize,
     lost: usize,
     front: u64,
     modulus: u64,
     back: u64,
 ) -> Option<Opening>
-    requires { (at + 16 ≤ length doc.now) × KnownLong behind code len lost front modulus back }
+    requires { (at + 16 ≤ length doc.now) × KnownLong behind element len lost front modulus back }
     ensures { KnownBeginning behind doc.now at result }
 {
     if stands_long(doc, at, front, modulus, back) {
-        Some(Opening {
-            code,
-            kind: Other,
-            len,
-            lost,
-        })
+        Some(Opening { element, len, lost })
     } else {
         None
     }
@@ -89,14 +83,14 @@ fn opening_long(
 /// "sbe:message", whose last bytes and `behind` are `back`, or "sbe:messageSchema", longer than two
 /// words, which with `behind` is `schema`.
 fn prefixed_at(doc: &[u8], at: usize, behind: u8, back: u64, schema: &[u8]) -> Option<Opening>
-    requires { (at + 16 ≤ length doc.now) × KnownLong behind 8 11 4 8319104456489001587 4294967296 back × (schema.now ≡ tagged_text behind 11) }
+    requires { (at + 16 ≤ length doc.now) × KnownLong behind Message 11 4 8319104456489001587 4294967296 back × (schema.now ≡ tagged_text behind «Schema» 4) }
     ensures { KnownBeginning behind doc.now at result }
 {
     let message = opening_long(
         doc,
         at,
         behind,
-        8,
+        Message,
         11,
         4,
         0x7373_656d_3a65_6273,
@@ -108,8 +102,7 @@ fn prefixed_at(doc: &[u8], at: usize, behind: u8, back: u64, schema: &[u8]) -> O
     }
     if texts::starts_with(doc, at, schema) {
         Some(Opening {
-            code: 11,
-            kind: Schema,
+            element: MessageSchema,
             len: 17,
             lost: 4,
         })
@@ -129,31 +122,29 @@ fn opening_by(doc: &[u8], at: usize) -> Option<Opening>
             doc,
             at,
             b' ',
-            1,
-            Other,
+            Field,
             5,
             0x1_0000_0000_0000,
             0x2064_6c65_6966,
         ),
-        b't' => opening_short(doc, at, b' ', 2, Type, 4, 0x100_0000_0000, 0x20_6570_7974),
-        b'e' => opening_short(doc, at, b' ', 3, Enum, 4, 0x100_0000_0000, 0x20_6d75_6e65),
+        b't' => opening_short(doc, at, b' ', Type, 4, 0x100_0000_0000, 0x20_6570_7974),
+        b'e' => opening_short(doc, at, b' ', Enum, 4, 0x100_0000_0000, 0x20_6d75_6e65),
         b'g' => opening_short(
             doc,
             at,
             b' ',
-            4,
-            Other,
+            Group,
             5,
             0x1_0000_0000_0000,
             0x2070_756f_7267,
         ),
-        b'r' => opening_short(doc, at, b' ', 5, Other, 3, 0x1_0000_0000, 0x2066_6572),
+        b'r' => opening_short(doc, at, b' ', Ref, 3, 0x1_0000_0000, 0x2066_6572),
         // "validValue ", "composite ", "message "; "sbe:message ", "sbe:messageSchema "
         b'v' => opening_long(
             doc,
             at,
             b' ',
-            6,
+            ValidValue,
             10,
             0,
             0x6c61_5664_696c_6176,
@@ -164,7 +155,7 @@ fn opening_by(doc: &[u8], at: usize) -> Option<Opening>
             doc,
             at,
             b' ',
-            7,
+            Composite,
             9,
             0,
             0x7469_736f_706d_6f63,
@@ -172,7 +163,7 @@ fn opening_by(doc: &[u8], at: usize) -> Option<Opening>
             0x2065,
         ),
         b's' => prefixed_at(doc, at, b' ', 0x2065_6761, b"sbe:messageSchema "),
-        b'm' => opening_long(doc, at, b' ', 9, 7, 0, 0x2065_6761_7373_656d, 1, 0),
+        b'm' => opening_long(doc, at, b' ', Message, 7, 0, 0x2065_6761_7373_656d, 1, 0),
         _ => None,
     }
 }
@@ -196,7 +187,7 @@ pub fn begin_at(doc: &[u8], name: usize) -> Beginning
         return Beginning {
             end: name + known.len,
             lost: known.lost,
-            kind: known.kind,
+            element: known.element,
         };
     }
     // "types>": nearly every schema has this tag, without attributes.
@@ -205,7 +196,6 @@ pub fn begin_at(doc: &[u8], name: usize) -> Beginning
             doc,
             name,
             b'>',
-            10,
             Other,
             5,
             0x1_0000_0000_0000,
@@ -214,7 +204,7 @@ pub fn begin_at(doc: &[u8], name: usize) -> Beginning
             return Beginning {
                 end: name + types.len,
                 lost: types.lost,
-                kind: types.kind,
+                element: types.element,
             };
         }
     }
@@ -224,7 +214,7 @@ pub fn begin_at(doc: &[u8], name: usize) -> Beginning
     Beginning {
         end: raw.end,
         lost: raw.lost,
-        kind: kind_of(local),
+        element: element_of(local),
     }
 }
 
@@ -239,19 +229,17 @@ fn closing_by(doc: &[u8], at: usize) -> Option<Opening>
             doc,
             at,
             b'>',
-            10,
             Other,
             5,
             0x1_0000_0000_0000,
             0x3e73_6570_7974,
         ),
-        b'e' => opening_short(doc, at, b'>', 3, Enum, 4, 0x100_0000_0000, 0x3e_6d75_6e65),
+        b'e' => opening_short(doc, at, b'>', Enum, 4, 0x100_0000_0000, 0x3e_6d75_6e65),
         b'g' => opening_short(
             doc,
             at,
             b'>',
-            4,
-            Other,
+            Group,
             5,
             0x1_0000_0000_0000,
             0x3e70_756f_7267,
@@ -261,7 +249,7 @@ fn closing_by(doc: &[u8], at: usize) -> Option<Opening>
             doc,
             at,
             b'>',
-            6,
+            ValidValue,
             10,
             0,
             0x6c61_5664_696c_6176,
@@ -272,7 +260,7 @@ fn closing_by(doc: &[u8], at: usize) -> Option<Opening>
             doc,
             at,
             b'>',
-            7,
+            Composite,
             9,
             0,
             0x7469_736f_706d_6f63,
@@ -280,7 +268,7 @@ fn closing_by(doc: &[u8], at: usize) -> Option<Opening>
             0x3e65,
         ),
         b's' => prefixed_at(doc, at, b'>', 0x3e65_6761, b"sbe:messageSchema>"),
-        b'm' => opening_long(doc, at, b'>', 9, 7, 0, 0x3e65_6761_7373_656d, 1, 0),
+        b'm' => opening_long(doc, at, b'>', Message, 7, 0, 0x3e65_6761_7373_656d, 1, 0),
         _ => None,
     }
 }

@@ -9,9 +9,10 @@
 #![tactic(auto, unfolding(swar::specs::Word::word_of), using(crate::proofs::Laws::telling))]
 
 ghost use Rattle.std.specs.Prelude.{◌≡◌, ◌+◌, ◌≤◌, length};
-ghost use Rattle.tags.specs.internal.Known.{KnownAt, keys_by, CodesOf, Apart, ToldShort, ToldLong, ToldText};
+ghost use Rattle.elements.specs.Keys.{keys_of};
+ghost use Rattle.tags.specs.internal.Known.{KnownAt, CodesOf, Apart, ToldShort, ToldLong, ToldText};
 
-use crate::tag::TagKind;
+use elements::Element;
 use swar::{stands_long, stands_short};
 
 /// A known attribute: the code of its name (specs/internal/Known.antt), and how far its value is from the
@@ -33,31 +34,31 @@ pub struct Codes {
     pub fourth: usize,
 }
 
-/// The codes of the names that matter in a tag of this kind.
-pub fn codes_of(kind: TagKind) -> Codes
-    ensures are { CodesOf (keys_by kind) result }
+/// The codes of the names that matter in a tag of this element.
+pub fn codes_of(element: Element) -> Codes
+    ensures are { CodesOf (keys_of element) result }
     ensures apart { Apart result }
 {
-    match kind {
-        TagKind::Schema => Codes {
+    match element {
+        Element::MessageSchema => Codes {
             first: 2,
             second: 8,
             third: 9,
             fourth: 0,
         },
-        TagKind::Type => Codes {
+        Element::Type => Codes {
             first: 4,
             second: 1,
             third: 5,
             fourth: 7,
         },
-        TagKind::Enum => Codes {
+        Element::Enum => Codes {
             first: 1,
             second: 6,
             third: 0,
             fourth: 0,
         },
-        TagKind::Other => Codes {
+        _ => Codes {
             first: 2,
             second: 1,
             third: 3,

@@ -5,12 +5,14 @@ ghost use Rattle.std.specs.Prelude.{◌≡◌, false, [], ◌+◌, ◌<◌, ◌^
 ghost use Rattle.texts.specs.Choice.{pick};
 ghost use Rattle.texts.specs.Text.{piece};
 ghost use Rattle.tags.specs.Names.{is_xmlns};
-ghost use Rattle.tags.specs.internal.Noting.{Keys, NotedWith};
-ghost use Rattle.tags.specs.internal.Known.{known_name, keys_by, CodesOf, Apart, NamedAs, Declares, NotedMore};
+ghost use Rattle.elements.specs.Keys.{Keys, keys_of};
+ghost use Rattle.tags.specs.internal.Noting.{NotedWith};
+ghost use Rattle.tags.specs.internal.Known.{known_name, CodesOf, Apart, NamedAs, Declares, NotedMore};
 
 use crate::known::Codes;
 use crate::scan::{is_xmlns_at, prefix_len};
-use crate::tag::{Notes, TagKind};
+use crate::tag::Notes;
+use elements::Element;
 use texts::Range;
 
 /// `this` if `on`, else `earlier`.
@@ -122,14 +124,14 @@ fn noted_known(code: usize, codes: Codes, value: Range, earlier: Notes) -> Notes
     earlier
 }
 
-/// The notes with an attribute of any other name, in a tag of this kind. It declares no namespace.
-fn noted_other(doc: &[u8], a: RawAttribute, kind: TagKind, earlier: Notes) -> Notes
+/// The notes with an attribute of any other name, in a tag of this element. It declares no namespace.
+fn noted_other(doc: &[u8], a: RawAttribute, element: Element, earlier: Notes) -> Notes
     requires { (a.value.from < length doc.now) × (is_xmlns (piece doc.now a.name.from a.name.len) ≡ false) }
-    ensures { NotedMore (piece doc.now a.name.from a.name.len) a.value.from a.value.len (keys_by kind) earlier result }
+    ensures { NotedMore (piece doc.now a.name.from a.name.len) a.value.from a.value.len (keys_of element) earlier result }
 {
-    match kind {
-        TagKind::Schema => noted_with(doc, a, b"id", b"version", b"package", b"", earlier),
-        TagKind::Type => noted_with(
+    match element {
+        Element::MessageSchema => noted_with(doc, a, b"id", b"version", b"package", b"", earlier),
+        Element::Type => noted_with(
             doc,
             a,
             b"length",
@@ -138,8 +140,8 @@ fn noted_other(doc: &[u8], a: RawAttribute, kind: TagKind, earlier: Notes) -> No
             b"characterEncoding",
             earlier,
         ),
-        TagKind::Enum => noted_with(doc, a, b"name", b"encodingType", b"", b"", earlier),
-        TagKind::Other => noted_with(doc, a, b"id", b"name", b"type", b"", earlier),
+        Element::Enum => noted_with(doc, a, b"name", b"encodingType", b"", b"", earlier),
+        _ => noted_with(doc, a, b"id", b"name", b"type", b"", earlier),
     }
 }
 
@@ -159,15 +161,15 @@ pub fn noted_by(
     a: RawAttribute,
     code: Option<usize>,
     codes: Codes,
-    kind: TagKind,
+    element: Element,
     earlier: Notes,
 ) -> Notes
-    requires value { (a.value.from < length doc.now) × CodesOf (keys_by kind) codes × Apart codes }
+    requires value { (a.value.from < length doc.now) × CodesOf (keys_of element) codes × Apart codes }
     requires name { NamedAs doc.now a.name.from a.name.len code × Declares doc.now a.name.from a.name.len code false }
-    ensures { NotedMore (piece doc.now a.name.from a.name.len) a.value.from a.value.len (keys_by kind) earlier result }
+    ensures { NotedMore (piece doc.now a.name.from a.name.len) a.value.from a.value.len (keys_of element) earlier result }
 {
     if let Some(known) = code {
         return noted_known(known, codes, a.value, earlier);
     }
-    noted_other(doc, a, kind, earlier)
+    noted_other(doc, a, element, earlier)
 }

@@ -11,8 +11,8 @@ ghost use Rattle.tags.specs.Find.{find_from};
 ghost use Rattle.tags.specs.Names.{prefix_length, is_xmlns};
 
 use classes::{is_attribute_name_end, is_name_stop, is_space, is_tag_name_end};
-use texts::scan::{ByteTest, scan_eights, scan_fours};
 use swar::{byte_from, stands_short};
+use texts::scan::{ByteTest, scan_eights, scan_fours};
 
 /// Passes spaces.
 #[derive(Clone, Copy)]

@@ -6,24 +6,17 @@ ghost use Rattle.texts.specs.Choice.{pick};
 ghost use Rattle.texts.specs.Text.{piece};
 ghost use Rattle.tags.specs.Names.{is_xmlns};
 ghost use Rattle.tags.specs.Attributes.{tag_at, attribute_at};
-ghost use Rattle.tags.specs.internal.Noting.{Keys, no_notes, found_at, noted_of, NotedWith, NotedBy, keys_of};
-ghost use Rattle.tags.specs.internal.Known.{known_name, keys_by, CodesOf, Apart, NamedAs, Declares, NotedMore};
+ghost use Rattle.elements.specs.Keys.{Keys, keys_of};
+ghost use Rattle.tags.specs.internal.Noting.{no_notes, found_at, noted_of, NotedWith, NotedBy};
+ghost use Rattle.tags.specs.internal.Known.{known_name, CodesOf, Apart, NamedAs, Declares, NotedMore};
 
 use crate::known::codes_of;
 use crate::namespaces::past_declarations;
 use crate::noting::{RawAttribute, is_declaration, noted_by, noted_one};
 use crate::part::{Ending, Quick, TagPart, quick_part, tag_part};
+use elements::Element;
 use refusals::Refusal;
 use texts::Range;
-
-/// Tags by the attribute names that matter in them (`keys_by`, specs/internal/Known.antt).
-#[derive(Clone, Copy)]
-pub enum TagKind {
-    Schema,
-    Type,
-    Enum,
-    Other,
-}
 
 /// What was noted under four names: for each, 1 + the position of the raw value's first byte, or 0
 /// if there is no such attribute, and the value's length.
@@ -97,12 +90,12 @@ pub fn noted_of(notes: Notes) -> Noted
 }
 
 /// Reads the tag whose attributes begin at `at`: how it ends, and the last raw value under each of
-/// the four names of `kind`. One namespace declaration is likely followed by others, which are
+/// the four names that the element looks up. One namespace declaration is likely followed by others, which are
 /// skipped in a loop of their own.
-pub fn tag_noting(doc: &[u8], at: usize, place: usize, kind: TagKind) -> Whole
-    ensures { (result.ending ≡ (tag_at doc.now at place).ending) × NotedBy (keys_by kind) doc.now at result.noted }
+pub fn tag_noting(doc: &[u8], at: usize, place: usize, element: Element) -> Whole
+    ensures { (result.ending ≡ (tag_at doc.now at place).ending) × NotedBy (keys_of element) doc.now at result.noted }
 {
-    let codes = codes_of(kind);
+    let codes = codes_of(element);
     let mut i = at;
     let mut noted = nothing();
     // `loop`: the part that ends the tag returns.
@@ -131,7 +124,7 @@ pub fn tag_noting(doc: &[u8], at: usize, place: usize, kind: TagKind) -> Whole
                 if is_declaration(doc, a.name, code) {
                     i = past_declarations(doc, next);
                 } else {
-                    noted = noted_by(doc, a, code, codes, kind, noted);
+                    noted = noted_by(doc, a, code, codes, element, noted);
                     i = next;
                 }
             }
@@ -148,21 +141,6 @@ pub fn tag_noting(doc: &[u8], at: usize, place: usize, kind: TagKind) -> Whole
                 };
             }
         }
-    }
-}
-
-/// The kind of a tag by the local name of its element.
-pub fn kind_of(name: &[u8]) -> TagKind
-    ensures { keys_by result ≡ keys_of name.now }
-{
-    if texts::equal(name, b"messageSchema") {
-        TagKind::Schema
-    } else if texts::equal(name, b"type") {
-        TagKind::Type
-    } else if texts::equal(name, b"enum") {
-        TagKind::Enum
-    } else {
-        TagKind::Other
     }
 }
 

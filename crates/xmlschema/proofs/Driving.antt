@@ -5,7 +5,7 @@ use Rattle.refusals.specs.declared.Refusal.TheVariants.{OpenElements}
 use Rattle.saxlite.specs.Event.{Event, Events, broken, done, next}
 use Rattle.saxlite.specs.Events.{events}
 use Rattle.saxlite.specs.Reader.{cursor_at, event_in, to_come, Yields}
-use Rattle.saxlite.specs.internal.Moving.{takes, Inside, NotedIn, left, Moves, Advances}
+use Rattle.saxlite.specs.internal.Moving.{takes, Inside, IsElement, NotedIn, left, CursorIn, Moves, Advances}
 use Rattle.saxlite.specs.declared.event.Told.{Told}
 use Rattle.saxlite.specs.declared.reader.Reader.{Reader}
 use Rattle.model.specs.internal.Store.{items_of, schema_of}
@@ -22,7 +22,7 @@ use Rattle.xmlschema.specs.internal.Driving.{with_state, Driving}
 pub drive-start : {r : Reader} {w : Work} → Sound w initial → r.doc.now ≡ w.doc.now → r.cursor ≡ cursor_at 0 → Driving r w initial
 unfolding schema_of items_of stack_of
 drive-start k d c =
-    record { doc = d; sound = k; used = rw c (omega arith); within = rw c (omega arith); same = rw (d, c) refl }
+    record { doc = d; sound = k; used = rw c (omega arith); cursor = rw c (record { within = omega arith; owed = tt }); same = rw (d, c) refl }
 
 -- ---- what events make
 
@@ -64,17 +64,23 @@ module _ {r : Reader} {w : Work} {s : State} (d : Driving r w s) {r' : Reader} {
       moves : Moves r.doc.now r.cursor t r'.cursor
       moves = rw (e ∙ ap Ok f) at advances
 
-      inside : r'.cursor.at ≤ length w.doc.now
-      inside = let h : r.cursor.at ≤ length r.doc.now = rw d.doc d.within in rw d.doc at (moves.within h)
+      sound : CursorIn r.doc.now r.cursor
+      sound = rw d.doc d.cursor
+
+      inside : CursorIn w.doc.now r'.cursor
+      inside = rw d.doc at (moves.sound sound)
 
       pub drive-ready : Ready w s (takes t.event)
       drive-ready =
-          record { sound = d.sound; room = omega (arith, moves.grows, inside, d.used, d.sound.lent.document, d.sound.within.top, d.sound.within.apart) }
+        record { sound = d.sound; room = omega (arith, moves.grows, inside.within, d.used, d.sound.lent.document, d.sound.within.top, d.sound.within.apart) }
 
       pub drive-inside : Inside w.doc.now t.event
       drive-inside = rw d.doc at moves.inside
 
-      pub drive-noted : NotedIn w.doc.now t.event t.noted
+      pub drive-element : IsElement w.doc.now t.event t.element
+      drive-element = rw d.doc at (moves.element sound)
+
+      pub drive-noted : NotedIn w.doc.now t.event t.element t.noted
       drive-noted = rw d.doc at moves.noted
 
       pub drive-less : left r'.doc.now r'.cursor < left r.doc.now r.cursor
@@ -102,7 +108,7 @@ module _ {r : Reader} {w : Work} {s : State} (d : Driving r w s) {r' : Reader} {
               doc = rd ∙ sym dd;
               sound = b.sound;
               used = omega (arith, b.used, d.used, moves.grows);
-              within = rw dd inside;
+              cursor = rw dd inside;
               same =
                   subst (λ (l : Limits). built l (to_come r'.doc.now r'.cursor) (builder_in w' s') ≡ built l (events w'.doc.now) empty) (sym b.same.limits)
                   (subst (λ (x : List ℕ). built w.limits (to_come x r'.cursor) (builder_in w' s') ≡ built w.limits (events w'.doc.now) empty) (sym rd)

@@ -4,9 +4,11 @@ use Rattle.texts.specs.Text.{piece}
 use Rattle.refusals.specs.declared.Refusal.{Refusal}
 use Rattle.tags.specs.declared.tag.Notes.{Notes}
 use Rattle.entities.specs.Entities.{decoded}
+use Rattle.elements.specs.Elements.{element_of}
+use Rattle.elements.specs.declared.Element.{Element}
 use Rattle.saxlite.specs.Event.{attributes_in}
 use Rattle.saxlite.specs.Reader.{event_in}
-use Rattle.saxlite.specs.internal.Moving.{takes, Inside, NotedIn}
+use Rattle.saxlite.specs.internal.Moving.{takes, Inside, IsElement, NotedIn}
 use Rattle.saxlite.specs.declared.event.Event.{Event}
 use Rattle.saxlite.specs.declared.event.Event.TheVariants.{Text, Open, Close}
 use Rattle.builder.specs.Builder.{Builder, on, opened, closed, collect}
@@ -35,8 +37,11 @@ module _ (w : Work) (ev : Event) (s : State) (k : Ready w s (takes ev)) where
   tag-ready e = rw e at k
 
 pub tag-is :
-    (doc : List ℕ) (place : ℕ) (ev : Event) {name n attributes next : ℕ} → ev ≡ Open name n attributes next → Inside doc ev → {noted : Notes} → NotedIn doc ev noted
-    → IsTag doc (record { place = place; name = name; len = n; attributes = attributes; next = next; noted = noted })
-tag-is doc place ev e i {noted} m =
+    (doc : List ℕ) (place : ℕ) (ev : Event) {name n attributes next : ℕ} → ev ≡ Open name n attributes next → Inside doc ev → {element : Element} → IsElement doc ev element → {noted : Notes} → NotedIn doc ev element noted
+    → IsTag doc (record { place = place; name = name; len = n; element = element; attributes = attributes; next = next; noted = noted })
+tag-is doc place ev e i {element} q {noted} m =
     let a = rw e at i in
-    record { tagged = a.0; noted = rw e at m; inside = a.1 }
+    record { tagged = a.0; named = rw e at q; noted = rw e at m; inside = a.1 }
+
+pub close-is : (doc : List ℕ) (ev : Event) {name n : ℕ} → ev ≡ Close name n → {element : Element} → IsElement doc ev element → element ≡ element_of (piece doc name n)
+close-is doc ev e q = rw e at q

@@ -21,8 +21,13 @@ fn step_value(s: State, w: &mut Work<'_, '_>, told: Told) -> Result<State, Refus
     requires { Takes w.old s told }
     ensures { Stepped w.old s told w.new result }
 {
-    let place = told.place;
-    match told.event {
+    let Told {
+        event,
+        element,
+        place,
+        noted,
+    } = told;
+    match event {
         Event::Text { from, len } => Ok(w.on_text(s, from, len)),
         Event::Open {
             name,
@@ -35,12 +40,13 @@ fn step_value(s: State, w: &mut Work<'_, '_>, told: Told) -> Result<State, Refus
                 place,
                 name,
                 len: name_len,
+                element,
                 attributes,
                 next,
-                noted: told.noted,
+                noted,
             },
         ),
-        Event::Close { name, name_len } => w.on_close(s, place, name, name_len),
+        Event::Close { name, name_len } => w.on_close(s, place, name, name_len, element),
     }
 }
 

@@ -6,7 +6,9 @@ use Rattle.texts.specs.Text.{ascii, piece, same}
 use Rattle.texts.specs.Trim.{TrimmedTo}
 use Rattle.texts.specs.declared.Range.{Range}
 use Rattle.refusals.specs.declared.Refusal.{Refusal}
-use Rattle.tags.specs.internal.Noting.{keys_of, NotedBy}
+use Rattle.elements.specs.Elements.{element_of}
+use Rattle.elements.specs.Keys.{keys_of}
+use Rattle.tags.specs.internal.Noting.{NotedBy}
 pub use Rattle.saxlite.specs.internal.Moving.{Tagged}
 use Rattle.builder.specs.Limits.{Limits, max_items, max_depth, max_document, min_records, min_text}
 use Rattle.builder.specs.Builder.{Builder, Outcome, on, refused, top, rest}
@@ -186,10 +188,11 @@ pub record Ready (w : Work) (s : State) (n : ℕ) : Type 0 where
   pub sound : Sound w s
   pub room : s.usage.collected_to + n ≤ s.usage.taken_from
 
--- what is known of a tag that was read: where it lies, and what was noted of it
+-- what is known of a tag that was read: where it lies, its element, and what was noted of it
 pub record IsTag (doc : List ℕ) (tag : Tag) : Type 0 where
   pub tagged : Tagged doc tag.attributes tag.next
-  pub noted : NotedBy (keys_of (piece doc tag.name tag.len)) doc tag.attributes tag.noted
+  pub named : tag.element ≡ element_of (piece doc tag.name tag.len)
+  pub noted : NotedBy (keys_of tag.element) doc tag.attributes tag.noted
   pub inside : tag.name + tag.len ≤ length doc
 
 -- how many bytes of the text buffer a tag may take

@@ -4,7 +4,8 @@ use Rattle.texts.specs.Text.{piece}
 use Rattle.texts.specs.declared.Range.{Range}
 use Rattle.tags.specs.Attributes.{raw_length}
 use Rattle.saxlite.specs.Event.{Attributes, value_in, attributes_in}
-use Rattle.tags.specs.internal.Noting.{Keys, schema_keys, type_keys, enum_keys, field_keys, NotedBy, noted_of}
+use Rattle.elements.specs.Keys.{Keys}
+use Rattle.tags.specs.internal.Noting.{NotedBy, noted_of}
 use Rattle.tags.specs.declared.tag.Noted.{Noted}
 use Rattle.refusals.specs.declared.Refusal.{Refusal}
 use Rattle.refusals.specs.declared.Refusal.TheVariants.{BadNumber}
@@ -13,8 +14,6 @@ use Rattle.numbers.specs.Numbers.{number_of}
 use Rattle.builder.specs.Builder.{or_empty, is_given, added}
 use Rattle.model.specs.internal.Store.{item_of}
 use Rattle.builder.specs.internal.Layout.{Alike, Steady, builder_in, room, Sound, Ready, Tagged, Same, Makes}
-use Rattle.elements.specs.declared.Element.{Element}
-use Rattle.elements.specs.declared.Element.TheVariants as element
 use Rattle.model.specs.declared.Entry.{Entry}
 use Rattle.builder.specs.declared.take.Draft.{Draft}
 use Rattle.builder.specs.declared.state.State.{State}
@@ -142,16 +141,3 @@ pub record ReadyToOpen (k : Keys) (w : Work) (s : State) (tag : Tag) : Type 0 wh
   pub ready : Ready w s (room tag)
   pub tagged : Tagged w.doc.now tag.attributes tag.next
   pub noted : NotedBy k w.doc.now tag.attributes tag.noted
-
--- the names that the reader notes for an element
-abbrev pub keys_for : Element → Keys
-keys_for element.MessageSchema = schema_keys
-keys_for element.Type = type_keys
-keys_for element.Ref = field_keys
-keys_for element.Composite = field_keys
-keys_for element.Enum = enum_keys
-keys_for element.ValidValue = field_keys
-keys_for element.Message = field_keys
-keys_for element.Group = field_keys
-keys_for element.Field = field_keys
-keys_for element.Other = field_keys

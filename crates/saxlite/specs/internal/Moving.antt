@@ -6,7 +6,10 @@ use Rattle.refusals.specs.declared.Refusal.{Refusal}
 use Rattle.tags.specs.declared.tag.Notes.{Notes}
 use Rattle.tags.specs.declared.part.Ending.{Ending}
 use Rattle.tags.specs.Attributes.{tag_at}
-use Rattle.tags.specs.internal.Noting.{keys_of, no_notes, NotedBy}
+use Rattle.elements.specs.Elements.{element_of}
+use Rattle.elements.specs.Keys.{keys_of}
+use Rattle.elements.specs.declared.Element.{Element}
+use Rattle.tags.specs.internal.Noting.{no_notes, NotedBy}
 use Rattle.saxlite.specs.Event.{Events, done, broken}
 use Rattle.saxlite.specs.Reader.{cursor_at, to_come, told_before}
 use Rattle.saxlite.specs.declared.event.Event.{Event as Found}
@@ -17,8 +20,8 @@ use Rattle.saxlite.specs.declared.event.Cursor.{Cursor}
 use Rattle.saxlite.specs.declared.event.Read.{Read}
 
 -- an event without notes, behind which the reader goes on at `behind`
-abbrev pub bare : Found → ℕ → ℕ → Read
-bare event place behind = record { told = record { event = event; place = place; noted = no_notes }; cursor = cursor_at behind }
+abbrev pub bare : Found → Element → ℕ → ℕ → Read
+bare event element place behind = record { told = record { event = event; element = element; place = place; noted = no_notes }; cursor = cursor_at behind }
 
 -- where the reader goes on behind an open tag: a self-closed one owes its close
 abbrev pub behind : Ending → Owed → Cursor
@@ -55,11 +58,27 @@ Inside doc (Text from len) = Unit {0}
 Inside doc (Open name n attributes end) = Tagged doc attributes end × (name + n ≤ length doc)
 Inside doc (Close name n) = Unit {0}
 
--- the notes of an open tag: the values of the four names that matter to its element
-abbrev pub NotedIn : List ℕ → Found → Notes → Type 0
-NotedIn doc (Open name n attributes end) noted = NotedBy (keys_of (piece doc name n)) doc attributes noted
-NotedIn doc (Text from len) noted = Unit {0}
-NotedIn doc (Close name n) noted = Unit {0}
+-- the element of a tag is that of its local name
+abbrev pub IsElement : List ℕ → Found → Element → Type 0
+IsElement doc (Open name n attributes end) element = element ≡ element_of (piece doc name n)
+IsElement doc (Close name n) element = element ≡ element_of (piece doc name n)
+IsElement doc (Text from len) element = Unit {0}
+
+-- the notes of an open tag: the values of the four names that its element looks up
+abbrev pub NotedIn : List ℕ → Found → Element → Notes → Type 0
+NotedIn doc (Open name n attributes end) element noted = NotedBy (keys_of element) doc attributes noted
+NotedIn doc (Text from len) element noted = Unit {0}
+NotedIn doc (Close name n) element noted = Unit {0}
+
+-- the element of an owed close too
+abbrev pub OwedElement : List ℕ → Option Owed → Type 0
+OwedElement doc None = Unit {0}
+OwedElement doc (Some o) = o.element ≡ element_of (piece doc o.name o.len)
+
+-- a cursor as readers have it, from the document's first byte on
+pub record CursorIn (doc : List ℕ) (c : Cursor) : Type 0 where
+  pub within : c.at ≤ length doc
+  pub owed : OwedElement doc c.owed
 
 -- how many events are left at most: two for each byte, and an owed close
 abbrev pub owing : Option Owed → ℕ
@@ -73,9 +92,10 @@ left doc c = 2 * (length doc - c.at) + owing c.owed
 pub record Moves (doc : List ℕ) (c : Cursor) (t : Told) (c' : Cursor) : Type 0 where
   pub grows : c.at + takes t.event ≤ c'.at
   pub less : left doc c' < left doc c
-  pub within : c.at ≤ length doc → c'.at ≤ length doc
+  pub sound : CursorIn doc c → CursorIn doc c'
   pub inside : Inside doc t.event
-  pub noted : NotedIn doc t.event t.noted
+  pub element : CursorIn doc c → IsElement doc t.event t.element
+  pub noted : NotedIn doc t.event t.element t.noted
 
 -- ---- what functions over the document and a place promise
 

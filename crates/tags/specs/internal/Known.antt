@@ -4,17 +4,16 @@ use Rattle.texts.specs.Choice.{pick, ◌and◌}
 use Rattle.texts.specs.Text.{ascii, piece, same, starts_with}
 use Rattle.refusals.specs.declared.Refusal.{Refusal}
 use Rattle.swar.specs.internal.Standing.{ShortText, LongText}
+use Rattle.elements.specs.Keys.{Keys}
 use Rattle.tags.specs.declared.known.Known.{Known}
 use Rattle.tags.specs.declared.known.Codes.{Codes}
 use Rattle.tags.specs.declared.part.TagPart.{TagPart}
 use Rattle.tags.specs.declared.part.TagPart.TheVariants.{Attribute as Part, TagEnd}
 use Rattle.tags.specs.declared.part.Quick.{Quick}
-use Rattle.tags.specs.declared.tag.TagKind.{TagKind}
-use Rattle.tags.specs.declared.tag.TagKind.TheVariants.{Schema, «Type», Enum, Other}
 use Rattle.tags.specs.declared.tag.Notes.{Notes}
 use Rattle.tags.specs.Names.{is_xmlns}
 use Rattle.tags.specs.Attributes.{tag_part_at, later}
-use Rattle.tags.specs.internal.Noting.{Keys, schema_keys, type_keys, enum_keys, field_keys, found_at, value_if_named}
+use Rattle.tags.specs.internal.Noting.{found_at, value_if_named}
 
 -- the k-th of some texts, from 0 on
 abbrev pub nth : List (List ℕ) → ℕ → List ℕ
@@ -63,14 +62,7 @@ pub record ToldText (code skip : ℕ) (w : List ℕ) : Type 0 where
   pub ahead : skip ≡ length (known_name code) + 3
   pub text : w ≡ known_text code
 
--- ---- the names that matter in a tag, by its kind, and their codes
-
--- the four names by kind
-abbrev pub keys_by : TagKind → Keys
-keys_by Schema = schema_keys
-keys_by «Type» = type_keys
-keys_by Enum = enum_keys
-keys_by Other = field_keys
+-- ---- the codes of the names that matter in a tag
 
 -- the test p holds of 1 to n
 abbrev pub up_to : ℕ → (ℕ → Bool) → Bool

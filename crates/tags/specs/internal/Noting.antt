@@ -1,47 +1,13 @@
 -- What is noted of a tag as it is read: the last values of four names, by element.
-use Rattle.std.specs.Prelude.{◌≡◌, List, [], ℕ, zero, suc, Option, Some, None}
+use Rattle.std.specs.Prelude.{◌≡◌, List, ℕ, zero, suc, Option, Some, None}
 use Rattle.texts.specs.Choice.{pick}
-use Rattle.texts.specs.Text.{ascii, same}
+use Rattle.texts.specs.Text.{same}
 use Rattle.texts.specs.declared.Range.{Range}
+use Rattle.elements.specs.Keys.{Keys}
 use Rattle.tags.specs.declared.tag.Notes.{Notes}
 use Rattle.tags.specs.declared.tag.Noted.{Noted}
 use Rattle.tags.specs.Names.{local_name, is_xmlns}
 use Rattle.tags.specs.Attributes.{later, attribute_at}
-
--- ---- the names that elements look up: four each, [] where fewer matter
-
--- four names
-pub record Keys : Type 0 where
-  pub first : List ℕ
-  pub second : List ℕ
-  pub third : List ℕ
-  pub fourth : List ℕ
-
--- of messageSchema
-abbrev pub schema_keys : Keys
-schema_keys = record { first = ascii "id"; second = ascii "version"; third = ascii "package"; fourth = [] }
-
--- of type
-abbrev pub type_keys : Keys
-type_keys = record { first = ascii "length"; second = ascii "name"; third = ascii "primitiveType"; fourth = ascii "characterEncoding" }
-
--- of enum
-abbrev pub enum_keys : Keys
-enum_keys = record { first = ascii "name"; second = ascii "encodingType"; third = []; fourth = [] }
-
--- of every other element
-abbrev pub field_keys : Keys
-field_keys = record { first = ascii "id"; second = ascii "name"; third = ascii "type"; fourth = [] }
-
--- by the local name of the element
-unfoldable pub keys_of : List ℕ → Keys
-keys_of name =
-    pick (same name (ascii "messageSchema")) schema_keys
-    (pick (same name (ascii "type")) type_keys
-    (pick (same name (ascii "enum")) enum_keys
-    field_keys))
-
--- ---- what is noted
 
 -- the range of a note: 1 + where the value begins, or 0 for none, and its length
 unfoldable pub found_at : ℕ → ℕ → Option Range

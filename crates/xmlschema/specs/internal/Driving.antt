@@ -1,9 +1,9 @@
 -- What the loop over the events keeps.
-use Rattle.std.specs.Prelude.{◌≡◌, ◌≤◌, length, Result, Ok, Err}
+use Rattle.std.specs.Prelude.{◌≡◌, ◌≤◌, Result, Ok, Err}
 use Rattle.refusals.specs.declared.Refusal.{Refusal}
 use Rattle.saxlite.specs.Events.{events}
 use Rattle.saxlite.specs.Reader.{event_in, to_come}
-use Rattle.saxlite.specs.internal.Moving.{takes, Inside, NotedIn}
+use Rattle.saxlite.specs.internal.Moving.{takes, Inside, IsElement, NotedIn, CursorIn}
 use Rattle.saxlite.specs.declared.event.Told.{Told}
 use Rattle.saxlite.specs.declared.reader.Reader.{Reader}
 use Rattle.builder.specs.internal.Layout.{builder_in, used_by, Sound, Ready, Makes}
@@ -11,13 +11,14 @@ use Rattle.builder.specs.declared.state.State.{State}
 use Rattle.builder.specs.declared.work.Work.{Work}
 use Rattle.xmlschema.specs.Whole.{step, built, empty}
 
--- what a step asks: the texts of the event have room, it lies in the document, and its notes are
--- right
+-- what a step asks: the texts of the event have room, it lies in the document, and its element and
+-- its notes are right
 abbrev pub Takes : Work → State → Told → Type 0
 Takes w s t =
     Ready w s (takes t.event)
     × Inside w.doc.now t.event
-    × NotedIn w.doc.now t.event t.noted
+    × IsElement w.doc.now t.event t.element
+    × NotedIn w.doc.now t.event t.element t.noted
 
 -- what it gives: r, over the buffers as they are then, is what the event makes of the builder
 abbrev pub Stepped : Work → State → Told → Work → Result State Refusal → Type 0
@@ -34,6 +35,6 @@ pub record Driving (r : Reader) (w : Work) (s : State) : Type 0 where
   pub doc : r.doc.now ≡ w.doc.now
   pub sound : Sound w s
   pub used : used_by s ≤ r.cursor.at
-  pub within : r.cursor.at ≤ length w.doc.now
+  pub cursor : CursorIn w.doc.now r.cursor
   pub same : built w.limits (to_come r.doc.now r.cursor) (builder_in w s)
       ≡ built w.limits (events w.doc.now) empty

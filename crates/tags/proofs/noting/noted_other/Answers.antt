@@ -7,6 +7,3 @@ returns-in-Type c = search laws
 
 pub returns-in-Enum : goal.returns-in-Enum
 returns-in-Enum c = search laws
-
-pub returns-in-Other : goal.returns-in-Other
-returns-in-Other c = search laws

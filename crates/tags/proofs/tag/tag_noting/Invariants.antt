@@ -1,11 +1,12 @@
 use Rattle.std.proofs.Common.{◌-◌, length}
-use Rattle.tags.specs.internal.Known.{keys_by, CodesOf, Apart}
+use Rattle.elements.specs.Keys.{keys_of}
+use Rattle.tags.specs.internal.Known.{CodesOf, Apart}
 use Rattle.tags.proofs.Tagging.{Going}
 use Rattle.tags.proofs.Coding.{LookingAll}
 use Rattle.tags.proofs.tag.tag_noting.Given as goal
 
 abbrev pub invariant-loop-name : goal.invariant-loop-name
-invariant-loop-name l = Going l.doc l.at l.place l.i × LookingAll l.doc l.at (keys_by l.kind) l.i l.noted × CodesOf (keys_by l.kind) l.codes × Apart l.codes
+invariant-loop-name l = Going l.doc l.at l.place l.i × LookingAll l.doc l.at (keys_of l.element) l.i l.noted × CodesOf (keys_of l.element) l.codes × Apart l.codes
 
 abbrev pub decreases-loop-name : goal.decreases-loop-name
 decreases-loop-name l = length l.doc - l.i

@@ -16,5 +16,4 @@ pub open_by-requires : goal.open_by-requires
 open_by-requires c =
     let l = ap (λ (w : Work). w.limits.depth) c.self.view_is in
     let m = c.self.invariant in
-    let e = c.element_at-e.ensures ∙ ap (λ (w : Work). element_of (piece w.doc.now c.args.tag.name c.args.tag.len)) c.self.view_is in
-    pushed-opens c.requires.0 c.requires.1 (omega (arith, c.if-self-s.false)) (omega arith) e c.push-inner.ensures.state c.push-inner.ensures.names
+    pushed-opens c.requires.0 c.requires.1 (omega (arith, c.if-self-s.false)) (omega arith) c.push-inner.ensures.state c.push-inner.ensures.names
