@@ -1,7 +1,5 @@
-use Rattle.std.proofs.Common.{ap, ◌∙◌}
+use Rattle.std.proofs.Common.{ap}
 use native.Mathlib.Omega.{arith}
-use Rattle.texts.specs.Text.{piece}
-use Rattle.elements.specs.Elements.{element_of}
 use Rattle.builder.specs.declared.work.Work.{Work}
 use Rattle.builder.proofs.Dispatching.{open-deep, pushed-opens}
 use Rattle.builder.proofs.work.Work.on_open.Goals as goal
