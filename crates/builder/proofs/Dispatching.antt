@@ -27,7 +27,7 @@ use Rattle.builder.proofs.Alikes.{alike_self, alike-wider, alike-trans, builder-
 use Rattle.builder.proofs.Stacking.{length-stack, push-ready, push-builder}
 use Rattle.builder.proofs.Adding.{same-trans, after-as, after-refused}
 use Rattle.builder.proofs.Finding.{second-said, third-said, third-room}
-use Rattle.builder.proofs.Numbering.{is_number, no-number, refused-by, number-ok, number-err}
+use Rattle.builder.proofs.Opening.{is_number, number-ok, number-err}
 
 -- ---- messageSchema
 
@@ -35,10 +35,6 @@ schema-by : (place : ℕ) (a : Attributes) (b : Builder) (id version : ℕ) → 
     → on (with_schema (record { package_name = text_in a "package"; id = id; version = version; items = b.schema.items }) b) ≡ open_schema place a b
 unfolding open_schema
 schema-by place a b id version f g = rw (f, g)
-
-bad-id : (place : ℕ) (a : Attributes) (b : Builder) → number_in a "id" ≡ None → refused (BadNumber place) ≡ open_schema place a b
-unfolding open_schema
-bad-id place a b f = rw f
 
 bad-version : (place : ℕ) (a : Attributes) (b : Builder) {id : ℕ} → number_in a "id" ≡ Some id → number_in a "version" ≡ None → refused (BadNumber place) ≡ open_schema place a b
 unfolding open_schema
@@ -48,9 +44,6 @@ bad-version place a b f g = rw (f, g)
 module _ {w : Work} {s : State} {tag : Tag} (o : ReadyToOpen schema_keys w s tag) {f : Noted} (ef : Finds tag f) {w₁ : Work} {x : Result ℕ Refusal} (m : NumberRead tag.place (room tag) f.first w s w₁ x) where
   abbrev Schemas : Work → Result State Refusal → Type 0
   Schemas w' r = After (open_schema tag.place (attributes_of w tag) (builder_in w s)) w s (room tag) w' r
-
-  pub id-refused : {q : Refusal} → x ≡ Err q → {r : Result State Refusal} → IsErrAnd r (λ y. y ≡ q) → Schemas w₁ r
-  id-refused e h = refused-by o ef m e h (bad-id tag.place (attributes_of w tag) (builder_in w s) (no-number o ef m e))
 
   module _ {id : ℕ} (ex : x ≡ Ok id) {w₂ : Work} {y : Result ℕ Refusal} (n : NumberRead tag.place (room tag) f.second w₁ s w₂ y) where
     said : number_of (value_in w₁.doc.now f.second) ≡ number_in (attributes_of w tag) "version"

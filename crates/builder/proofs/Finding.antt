@@ -124,9 +124,6 @@ module _ {w : Work} {s : State} {tag : Tag} {f : Noted} (o : ReadyToOpen field_k
   unfolding Adds
   named-then m c = (ready-current m.ready, named-room)
 
-  pub named-item : drafted_item (drafted kind owner id f.second None) w.doc.now ≡ plain_item kind owner (text_in (attributes_of w tag) "name") [] id
-  named-item = rw (second-said o e) refl
-
   pub field-room : draft_length (drafted kind owner id f.second f.third) ≤ room tag
   unfolding same
   field-room = rw (second-said o e, third-said o e) (omega (arith, tag-room w.doc.now tag.attributes tag.next o.tagged (ascii "name" ∷ ascii "type" ∷ []) tt))
@@ -139,23 +136,17 @@ module _ {w : Work} {s : State} {tag : Tag} {f : Noted} (o : ReadyToOpen field_k
   unfolding Adds
   field-adds m = (m.ready, field-room)
 
-  pub field-item : drafted_item (drafted kind owner id f.second f.third) w.doc.now ≡ plain_item kind owner (text_in (attributes_of w tag) "name") (text_in (attributes_of w tag) "type") id
-  field-item = rw (second-said o e, third-said o e) refl
-
 module _ {w : Work} {s : State} {tag : Tag} {f : Noted} (o : ReadyToOpen enum_keys w s tag) (e : Finds tag f) (kind owner id : ℕ) where
   pub enum-adds : (c : Current) → Adds w (currently s c) tag (drafted kind owner id f.first f.second)
   unfolding same Adds
   enum-adds c = (ready-current o.ready, rw (first_said o e, second-said o e) (omega (arith, tag-room w.doc.now tag.attributes tag.next o.tagged (ascii "name" ∷ ascii "encodingType" ∷ []) tt)))
 
-  pub enum-item : drafted_item (drafted kind owner id f.first f.second) w.doc.now ≡ plain_item kind owner (text_in (attributes_of w tag) "name") (text_in (attributes_of w tag) "encodingType") id
-  enum-item = rw (first_said o e, second-said o e) refl
-
 module _ {w : Work} {s : State} {tag : Tag} {f : Noted} {d : Draft} {kind owner id : ℕ} where
   pub named-drafted : ReadyToOpen field_keys w s tag → Finds tag f → d ≡ drafted kind owner id f.second None → drafted_item d w.doc.now ≡ plain_item kind owner (text_in (attributes_of w tag) "name") [] id
-  named-drafted o e q = ap (λ (x : Draft). drafted_item x w.doc.now) q ∙ named-item o e kind owner id
+  named-drafted o e q = rw (q, second-said o e) refl
 
   pub field-drafted : ReadyToOpen field_keys w s tag → Finds tag f → d ≡ drafted kind owner id f.second f.third → drafted_item d w.doc.now ≡ plain_item kind owner (text_in (attributes_of w tag) "name") (text_in (attributes_of w tag) "type") id
-  field-drafted o e q = ap (λ (x : Draft). drafted_item x w.doc.now) q ∙ field-item o e kind owner id
+  field-drafted o e q = rw (q, second-said o e, third-said o e) refl
 
   pub enum-drafted : ReadyToOpen enum_keys w s tag → Finds tag f → d ≡ drafted kind owner id f.first f.second → drafted_item d w.doc.now ≡ plain_item kind owner (text_in (attributes_of w tag) "name") (text_in (attributes_of w tag) "encodingType") id
-  enum-drafted o e q = ap (λ (x : Draft). drafted_item x w.doc.now) q ∙ enum-item o e kind owner id
+  enum-drafted o e q = rw (q, first_said o e, second-said o e) refl

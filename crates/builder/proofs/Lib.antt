@@ -5,7 +5,6 @@ pub mod Stacking
 pub mod Adding
 pub mod Finding
 pub mod Opening
-pub mod Numbering
 pub mod Dispatching
 pub mod Closing
 pub mod Laws

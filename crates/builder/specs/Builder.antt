@@ -105,6 +105,11 @@ abbrev pub with_number : ℕ → Option ℕ → (ℕ → Outcome) → Outcome
 with_number place None k = refused (BadNumber place)
 with_number place (Some n) k = k n
 
+-- k applied to what is current, if something is; else the builder goes on
+abbrev pub if_current : Option ℕ → Builder → (ℕ → Outcome) → Outcome
+if_current None b k = on b
+if_current (Some c) b k = k c
+
 -- a type, or a member of a composite
 abbrev pub type_item : ℕ → ℕ → Attributes → ℕ → Item
 type_item kind owner a n =
@@ -141,27 +146,20 @@ open_schema place a b =
     with_number place (number_in a "version") (λ version.
     on (with_schema (record b.schema { package_name = name; id = id; version = version }) b)))
 
--- a member of the current composite, dropped if none is current
-abbrev pub member_to : Limits → ℕ → Attributes → ℕ → Option ℕ → Builder → Outcome
-member_to l place a n None b = on b
-member_to l place a n (Some c) b = added l place (type_item a_member c a n) b
-
--- type: a member if it is `inside` an element called composite, else a type of the schema
+-- type: inside an element called composite a member of the current one, dropped if none is current;
+-- else a type of the schema
 unfoldable pub open_type : Limits → ℕ → Bool → Attributes → Builder → Outcome
 open_type l place inside a b =
     with_number place (number_in a "length") (λ n.
-    pick inside (member_to l place a n b.current.composite b)
+    pick inside
+    (if_current b.current.composite b (λ c. added l place (type_item a_member c a n) b))
     (added l place (type_item a_type 0 a n) b))
 
--- a ref of the current composite, dropped if none is current
-abbrev pub ref_to : Limits → ℕ → Attributes → Option ℕ → Builder → Outcome
-ref_to l place a None b = on b
-ref_to l place a (Some c) b =
-    added l place (plain_item a_ref c (text_in a "name") (text_in a "type") 0) b
-
--- ref: by the current composite
+-- ref: of the current composite, dropped if none is current
 unfoldable pub open_ref : Limits → ℕ → Attributes → Builder → Outcome
-open_ref l place a b = ref_to l place a b.current.composite b
+open_ref l place a b =
+    if_current b.current.composite b (λ c.
+    added l place (plain_item a_ref c (text_in a "name") (text_in a "type") 0) b)
 
 -- composite: added, and current from now on
 unfoldable pub open_composite : Limits → ℕ → Attributes → Builder → Outcome
@@ -175,16 +173,12 @@ open_enum l place a b =
     and_then (now_enum (Some (next_position b)))
     (added l place (plain_item an_enum 0 (text_in a "name") (text_in a "encodingType") 0) b)
 
--- the collected text is emptied; in a current enum a value is added, empty for now, and text is
--- collected from here on
-abbrev pub value_to : Limits → ℕ → Attributes → Option ℕ → Builder → Outcome
-value_to l place a None b = on (with_text b.collecting [] b)
-value_to l place a (Some e) b =
-    and_then (with_text true []) (added l place (plain_item a_value e (text_in a "name") [] 0) b)
-
--- validValue: by the current enum
+-- validValue: the collected text is emptied; in a current enum a value is added, empty for now, and
+-- text is collected from here on
 unfoldable pub open_value : Limits → ℕ → Attributes → Builder → Outcome
-open_value l place a b = value_to l place a b.current.enum b
+open_value l place a b =
+    if_current b.current.enum (with_text b.collecting [] b) (λ e.
+    and_then (with_text true []) (added l place (plain_item a_value e (text_in a "name") [] 0) b))
 
 -- message: added, and current from now on
 unfoldable pub open_message : Limits → ℕ → Attributes → Builder → Outcome
@@ -193,17 +187,13 @@ open_message l place a b =
     and_then (now_message (Some (next_position b)))
     (added l place (plain_item a_message 0 (text_in a "name") [] id) b))
 
--- a group of the current message, and current from now on; dropped without a message
-abbrev pub group_to : Limits → ℕ → Attributes → ℕ → Option ℕ → Builder → Outcome
-group_to l place a id None b = on b
-group_to l place a id (Some m) b =
-    and_then (now_group (Some (next_position b)))
-    (added l place (plain_item a_group m (text_in a "name") [] id) b)
-
--- group: by the current message; its id is read in any case
+-- group: of the current message, and current from now on; without a message only its id is read
 unfoldable pub open_group : Limits → ℕ → Attributes → Builder → Outcome
 open_group l place a b =
-    with_number place (number_in a "id") (λ id. group_to l place a id b.current.message b)
+    with_number place (number_in a "id") (λ id.
+    if_current b.current.message b (λ m.
+    and_then (now_group (Some (next_position b)))
+    (added l place (plain_item a_group m (text_in a "name") [] id) b)))
 
 -- a field of an owner
 abbrev pub field_under : Limits → ℕ → Attributes → ℕ → ℕ → Builder → Outcome
@@ -217,15 +207,11 @@ field_in l place a id m (Some g) b =
     pick (eqb (item_at b.schema g).owner m) (field_under l place a id g b)
     (refused (MisplacedField place))
 
--- dropped if no message is current
-abbrev pub field_to : Limits → ℕ → Attributes → ℕ → Option ℕ → Builder → Outcome
-field_to l place a id None b = on b
-field_to l place a id (Some m) b = field_in l place a id m b.current.group b
-
--- field: by the current message; its id is read in any case
+-- field: by the current message; without one only its id is read
 unfoldable pub open_field : Limits → ℕ → Attributes → Builder → Outcome
 open_field l place a b =
-    with_number place (number_in a "id") (λ id. field_to l place a id b.current.message b)
+    with_number place (number_in a "id") (λ id.
+    if_current b.current.message b (λ m. field_in l place a id m b.current.group b))
 
 -- by element
 abbrev pub open_by : Element → Limits → ℕ → Bool → Attributes → Builder → Outcome

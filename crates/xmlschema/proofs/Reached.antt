@@ -13,8 +13,8 @@ use Rattle.texts.specs.Text.{ascii, same}
 use Rattle.texts.proofs.Choosing.{by-test}
 use Rattle.texts.proofs.Comparing.{same-equal}
 use Rattle.saxlite.specs.Event.{Event, Events, text, opens, closes, next}
-use Rattle.model.specs.Schema.{Item, Schema, no_item, item_at, positions_from, under, last, a_value, a_type, a_member, a_ref, a_composite, an_enum, a_message, a_group, a_field}
-use Rattle.builder.specs.Builder.{Builder, Outcome, on, refused, Attributes, text_in, number_in, with_stack, with_text, with_schema, with_items, with_second, now_composite, now_enum, now_message, now_group, next_position, added, and_then, with_number, type_item, plain_item, open_schema, member_to, open_type, ref_to, open_ref, open_composite, open_enum, value_to, open_value, open_message, group_to, open_group, field_under, field_in, field_to, open_field, open_by, opened, top, rest, with_second_at, value_of_enum, close_value, close_by, closed, collect}
+use Rattle.model.specs.Schema.{Item, Schema, no_item, item_at, positions_from, under, last, a_value}
+use Rattle.builder.specs.Builder.{if_current, Builder, Outcome, on, refused, Attributes, text_in, number_in, with_stack, with_text, with_schema, with_items, with_second, now_composite, now_enum, now_message, now_group, next_position, added, and_then, with_number, plain_item, open_schema, open_type, open_ref, open_composite, open_enum, open_value, open_message, open_group, field_in, open_field, open_by, opened, top, rest, with_second_at, value_of_enum, close_value, close_by, closed, collect}
 use Rattle.xmlschema.specs.Whole.{step, empty}
 use Rattle.xmlschema.specs.Tracking.{Reached, start, further, HasValue, ValuesFound}
 use Rattle.builder.specs.Limits.{Limits}
@@ -137,6 +137,10 @@ module _ (P : Builder → Type 0) where
   holds-number place None k h = tt
   holds-number place (Some n) k h = h n
 
+  holds-current : (o : Option ℕ) (b : Builder) (k : ℕ → Outcome) → P b → ((n : ℕ) → Holds P (k n)) → Holds P (if_current o b k)
+  holds-current None b k p h = p
+  holds-current (Some n) b k p h = h n
+
   holds-pick : (t : Bool) (x y : Outcome) → Holds P x → Holds P y → Holds P (pick t x y)
   holds-pick true x y f g = f
   holds-pick false x y f g = g
@@ -149,92 +153,67 @@ module _ (P : Builder → Type 0) where
   holds_then Q f (on b) h q = h b q
   holds_then Q f (refused r) h q = tt
 
--- one more item keeps it
-track-added : (l : Limits) (place : ℕ) (it : Item) (b : Builder) → Tracked b → Holds Tracked (added l place it b)
-track-added l place it b T = holds-added Tracked l place it b (record { has = λ e q o. has_more e b.schema.items (it ∷ []) (T.has e q o) })
+module _ (l : Limits) (place : ℕ) (a : Attributes) (b : Builder) where
+  -- one more item keeps it
+  track-added : (it : Item) → Tracked b → Holds Tracked (added l place it b)
+  track-added it T = holds-added Tracked l place it b (record { has = λ e q o. has_more e b.schema.items (it ∷ []) (T.has e q o) })
 
--- and so does an item that is made current, where it is no enum
-module _ (l : Limits) (place : ℕ) (it : Item) (b : Builder) (T : Tracked b) (x : Option ℕ) where
-  track-composite : Holds Tracked (and_then (now_composite x) (added l place it b))
-  track-composite = holds_then Tracked Tracked (now_composite x) (added l place it b) (λ c t. record { has = t.has }) (track-added l place it b T)
+  -- and so does what follows, where it changes neither enum, stack nor schema
+  track-then : (f : Builder → Builder) → ((c : Builder) → Tracked c → Tracked (f c)) → (it : Item) → Tracked b → Holds Tracked (and_then f (added l place it b))
+  track-then f h it T = holds_then Tracked Tracked f (added l place it b) h (track-added it T)
 
-  track-message : Holds Tracked (and_then (now_message x) (added l place it b))
-  track-message = holds_then Tracked Tracked (now_message x) (added l place it b) (λ c t. record { has = t.has }) (track-added l place it b T)
+  track-field : (id m : ℕ) (o : Option ℕ) → Tracked b → Holds Tracked (field_in l place a id m o b)
+  track-field id m None T = track-added _ T
+  track-field id m (Some g) T = holds-pick Tracked (eqb (item_at b.schema g).owner m) _ _ (track-added _ T) tt
 
-  track-group : Holds Tracked (and_then (now_group x) (added l place it b))
-  track-group = holds_then Tracked Tracked (now_group x) (added l place it b) (λ c t. record { has = t.has }) (track-added l place it b T)
+  -- a new enum: no validValue stands above it
+  track-enum : owed b.stack ≡ false → Holds Tracked (open_enum l place a b)
+  unfolding open_enum
+  track-enum f =
+      holds_then Tracked (λ c. owed c.stack ≡ false) (now_enum (Some (next_position b))) (added l place _ b)
+      (λ c g. record { has = λ e q o. absurd (never (sym g ∙ o)) })
+      (holds-added (λ c. owed c.stack ≡ false) l place _ b f)
 
-track-schema : (place : ℕ) (a : Attributes) (b : Builder) → Tracked b → Holds Tracked (open_schema place a b)
-unfolding open_schema
-track-schema place a b T = holds-number Tracked place (number_in a "id") _ (λ id. holds-number Tracked place (number_in a "version") _ (λ version. record { has = T.has }))
-
-track-member : (l : Limits) (place : ℕ) (a : Attributes) (n : ℕ) (o : Option ℕ) (b : Builder) → Tracked b → Holds Tracked (member_to l place a n o b)
-track-member l place a n None b T = T
-track-member l place a n (Some c) b T = track-added l place (type_item a_member c a n) b T
-
-track-type : (l : Limits) (place : ℕ) (inside : Bool) (a : Attributes) (b : Builder) → Tracked b → Holds Tracked (open_type l place inside a b)
-unfolding open_type
-track-type l place inside a b T =
-    holds-number Tracked place (number_in a "length") _
-    (λ n. holds-pick Tracked inside (member_to l place a n b.current.composite b) (added l place (type_item a_type 0 a n) b) (track-member l place a n b.current.composite b T) (track-added l place (type_item a_type 0 a n) b T))
-
-track-ref : (l : Limits) (place : ℕ) (a : Attributes) (o : Option ℕ) (b : Builder) → Tracked b → Holds Tracked (ref_to l place a o b)
-track-ref l place a None b T = T
-track-ref l place a (Some c) b T = track-added l place (plain_item a_ref c (text_in a "name") (text_in a "type") 0) b T
-
-track-group-to : (l : Limits) (place : ℕ) (a : Attributes) (id : ℕ) (o : Option ℕ) (b : Builder) → Tracked b → Holds Tracked (group_to l place a id o b)
-track-group-to l place a id None b T = T
-track-group-to l place a id (Some m) b T = track-group l place (plain_item a_group m (text_in a "name") [] id) b T (Some (next_position b))
-
-track-field-in : (l : Limits) (place : ℕ) (a : Attributes) (id m : ℕ) (o : Option ℕ) (b : Builder) → Tracked b → Holds Tracked (field_in l place a id m o b)
-track-field-in l place a id m None b T = track-added l place (plain_item a_field m (text_in a "name") (text_in a "type") id) b T
-track-field-in l place a id m (Some g) b T =
-    holds-pick Tracked (eqb (item_at b.schema g).owner m) (field_under l place a id g b) (refused _) (track-added l place (plain_item a_field g (text_in a "name") (text_in a "type") id) b T) tt
-
-track-field-to : (l : Limits) (place : ℕ) (a : Attributes) (id : ℕ) (o : Option ℕ) (b : Builder) → Tracked b → Holds Tracked (field_to l place a id o b)
-track-field-to l place a id None b T = T
-track-field-to l place a id (Some m) b T = track-field-in l place a id m b.current.group b T
-
--- a new enum: no validValue stands above it
-track-enum : (l : Limits) (place : ℕ) (a : Attributes) (b : Builder) → owed b.stack ≡ false → Holds Tracked (open_enum l place a b)
-unfolding open_enum
-track-enum l place a b f =
-    let it : Item = plain_item an_enum 0 (text_in a "name") (text_in a "encodingType") 0 in
-    holds_then Tracked (λ c. owed c.stack ≡ false) (now_enum (Some (next_position b))) (added l place it b)
-    (λ c g. record { has = λ e q o. absurd (never (sym g ∙ o)) })
-    (holds-added (λ c. owed c.stack ≡ false) l place it b f)
-
--- a new validValue: its value is added to the current enum
-track-value : (l : Limits) (place : ℕ) (a : Attributes) (b : Builder) (o : Option ℕ) → b.current.enum ≡ o → Holds Tracked (value_to l place a o b)
-track-value l place a b None q = record { has = λ e r o. absurd (let z : ◌≡◌ {A = Option ℕ} None (Some e) = sym q ∙ r in let y : ◌≡◌ {A = ℕ} 0 1 = cc in omega arith) }
-track-value l place a b (Some e) q =
-    let it : Item = plain_item a_value e (text_in a "name") [] 0 in
-    holds_then Tracked Tracked (with_text true []) (added l place it b)
-    (λ c t. record { has = t.has })
-    (holds-added Tracked l place it b (record { has = λ d r o. has_new d b.schema.items it (let z : e ≡ d = cc in eq-eqb e d z) }))
+  -- a new validValue: its value is added to the current enum
+  track-value : (o : Option ℕ) → b.current.enum ≡ o → Holds Tracked (if_current o (with_text b.collecting [] b) (λ e. and_then (with_text true []) (added l place (plain_item a_value e (text_in a "name") [] 0) b)))
+  track-value None q = record { has = λ e r o. absurd (let z : ◌≡◌ {A = Option ℕ} None (Some e) = sym q ∙ r in let y : ◌≡◌ {A = ℕ} 0 1 = cc in omega arith) }
+  track-value (Some e) q =
+      let it : Item = plain_item a_value e (text_in a "name") [] 0 in
+      holds_then Tracked Tracked (with_text true []) (added l place it b)
+      (λ c t. record { has = t.has })
+      (holds-added Tracked l place it b (record { has = λ d r o. has_new d b.schema.items it (let z : e ≡ d = cc in eq-eqb e d z) }))
 
 module _ (l : Limits) (place : ℕ) (name : List ℕ) (a : Attributes) (b : Builder) (T : Tracked b) where
+  abbrev inner : Builder
+  inner = with_stack (name ∷ b.stack) b
+
   track-open : Holds Tracked (opened l place name a b)
-  unfolding opened owed tell open_ref open_composite open_value open_message open_group open_field
-  track-open =
-      holds-pick Tracked (leb l.depth (length b.stack)) (refused _) (open_by (element_of name) l place (same (top b.stack) (ascii "composite")) a (with_stack (name ∷ b.stack) b)) tt
-      (go (element_of name) refl (same (top b.stack) (ascii "composite")))
+  unfolding opened owed tell open_schema open_type open_ref open_composite open_value open_message open_group open_field
+  track-open = holds-pick Tracked (leb l.depth (length b.stack)) _ _ tt (go (element_of name) refl (same (top b.stack) (ascii "composite")))
     where
       -- an element that is neither an enum nor a validValue
-      plain : ((o : Bool) → tell (element_of name) o ≡ o) → Tracked (with_stack (name ∷ b.stack) b)
+      plain : ((o : Bool) → tell (element_of name) o ≡ o) → Tracked inner
       plain f = record { has = λ e q o. T.has e q (sym (f (owed b.stack)) ∙ o) }
 
-      go : (x : Element) → element_of name ≡ x → (inside : Bool) → Holds Tracked (open_by x l place inside a (with_stack (name ∷ b.stack) b))
-      go element.MessageSchema q inside = track-schema place a (with_stack (name ∷ b.stack) b) (plain (λ o. rw q))
-      go element.Type q inside = track-type l place inside a (with_stack (name ∷ b.stack) b) (plain (λ o. rw q))
-      go element.Ref q inside = track-ref l place a b.current.composite (with_stack (name ∷ b.stack) b) (plain (λ o. rw q))
-      go element.Composite q inside = track-composite l place (plain_item a_composite 0 (text_in a "name") [] 0) (with_stack (name ∷ b.stack) b) (plain (λ o. rw q)) (Some (next_position b))
-      go element.Enum q inside = track-enum l place a (with_stack (name ∷ b.stack) b) (rw q)
-      go element.ValidValue q inside = track-value l place a (with_stack (name ∷ b.stack) b) b.current.enum refl
-      go element.Message q inside =
-          holds-number Tracked place (number_in a "id") _ (λ id. track-message l place (plain_item a_message 0 (text_in a "name") [] id) (with_stack (name ∷ b.stack) b) (plain (λ o. rw q)) (Some (next_position b)))
-      go element.Group q inside = holds-number Tracked place (number_in a "id") _ (λ id. track-group-to l place a id b.current.message (with_stack (name ∷ b.stack) b) (plain (λ o. rw q)))
-      go element.Field q inside = holds-number Tracked place (number_in a "id") _ (λ id. track-field-to l place a id b.current.message (with_stack (name ∷ b.stack) b) (plain (λ o. rw q)))
+      go : (x : Element) → element_of name ≡ x → (inside : Bool) → Holds Tracked (open_by x l place inside a inner)
+      go element.MessageSchema q inside =
+          let t : Tracked inner = plain (λ o. rw q) in
+          holds-number Tracked place (number_in a "id") _ (λ id. holds-number Tracked place (number_in a "version") _ (λ version. record { has = t.has }))
+      go element.Type q inside =
+          let t : Tracked inner = plain (λ o. rw q) in
+          holds-number Tracked place (number_in a "length") _ (λ n. holds-pick Tracked inside _ _ (holds-current Tracked b.current.composite inner _ t (λ c. track-added l place a inner _ t)) (track-added l place a inner _ t))
+      go element.Ref q inside = let t : Tracked inner = plain (λ o. rw q) in holds-current Tracked b.current.composite inner _ t (λ c. track-added l place a inner _ t)
+      go element.Composite q inside = track-then l place a inner (now_composite (Some (next_position b))) (λ c t. record { has = t.has }) _ (plain (λ o. rw q))
+      go element.Enum q inside = track-enum l place a inner (rw q)
+      go element.ValidValue q inside = track-value l place a inner b.current.enum refl
+      go element.Message q inside = holds-number Tracked place (number_in a "id") _ (λ id. track-then l place a inner (now_message (Some (next_position b))) (λ c t. record { has = t.has }) _ (plain (λ o. rw q)))
+      go element.Group q inside =
+          let t : Tracked inner = plain (λ o. rw q) in
+          holds-number Tracked place (number_in a "id") _
+          (λ id. holds-current Tracked b.current.message inner _ t (λ m. track-then l place a inner (now_group (Some (next_position b))) (λ c u. record { has = u.has }) _ t))
+      go element.Field q inside =
+          let t : Tracked inner = plain (λ o. rw q) in
+          holds-number Tracked place (number_in a "id") _ (λ id. holds-current Tracked b.current.message inner _ t (λ m. track-field l place a inner id m b.current.group t))
       go element.Other q inside = plain (λ o. rw q)
 
 -- ---- close

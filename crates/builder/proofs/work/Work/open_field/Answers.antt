@@ -1,8 +1,10 @@
-use Rattle.builder.proofs.Numbering.{field-refused, field-dropped, field-message, field-misplaced, field-group}
+use Rattle.builder.specs.Builder.{open_field}
+use Rattle.builder.proofs.Opening.{refused-by, field-dropped, field-message, field-misplaced, field-group}
 use Rattle.builder.proofs.work.Work.open_field.Goals as goal
 
 pub returns-in_err-id : goal.returns-in_err-id
-returns-in_err-id c = field-refused c.requires c.found-found.ensures c.number.ensures c.in_err-id.was c.from_residual.ensures.1
+unfolding open_field
+returns-in_err-id c = refused-by c.requires c.found-found.ensures c.number.ensures c.in_err-id.was c.from_residual.ensures.1 _
 
 pub returns-in_default : goal.returns-in_default
 returns-in_default c = field-dropped c.requires c.found-found.ensures c.number.ensures c.in_ok-id.was c.in_default.is

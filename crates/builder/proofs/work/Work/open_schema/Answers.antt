@@ -1,8 +1,11 @@
-use Rattle.builder.proofs.Dispatching.{package-asked, id-refused, version-refused, schema-on}
+use Rattle.builder.specs.Builder.{open_schema}
+use Rattle.builder.proofs.Opening.{refused-by}
+use Rattle.builder.proofs.Dispatching.{package-asked, version-refused, schema-on}
 use Rattle.builder.proofs.work.Work.open_schema.Goals as goal
 
 pub returns-in_err-id : goal.returns-in_err-id
-returns-in_err-id c = id-refused c.requires c.found-found.ensures c.number.ensures c.in_err-id.was c.from_residual.ensures.1
+unfolding open_schema
+returns-in_err-id c = refused-by c.requires c.found-found.ensures c.number.ensures c.in_err-id.was c.from_residual.ensures.1 _
 
 pub returns-in_err-version : goal.returns-in_err-version
 returns-in_err-version c = version-refused c.requires c.found-found.ensures c.number.ensures c.in_ok-id.was c.number-2.ensures c.in_err-version.was c.from_residual-in_err-version.ensures.1
