@@ -1,5 +1,5 @@
 //! Prints the wire sheet of a schema as lines (specs/Sheet.antt).
-#![tactic(auto, using(crate::proofs::Sheets::lines))]
+#![tactic(auto, unfolding(crate::proofs::Sheets::on_lines), using(crate::proofs::Sheets::lines))]
 
 ghost use Rattle.std.specs.Prelude.{[]};
 ghost use Rattle.texts.specs.Choice.{pick};
@@ -29,6 +29,7 @@ use xmltoproto::walk::{ItemText, write_all, write_under};
 // ---- kinds
 
 /// Writes the kind of a primitive with a length, 0 if absent, and an encoding.
+#[tactic(auto, unfolding(crate::specs::Sheet::kind_of, crate::specs::Sheet::kind_shown, xmltoproto::specs::Types::is_char, xmltoproto::specs::Types::chars, xmltoproto::specs::Types::is_raw, xmltoproto::specs::Types::is_byte), using(crate::proofs::Sheets::lines))]
 fn write_kind(out: &mut Output<'_>, primitive: &[u8], size: u32, encoding: &[u8])
     ensures { Wrote out.old out.new (kind_shown (kind_of (form primitive.now size encoding.now))) }
 {
@@ -58,6 +59,7 @@ fn write_named(out: &mut Output<'_>, name: &[u8])
 }
 
 /// Writes the kind of the type or member at `i`.
+#[tactic(auto, unfolding(xmltoproto::specs::Types::form_of), using(crate::proofs::Sheets::lines))]
 fn write_own_kind(out: &mut Output<'_>, s: &Index<'_>, i: u32)
     ensures { Wrote out.old out.new (kind_shown (kind_of (form_of (item_at s.now i)))) }
 {
@@ -67,6 +69,7 @@ fn write_own_kind(out: &mut Output<'_>, s: &Index<'_>, i: u32)
 }
 
 /// Writes the kind that the type name of the field at `i` stands for.
+#[tactic(auto, unfolding(crate::specs::Sheet::field_of, xmltoproto::specs::Types::built_in), using(crate::proofs::Sheets::lines))]
 fn write_field_kind(out: &mut Output<'_>, s: &Index<'_>, i: u32)
     ensures { Wrote out.old out.new (kind_shown (field_of s.now (item_at s.now i)).kind) }
 {
@@ -88,7 +91,6 @@ fn write_field_kind(out: &mut Output<'_>, s: &Index<'_>, i: u32)
 /// The line of an enum's value.
 struct ValueLine;
 
-#[tactic(auto, unfolding(crate::specs::Sheet::shown, crate::specs::Sheet::value_of, crate::specs::internal::SheetLines::value_shown), using(crate::proofs::Sheets::lines))]
 impl ItemText for ValueLine {
     ghost text = { λ t s i. value_shown (value_of (item_at s i)) };
 
@@ -104,7 +106,6 @@ impl ItemText for ValueLine {
 /// An enum: its line, and those of its values.
 struct EnumLines;
 
-#[tactic(auto, unfolding(crate::specs::Sheet::shown, crate::specs::Sheet::value_of, crate::specs::Sheet::enum_of, crate::specs::Sheet::enum_shown, crate::specs::internal::SheetLines::value_shown), using(crate::proofs::Sheets::lines))]
 impl ItemText for EnumLines {
     ghost text = { λ t s i. enum_shown (enum_of s i) };
 
@@ -121,7 +122,6 @@ impl ItemText for EnumLines {
 /// The line of a member.
 struct MemberLine;
 
-#[tactic(auto, unfolding(crate::specs::Sheet::shown, crate::specs::Sheet::member_of, crate::specs::internal::SheetLines::part_shown), using(crate::proofs::Sheets::lines))]
 impl ItemText for MemberLine {
     ghost text = { λ t s i. part_shown (member_of (item_at s i)) };
 
@@ -137,7 +137,6 @@ impl ItemText for MemberLine {
 /// The line of a ref.
 struct RefLine;
 
-#[tactic(auto, unfolding(crate::specs::Sheet::shown, crate::specs::Sheet::ref_of, crate::specs::internal::SheetLines::part_shown), using(crate::proofs::Sheets::lines))]
 impl ItemText for RefLine {
     ghost text = { λ t s i. part_shown (ref_of (item_at s i)) };
 
@@ -151,7 +150,6 @@ impl ItemText for RefLine {
 }
 
 /// Writes the line of a composite, and those of its members and refs.
-#[tactic(auto, unfolding(crate::specs::Sheet::shown, crate::specs::Sheet::member_of, crate::specs::Sheet::ref_of, crate::specs::Sheet::composite_of, crate::specs::Sheet::composite_shown, crate::specs::internal::SheetLines::part_shown), using(crate::proofs::Sheets::lines))]
 fn write_composite(out: &mut Output<'_>, s: &Index<'_>, i: u32)
     ensures { Wrote out.old out.new (composite_shown (composite_of s.now i)) }
 {
@@ -180,7 +178,6 @@ impl ItemText for CompositeLines {
 /// The line of a field.
 struct FieldLine;
 
-#[tactic(auto, unfolding(crate::specs::Sheet::shown, crate::specs::Sheet::field_of, crate::specs::Sheet::field_shown), using(crate::proofs::Sheets::lines))]
 impl ItemText for FieldLine {
     ghost text = { λ t s i. field_shown (field_of s (item_at s i)) };
 
@@ -197,7 +194,6 @@ impl ItemText for FieldLine {
 }
 
 /// Writes the line of a group, without its fields.
-#[tactic(auto, unfolding(crate::specs::Sheet::shown, crate::specs::internal::SheetLines::group_line), using(crate::proofs::Sheets::lines))]
 fn write_group_line(out: &mut Output<'_>, s: &Index<'_>, i: u32)
     ensures { Wrote out.old out.new (group_line s.now i) }
 {
@@ -214,7 +210,6 @@ fn write_group_line(out: &mut Output<'_>, s: &Index<'_>, i: u32)
 /// A group: its line, its fields, and `end`.
 struct GroupLines;
 
-#[tactic(auto, unfolding(crate::specs::Sheet::shown, crate::specs::Sheet::group_of, crate::specs::Sheet::group_shown, crate::specs::internal::SheetLines::group_line), using(crate::proofs::Sheets::lines))]
 impl ItemText for GroupLines {
     ghost text = { λ t s i. group_shown (group_of s i) };
 
@@ -228,7 +223,6 @@ impl ItemText for GroupLines {
 /// A message: its line, its fields, and its groups.
 struct MessageLines;
 
-#[tactic(auto, unfolding(crate::specs::Sheet::shown, crate::specs::Sheet::message_of, crate::specs::Sheet::message_shown), using(crate::proofs::Sheets::lines))]
 impl ItemText for MessageLines {
     ghost text = { λ t s i. message_shown (message_of s i) };
 
@@ -246,7 +240,6 @@ impl ItemText for MessageLines {
 // ---- the whole sheet
 
 /// Writes the line of package, id and version.
-#[tactic(auto, unfolding(crate::specs::Sheet::shown, crate::specs::internal::SheetLines::schema_line), using(crate::proofs::Sheets::lines))]
 fn write_schema_line(out: &mut Output<'_>, s: &Index<'_>)
     ensures { Wrote out.old out.new (schema_line s.now) }
 {

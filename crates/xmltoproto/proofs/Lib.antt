@@ -1,7 +1,6 @@
 -- Trials of the definitions, and the laws of the functions.
 pub mod Trials
 pub mod Typing
-pub mod Laying
 pub mod Outputs
 pub mod Looping
 pub mod Lengths
@@ -14,5 +13,4 @@ pub mod Refusals
 pub mod Arrayless
 pub mod Generating
 pub mod Converting
-pub mod Laws
 pub mod Digits

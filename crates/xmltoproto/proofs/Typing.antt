@@ -1,88 +1,14 @@
--- Laws of how a type prints and of what a type name stands for.
-use Rattle.std.proofs.Common.{◌≡◌, refl, sym, ap, ◌∙◌, Bool, true, false, List, [], ◌∷◌, Option, Some, None, is_some, ℕ, ◌≤◌, ◌<◌, lt-ltb, le-ltb}
+-- Laws of what a type name stands for, by what it is declared as.
+use Rattle.std.proofs.Common.{◌≡◌, refl, sym, ap, ◌∙◌, Bool, true, false, List, [], Option, Some, None, is_some, ℕ}
 use Rattle.texts.specs.Choice.{pick, ◌or◌}
 use Rattle.texts.specs.Text.{ascii, same}
 use Rattle.texts.specs.Lists.{among}
 use Rattle.texts.proofs.Comparing.{same-equal}
-use Rattle.charsets.specs.Charset.{compatible}
 use Rattle.model.specs.Schema.{Schema, item_at, last_named, a_type, a_composite, an_enum}
 use Rattle.index.specs.Declarations.{declared_by, declaration_of}
 use Rattle.index.specs.declared.seen.Declaration.{Declaration}
 use Rattle.index.specs.declared.seen.Declaration.TheVariants.{Named, Typed}
-use Rattle.xmltoproto.specs.Types.{built_ins, built_in, chars, is_char, is_byte, is_raw, as_named, of_length, narrow, as_primitive, proto_of, Meaning, declared, typed, form, form_of, is_declared, type_or, meaning}
-use Rattle.xmltoproto.specs.internal.Shapes.{proto_in}
-use Rattle.xmltoproto.specs.declared.types.Shape.{Shape}
-use Rattle.xmltoproto.specs.declared.types.Shape.TheVariants as shape
-
--- ---- lengths
-
-module _ (n : ℕ) where
-  pub chars-given : 0 < n → n ≡ chars (form [] n [])
-  unfolding chars
-  chars-given h = rw (lt-ltb 0 n h)
-
-  pub chars-absent : n ≤ 0 → 1 ≡ chars (form [] n [])
-  unfolding chars
-  chars-absent h = rw (le-ltb 0 n h)
-
-pub byte-told : (p : List ℕ) {b : Bool} → b ≡ among p (ascii "uint8" ∷ ascii "int8" ∷ []) → b ≡ is_byte (form p 0 [])
-unfolding is_byte
-byte-told p e = e
-
-module _ (p : List ℕ) (n : ℕ) where
-  pub raw-short : n ≤ 1 → false ≡ is_raw (form p n [])
-  unfolding is_raw
-  raw-short h = rw (le-ltb 1 n h)
-
-  pub raw-long : 1 < n → {b : Bool} → b ≡ is_byte (form p 0 []) → b ≡ is_raw (form p n [])
-  unfolding is_raw is_byte
-  raw-long h e = rw (lt-ltb 1 n h) e
-
-module _ (p : List ℕ) {a : Bool} (ea : a ≡ same p (ascii "char")) where
-  pub char-first : a ≡ true → true ≡ (is_char (form p 0 []) or is_byte (form p 0 []))
-  unfolding is_char
-  char-first t = rw (← ea, t)
-
-  pub byte-next : a ≡ false → {b : Bool} → b ≡ is_byte (form p 0 []) → b ≡ (is_char (form p 0 []) or is_byte (form p 0 []))
-  unfolding is_char
-  byte-next t e = rw (← ea, t) e
-
--- ---- primitives
-
-module _ (p : List ℕ) {a : Bool} (ea : a ≡ among p (ascii "int8" ∷ ascii "int16" ∷ [])) where
-  pub shape-signed : a ≡ true → (e : List ℕ) → proto_in shape.Signed p e ≡ as_primitive p
-  unfolding as_primitive narrow
-  shape-signed t e = rw (← ea, t)
-
-  module _ (fa : a ≡ false) {b : Bool} (eb : b ≡ among p (ascii "uint8" ∷ ascii "uint16" ∷ [])) where
-    pub shape-unsigned : b ≡ true → (e : List ℕ) → proto_in shape.Unsigned p e ≡ as_primitive p
-    unfolding as_primitive narrow
-    shape-unsigned t e = rw (← ea, fa, ← eb, t)
-
-    pub shape-plain : b ≡ false → (e : List ℕ) → proto_in shape.Plain p e ≡ as_primitive p
-    unfolding as_primitive as_named
-    shape-plain t e = rw (← ea, fa, ← eb, t)
-
--- ---- the shape of a form
-
-module _ (p : List ℕ) (n : ℕ) (e : List ℕ) {a : Bool} (ea : a ≡ same p (ascii "char")) where
-  module _ (ta : a ≡ true) {k : ℕ} (ek : k ≡ chars (form [] n [])) {c : Bool} (ec : c ≡ compatible e) where
-    pub shape-text : c ≡ true → proto_in (shape.Text k) p e ≡ proto_of (form p n e)
-    unfolding proto_of is_char of_length chars
-    shape-text t = rw (← ea, ta, ← ec, t, ← ek)
-
-    pub shape-foreign : c ≡ false → proto_in (shape.Foreign k) p e ≡ proto_of (form p n e)
-    unfolding proto_of is_char of_length chars
-    shape-foreign t = rw (← ea, ta, ← ec, t, ← ek)
-
-  module _ (fa : a ≡ false) {b : Bool} (eb : b ≡ is_raw (form p n [])) where
-    pub shape-raw : b ≡ true → proto_in (shape.Raw n) p e ≡ proto_of (form p n e)
-    unfolding proto_of is_char of_length is_raw is_byte
-    shape-raw t = rw (← ea, fa, ← eb, t)
-
-    pub shape-primitive : b ≡ false → (r : Shape) → ((e : List ℕ) → proto_in r p e ≡ as_primitive p) → proto_in r p e ≡ proto_of (form p n e)
-    unfolding proto_of is_char is_raw is_byte
-    shape-primitive t r h = rw (← ea, fa, ← eb, t) (h e)
+use Rattle.xmltoproto.specs.Types.{built_ins, built_in, is_char, is_raw, as_named, as_primitive, proto_of, Meaning, declared, typed, unknown, form, form_of, is_declared, type_or, meaning}
 
 -- ---- a type name
 
@@ -122,5 +48,17 @@ declared-means s name = go (last_named an_enum name s) (last_named a_composite n
     go None None (Some i) = refl
     go None None None = refl
 
-pub means : (s : Schema) (name : List ℕ) {d : Option Declaration} → d ≡ declaration_of s name → declared_so s name d ≡ meaning s name
-means s name e = ap (declared_so s name) e ∙ declared-means s name
+module _ (s : Schema) (name : List ℕ) {d : Option Declaration} (ed : d ≡ declaration_of s name) where
+  means : {c : Option Declaration} → d ≡ c → meaning s name ≡ declared_so s name c
+  means f = sym (ap (declared_so s name) (sym f ∙ ed) ∙ declared-means s name)
+
+  pub means-named : d ≡ Some Named → meaning s name ≡ declared
+  means-named f = means f
+
+  pub means-typed : {i : ℕ} → d ≡ Some (Typed i) → meaning s name ≡ typed (form_of (item_at s i))
+  means-typed f = means f
+
+  pub means-nothing : d ≡ None → meaning s name ≡ pick (among name built_ins) (typed (built_in name)) unknown
+  means-nothing f = means f
+
+pub ruleset meanings = (means-named, means-typed, means-nothing)

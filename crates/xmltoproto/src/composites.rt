@@ -19,6 +19,7 @@ use printing::Output;
 use texts::equal;
 
 /// Writes the line of the member at `i`.
+#[tactic(auto, unfolding(crate::specs::Source::member_text), using(printing::proofs::Writing::writing))]
 fn write_member(out: &mut Output<'_>, s: &Index<'_>, i: u32, number: u32)
     ensures { Wrote out.old out.new (member_text number (item_at s.now i)) }
 {
@@ -26,6 +27,7 @@ fn write_member(out: &mut Output<'_>, s: &Index<'_>, i: u32, number: u32)
 }
 
 /// Writes the line of the ref at `i`.
+#[tactic(auto, unfolding(crate::specs::Source::ref_text, crate::specs::Types::as_named), using(printing::proofs::Writing::writing))]
 fn write_ref(out: &mut Output<'_>, s: &Index<'_>, i: u32, number: u32)
     ensures { Wrote out.old out.new (ref_text number (item_at s.now i)) }
 {
@@ -60,6 +62,7 @@ fn write_refs(out: &mut Output<'_>, s: &Index<'_>, c: u32, members: u32)
 }
 
 /// Writes the lines of members and refs.
+#[tactic(auto, unfolding(crate::specs::Source::part_texts), using(printing::proofs::Writing::writing))]
 fn write_parts(out: &mut Output<'_>, s: &Index<'_>, c: u32)
     ensures { Wrote out.old out.new (part_texts s.now c) }
 {
@@ -80,6 +83,7 @@ fn write_composite(out: &mut Output<'_>, s: &Index<'_>, c: u32)
 }
 
 /// Whether the composite at `c` is printed: all are but messageHeader and groupSizeEncoding.
+#[tactic(auto, unfolding(crate::specs::Composites::is_printed), using(printing::proofs::Writing::writing))]
 pub fn is_printed(v: &View<'_>, c: u32) -> bool
     ensures { result ≡ is_printed (item_at v.now c) }
 {

@@ -200,6 +200,7 @@ pub fn write_line(
 }
 
 /// Writes the line of the type or member at `i`, under the given name and number.
+#[tactic(auto, unfolding(crate::specs::Types::form_of), using(printing::proofs::Writing::writing))]
 #[inline(always)]
 pub fn write_typed(
     out: &mut Output<'_>,

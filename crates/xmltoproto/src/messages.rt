@@ -28,6 +28,7 @@ fn write_undeclared(out: &mut Output<'_>, deep: bool, type_name: &[u8], name: &[
 
 /// Writes the line of the item at `i` by `Index::declared`. Out of line: this is only for an item
 /// that is no field, or a schema that the index does not hold.
+#[tactic(auto, unfolding(crate::specs::Source::field_text, crate::specs::Types::as_named), using(crate::proofs::Typing::meanings))]
 #[cold]
 #[inline(never)]
 fn write_unsettled(out: &mut Output<'_>, s: &Index<'_>, deep: bool, i: u32)
@@ -46,6 +47,7 @@ fn write_unsettled(out: &mut Output<'_>, s: &Index<'_>, deep: bool, i: u32)
 }
 
 /// Writes the line of the field at `i`.
+#[tactic(auto, unfolding(crate::specs::Source::field_text, crate::specs::Types::as_named), using(crate::proofs::Typing::meanings))]
 fn write_field(out: &mut Output<'_>, s: &Index<'_>, deep: bool, i: u32)
     ensures { Wrote out.old out.new (field_text s.now (indent_of deep) (item_at s.now i)) }
 {

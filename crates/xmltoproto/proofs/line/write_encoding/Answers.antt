@@ -1,5 +1,8 @@
-use Rattle.xmltoproto.proofs.Laying.{encoding-printed}
+use Rattle.std.proofs.Common.{append_assoc}
+use Rattle.printing.proofs.Writing.{◌▹◌}
+use Rattle.xmltoproto.specs.internal.Shapes.{encoding_option}
 use Rattle.xmltoproto.proofs.line.write_encoding.Goals as goal
 
 pub returns : goal.returns
-returns c = encoding-printed _ c.text.ensures c.text-2.ensures c.text-3.ensures
+unfolding encoding_option
+returns c = simp append_assoc (simp append_assoc at (c.text.ensures ▹ c.text-2.ensures ▹ c.text-3.ensures))

@@ -1,6 +1,5 @@
--- `search` closes these goals with the set named here, but not through a `tactic` attribute.
-use Rattle.xmltoproto.proofs.Laws.{lines as laws}
+use Rattle.xmltoproto.proofs.Typing.{undeclared-shape}
 use Rattle.xmltoproto.proofs.messages.write_undeclared.Goals as goal
 
 pub returns : goal.returns
-returns c = search laws
+returns c = rw (← undeclared-shape _, ← c.shape_of-shape.ensures) c.write_line.ensures

@@ -1,6 +1,0 @@
--- `search` closes these goals with the set named here, but not through a `tactic` attribute.
-use Rattle.xmltoproto.proofs.Laws.{lines as laws}
-use Rattle.xmltoproto.proofs.composites.write_ref.Goals as goal
-
-pub returns : goal.returns
-returns c = search laws
