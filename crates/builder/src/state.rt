@@ -1,8 +1,8 @@
 //! The builder's state by value. specs/internal/Layout.antt says what lies in the buffers.
-ghost use Rattle.std.specs.Prelude.{◌≡◌};
+ghost use Rattle.std.specs.Prelude.{◌≡◌, ◌≤◌};
 ghost use Rattle.builder.specs.internal.Layout.{first, higher, model_in};
 
-use model::{Head, Model};
+use model::{Count, Head, Model};
 
 /// How many items there may be, and how many elements may be open.
 #[derive(Clone, Copy)]
@@ -78,11 +78,12 @@ impl State {
 
     /// The schema so far, as it lies in the two buffers.
     pub fn model(self) -> Model
+        requires { self.place.count ≤ 1024 }
         ensures { result ≡ model_in self }
     {
         Model {
             head: self.head,
-            count: self.place.count,
+            count: Count::of(self.place.count),
         }
     }
 

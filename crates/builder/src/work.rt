@@ -9,9 +9,9 @@ ghost use Rattle.builder.specs.internal.Taking.{Finds};
 
 use crate::state::{Limits, Place, State};
 use model::word;
+use swar::same_name;
 use tags::tag::{Noted, Notes, noted_of};
 use texts::{equal, part};
-use swar::same_name;
 
 /// The document, and the two buffers for what is read of it: items and open names, and texts.
 #[derive(Drop)]

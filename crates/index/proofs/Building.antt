@@ -23,15 +23,15 @@ mask_low n = by_less 128 n (λ h. let e = mask-many h in omega arith) (λ h. let
 
 module _ (s : Schema) (size : ℕ) where
   pub blank-few : length s.items ≤ 128 → per_item * length s.items + 127 < size → Blank s (replicate size 0)
-  blank-few h fits = record { long = λ _. let q = mask-few {n = length s.items} h in let z = length-replicate {A = ℕ} size 0 in omega arith; zero = zeros size }
+  blank-few h fits = record { long = let q = mask-few {n = length s.items} h in let z = length-replicate {A = ℕ} size 0 in omega arith; zero = zeros size }
 
-  pub blank : (length s.items ≤ 1024 → per_item * length s.items + 1023 < size) → Blank s (replicate size 0)
-  blank fits = record { long = λ most. let f = fits most in let q = mask_low (length s.items) in let z = length-replicate {A = ℕ} size 0 in omega arith; zero = zeros size }
+  pub blank : per_item * length s.items + 1023 < size → Blank s (replicate size 0)
+  blank fits = record { long = let q = mask_low (length s.items) in let z = length-replicate {A = ℕ} size 0 in omega arith; zero = zeros size }
 
 -- ---- names
 
 pub naming-start : (s : Schema) (ix : List ℕ) → Blank s ix → length s.items ≤ 1024 → Naming s 0 ix
-naming-start s ix b most = record { long = b.long most; zero = λ k o _ _. b.zero (per_item * o + 2 + k); chained = chained-start s ix b.zero }
+naming-start s ix b few = record { long = b.long; zero = λ k o _ _. b.zero (per_item * o + 2 + k); chained = chained-start s ix few b.zero }
 
 pub naming-end : (s : Schema) (ix : List ℕ) {i n : ℕ} → Naming s i ix → i ≤ n → n ≡ length s.items → n ≤ i → Naming s (length s.items) ix
 naming-end s ix {i} {n} c a e b = let q : i ≡ length s.items = omega arith in rw q at c
@@ -78,6 +78,12 @@ settling-untold r c e = rw e at c
 pub settling-end : (s : Schema) (ix : List ℕ) {n : ℕ} → Settling s n n ix → n ≤ 0 → Settling s 0 0 ix
 settling-end s ix {n} l h = let e : n ≡ 0 = omega arith in rw e at l
 
+pub naming-few : {s : Schema} {i : ℕ} {ix : List ℕ} → Naming s i ix → i < length s.items → i < 1024
+naming-few c h = let f = c.chained.few in omega arith
+
+pub settling-few : {s : Schema} {i l r : ℕ} {ix : List ℕ} → Settling s l r ix → i < length s.items → i < 1024
+settling-few c h = let f = c.chained.few in omega arith
+
 pub settling-chained : (s : Schema) (ix : List ℕ) {l r : ℕ} → Settling s l r ix → Chained s (length s.items) ix
 settling-chained s ix c = c.chained
 
@@ -91,10 +97,10 @@ module _ (s : Schema) (i : ℕ) {kind : ℕ} (fk : kind ≡ (item_at s i).kind) 
   pub link-owner : {owner : ℕ} → owner ≡ (item_at s i).owner → {c : ℕ} → c ≡ length s.items → c ≤ owner → Settling s i i ix
   link-owner fo ec g = off (λ a b. omega arith)
 
-  pub link_on : {owner : ℕ} → owner ≡ (item_at s i).owner → length s.items ≤ 1024 → kind ≤ a_field → {c : ℕ} → c ≡ length s.items → owner < c → {ix' : List ℕ} → ix' ≡ fronted ix (per_item * owner + 2 + kind) (per_item * i) i → Settling s i i ix'
-  link_on {owner} fo most hk ec ho {ix'} q =
+  pub link_on : {owner : ℕ} → owner ≡ (item_at s i).owner → kind ≤ a_field → {c : ℕ} → c ≡ length s.items → owner < c → {ix' : List ℕ} → ix' ≡ fronted ix (per_item * owner + 2 + kind) (per_item * i) i → Settling s i i ix'
+  link_on {owner} fo hk ec ho {ix'} q =
       let big = l.long in
-      let on = linked_on s ix i l.linked h (omega arith) most (omega arith) (omega arith) in
+      let on = linked_on s ix i l.linked h (omega arith) (omega arith) (omega arith) in
       let r : ix' ≡ fronted ix (per_item * (item_at s i).owner + 2 + (item_at s i).kind) (per_item * i) i = rw (← fk, ← fo) q in
       record {
         long = rw (q, fronted-length ix (per_item * owner + 2 + kind) (per_item * i) i) l.long;
@@ -157,7 +163,4 @@ module _ (s : Schema) (i : ℕ) {k : ℕ} (f : k ≡ (item_at s i).kind) (ix : L
 -- ---- all
 
 pub indexed-built : (s : Schema) (ix : List ℕ) → Settling s 0 0 ix → Indexed s ix
-indexed-built s ix c = record { long = λ _. let l = c.long in omega arith; links = λ _. c.linked; types = λ _. c.resolved }
-
-pub indexed-not : (s : Schema) (ix : List ℕ) → Blank s ix → {n : ℕ} → n ≡ length s.items → 1024 < n → Indexed s ix
-indexed-not s ix b e h = record { long = λ most. absurd (omega arith); links = λ most. absurd (omega arith); types = λ most. absurd (omega arith) }
+indexed-built s ix c = record { long = let l = c.long in omega arith; links = c.linked; types = c.resolved }

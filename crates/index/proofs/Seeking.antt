@@ -118,8 +118,8 @@ module _ (name : List ℕ) (s : Schema) {p kept : ℕ} (k : Seeking name s p kep
     unfolding declares
     seeking-low = let l = (passed a_type refl).0 in let w = k.within in omega arith
 
-    pub seeking-few : length s.items ≤ 1024 → p - 1 < 1024
-    seeking-few most = let l = seeking-low in omega arith
+    pub seeking-few : {n : ℕ} {ix : List ℕ} → Chained s n ix → p - 1 < 1024
+    seeking-few x = let l = seeking-low in let f = x.few in omega arith
 
     turned : (kind : ℕ) → declares kind ≡ true → last_by (named_so kind name) k.n s ≡ pick (named_so kind name (item_at s (p - 1))) (Some (p - 1)) (last_by (named_so kind name) (p - 1) s)
     turned kind d = (passed kind d).2 ∙ last_step (named_so kind name) s (p - 1) seeking-low

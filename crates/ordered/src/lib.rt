@@ -1,6 +1,6 @@
 //! The type names that a schema declares, sorted, so that a lookup bisects.
 //!
-//! `Names::of` sorts those of any schema of at most 1,024 items. `number_of` then answers as the
+//! `Names::of` sorts those of any schema. `number_of` then answers as the
 //! model's `last_named` does for enums, composites and types, with at most eleven comparisons
 //! whatever the names are. `is_declaring` is shared with the hash chains of crate `index`.
 #![tactic(auto)]
@@ -122,9 +122,9 @@ impl<'a> Names<'a> {
 
     /// Sorts all names that the schema declares.
     pub fn of(view: &'a View<'a>) -> Names<'a>
-        requires { length view.now.items ≤ 1024 }
         ensures { result ≡ record { schema = view.now; added = length view.now.items } }
     {
+        let n = view.count();
         let places = Places {
             names: [0; SIZE],
             count: 0,
@@ -134,7 +134,7 @@ impl<'a> Names<'a> {
             places,
             added: 0,
         };
-        for _ in 0..view.count() {
+        for _ in 0..n {
             names.add();
         }
         names

@@ -66,7 +66,7 @@ fn typed_most(s: &Index<'_>, n: u32, digits: u32, t: u32) -> usize
 /// The most bytes of the line of the field at `i`. It requires what `Index::field_declared`
 /// requires: by `declared`, which requires nothing, a conversion takes 2 % longer.
 fn field_most(s: &Index<'_>, i: u32) -> usize
-    requires { (length s.now.items ≤ 1024) × ((item_at s.now i).kind ≡ a_field) }
+    requires { (item_at s.now i).kind ≡ a_field }
     ensures { Covers result (field_most s.now (item_at s.now i)) }
 {
     let n = s.name_most(i);
@@ -90,7 +90,6 @@ fn value_most(s: &Index<'_>, i: u32) -> usize
 
 /// The most bytes that the item at `i` adds, without the items that it holds.
 fn item_most(s: &Index<'_>, i: u32) -> usize
-    requires { length s.now.items ≤ 1024 }
     ensures { Covers result (share s.now i) }
 {
     let kind = s.kind(i);
@@ -107,9 +106,8 @@ fn item_most(s: &Index<'_>, i: u32) -> usize
     }
 }
 
-/// At least the length of the source. At most 1,024 items, so that the sum fits.
+/// At least the length of the source. A model has at most 1,024 items, so the sum fits.
 pub fn source_most(s: &Index<'_>) -> usize
-    requires { length s.now.items ≤ 1024 }
     ensures { length (source s.now) ≤ result }
 {
     let package = s.package();

@@ -15,9 +15,9 @@ ghost use Rattle.model.specs.Schema.{item_at, under, a_value};
 ghost use Rattle.xmltoproto.specs.Source.{value_text, enum_text};
 
 use crate::walk::ItemText;
-use names::convert::write_screaming;
 use index::seen::Index;
 use model::VALUE;
+use names::convert::write_screaming;
 use printing::Output;
 
 /// Writes the prefix of an enum's values: its name in screaming snake case, and `_`.

@@ -14,9 +14,9 @@ ghost use Rattle.xmltoproto.specs.Source.{note_line, bracketed, line};
 ghost use Rattle.xmltoproto.specs.internal.Shapes.{note_in, word_in, option_in, proto_in, length_option, encoding_option};
 
 use crate::types::{Shape, shape_of};
-use names::convert::write_snake;
 use escaping::write_quoted;
 use index::seen::Index;
+use names::convert::write_snake;
 use printing::Output;
 
 /// Writes the indent of a line: in a group if `deep`, otherwise in a message.

@@ -9,7 +9,7 @@ pub generate_with-requires-then-n-le-ITEMS_128 : goal.generate_with-requires-the
 generate_with-requires-then-n-le-ITEMS_128 c = (blank-few c.args.schema 1664 (omega arith) (omega arith), omega arith)
 
 pub generate_with-requires-then-n-le-ITEMS_384 : goal.generate_with-requires-then-n-le-ITEMS_384
-generate_with-requires-then-n-le-ITEMS_384 c = (blank c.args.schema 5632 (λ _. omega arith), omega arith)
+generate_with-requires-then-n-le-ITEMS_384 c = (blank c.args.schema 5632 (omega arith), omega arith)
 
 pub generate_with-requires-2 : goal.generate_with-requires-2
-generate_with-requires-2 c = (blank c.args.schema 13312 (λ most. omega arith), omega arith)
+generate_with-requires-2 c = (blank c.args.schema 13312 (let f = c.count-n.ensures.few in omega arith), omega arith)

@@ -8,5 +8,5 @@ returns-then-known-gt1 c = search laws
 pub returns-then-known-eq1 : goal.returns-then-known-eq1
 returns-then-known-eq1 c = search laws
 
-pub returns-then-count-le-ITEMS_1024 : goal.returns-then-count-le-ITEMS_1024
-returns-then-count-le-ITEMS_1024 c = search laws
+pub returns-then-kind-eq-FIELD : goal.returns-then-kind-eq-FIELD
+returns-then-kind-eq-FIELD c = search laws
