@@ -1,11 +1,11 @@
 -- Laws of building the index, each from the facts at hand where the code needs it.
-use Rattle.std.proofs.Common.{◌≡◌, refl, sym, ap, ◌∙◌, Bool, true, false, List, Option, Some, None, ℕ, ◌+◌, ◌*◌, ◌-◌, ◌≤◌, ◌<◌, arith, length, get_or, set, length-set, replicate, get_or-set_same, get_or-set_other}
+use Rattle.std.proofs.Common.{◌≡◌, refl, sym, ap, ◌∙◌, Bool, true, false, List, ℕ, ◌+◌, ◌*◌, ◌-◌, ◌≤◌, ◌<◌, arith, length, get_or, set, length-set, replicate, get_or-set_same, get_or-set_other}
 use lib.ListN.{length-replicate, get_or-replicate, get_or-eq_default}
 use Rattle.model.proofs.Records.{by_less}
-use Rattle.model.specs.Schema.{Schema, item_at, last_named, a_type, a_composite, an_enum, a_field}
+use Rattle.model.specs.Schema.{Schema, item_at, a_field}
 use Rattle.texts.specs.Choice.{pick}
-use Rattle.ordered.specs.Numbered.{declares, numbered}
-use Rattle.index.specs.Declarations.{declared_by, declaration_of, number_of}
+use Rattle.index.specs.Declarations.{declares, declaration_of, number_of}
+use Rattle.index.specs.Declarations.{declaration_of, number_of}
 use Rattle.index.specs.Blank.{kinds, per_item, mask_of, Blank}
 use Rattle.index.specs.internal.Index.{fronted, place, HeadOf, Chained, Naming, Settling, Indexed}
 use Rattle.index.proofs.Fronting.{fronted-length, fronted-other}
@@ -116,12 +116,6 @@ module _ (s : Schema) (i : ℕ) {kind : ℕ} (fk : kind ≡ (item_at s i).kind) 
 pub zeros-long : 1024 ≤ length {A = ℕ} (replicate 1024 0)
 zeros-long = let e = length-replicate {A = ℕ} 1024 0 in omega arith
 
-numbered_is : (e c t : Option ℕ) → numbered e c t ≡ number_of (declared_by e c t)
-numbered_is (Some i) c t = refl
-numbered_is None (Some i) t = refl
-numbered_is None None (Some i) = refl
-numbered_is None None None = refl
-
 field-aside : declares 9 ≡ false
 unfolding declares
 field-aside = refl
@@ -136,13 +130,13 @@ module _ (s : Schema) (i : ℕ) {k : ℕ} (f : k ≡ (item_at s i).kind) (ix : L
         resolved = record { is = λ j a l d. by_less i j (λ b. c.resolved.is j (omega arith) l d) (λ b. let q : j ≡ i = omega arith in absurd (n (f ∙ (rw q at d)))) };
       }
 
-  resolve-on : k ≡ 9 → i < length s.items → {w : List ℕ} → w ≡ (item_at s i).second → {d : ℕ} → d ≡ number_of (declaration_of s w) → {ix' : List ℕ} → ix' ≡ set ix (per_item * i + 1) d → Settling s (i + 1) i ix'
+  pub resolve-on : k ≡ 9 → i < length s.items → {w : List ℕ} → w ≡ (item_at s i).second → {d : ℕ} → (d ≡ number_of (declaration_of s w)) × (d < 1026) → {ix' : List ℕ} → ix' ≡ set ix (per_item * i + 1) d → Settling s (i + 1) i ix'
   resolve-on ek h {w} ew {d} ed {ix'} q =
       record {
         long = rw (q, length-set) c.long;
         linked = linked-frame s (i + 1) ix ix' (λ a o ha. rw q (get_or-set_other ix (per_item * i + 1) (per_item * o + 2 + a) d 0 (λ x. omega arith))) (λ j. rw q (get_or-set_other ix (per_item * i + 1) (per_item * j) d 0 (λ x. omega arith))) c.linked;
         chained = rw q (chained-aside s (length s.items) ix i d h aside c.chained);
-        resolved = record { is = λ j a l b. by_less i j (λ o. rw q (get_or-set_other ix (per_item * i + 1) (per_item * j + 1) d 0 (λ x. omega arith) ∙ c.resolved.is j (omega arith) l b)) (λ o. let z : j ≡ i = omega arith in rw (z, q) (here ∙ ed ∙ ap (λ x. number_of (declaration_of s x)) ew)) };
+        resolved = record { is = λ j a l b. by_less i j (λ o. rw q (get_or-set_other ix (per_item * i + 1) (per_item * j + 1) d 0 (λ x. omega arith) ∙ c.resolved.is j (omega arith) l b)) (λ o. let z : j ≡ i = omega arith in rw (z, q) (here ∙ ed.0 ∙ ap (λ x. number_of (declaration_of s x)) ew)) };
       }
     where
       here : get_or (set ix (per_item * i + 1) d) (per_item * i + 1) 0 ≡ d
@@ -150,15 +144,6 @@ module _ (s : Schema) (i : ℕ) {k : ℕ} (f : k ≡ (item_at s i).kind) (ix : L
 
       aside : declares (item_at s i).kind ≡ false
       aside = ap declares (sym f ∙ ek) ∙ field-aside
-
-  -- by a chain that is short enough
-  pub resolve-short : k ≡ 9 → i < length s.items → {w : List ℕ} → w ≡ (item_at s i).second → {d : ℕ} → (d ≡ number_of (declaration_of s w)) × (d < 1026) → {ix' : List ℕ} → ix' ≡ set ix (per_item * i + 1) d → Settling s (i + 1) i ix'
-  resolve-short ek h ew t q = resolve-on ek h ew t.0 q
-
-  -- by the sorted names
-  pub resolve-ordered : k ≡ 9 → i < length s.items → {w : List ℕ} → w ≡ (item_at s i).second → {d : ℕ} → (d ≡ numbered (last_named an_enum w s) (last_named a_composite w s) (last_named a_type w s)) × (d < 1026) → {ix' : List ℕ} → ix' ≡ set ix (per_item * i + 1) d → Settling s (i + 1) i ix'
-  unfolding declaration_of
-  resolve-ordered ek h {w} ew t q = resolve-on ek h ew (t.0 ∙ numbered_is (last_named an_enum w s) (last_named a_composite w s) (last_named a_type w s)) q
 
 -- ---- all
 

@@ -4,9 +4,9 @@ use Rattle.texts.proofs.Choosing.{by-test, both_true, is_true}
 use Rattle.model.specs.Schema.{Item, Schema, item_at, positions_from, last}
 use Rattle.model.proofs.Records.{by_less}
 use Rattle.model.proofs.Searching.{last-yes, last-no}
-use Rattle.ordered.specs.Numbered.{declares}
-use Rattle.ordered.specs.internal.Ordered.{last_by}
-use Rattle.ordered.proofs.Numbering.{by_equal}
+use Rattle.index.specs.Declarations.{declares}
+use Rattle.index.specs.internal.Sorted.{last_by}
+use Rattle.index.proofs.Numbering.{by_equal}
 use Rattle.index.specs.Blank.{per_item, mask_of}
 use Rattle.index.specs.internal.Index.{code, fronted, place, hashed, last_hashed, Chained}
 use Rattle.index.proofs.Fronting.{fronted-head, fronted-at, fronted-other}

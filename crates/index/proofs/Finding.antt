@@ -7,8 +7,8 @@ use Rattle.model.proofs.Records.{by_less}
 use Rattle.model.proofs.Searching.{ahead-none, ahead-some, owned_so}
 use Rattle.index.specs.Blank.{kinds, per_item}
 use Rattle.index.specs.Declarations.{declared_by, declaration_of, number_of}
-use Rattle.index.specs.declared.seen.Declaration.{Declaration}
-use Rattle.index.specs.declared.seen.Declaration.TheVariants.{Named, Typed}
+use Rattle.index.specs.declared.declaration.Declaration.{Declaration}
+use Rattle.index.specs.declared.declaration.Declaration.TheVariants.{Named, Typed}
 use Rattle.index.specs.internal.Index.{code, Indexed}
 
 -- past the last item there is no field

@@ -4,7 +4,7 @@ use Rattle.texts.proofs.Choosing.{by-test, both_true}
 use Rattle.model.specs.Schema.{Schema, item_at, no_item, positions_from, first, next_under}
 use Rattle.model.proofs.Records.{by_less}
 use Rattle.model.proofs.Searching.{owned_so, first-yes, first-no}
-use Rattle.ordered.proofs.Numbering.{by_equal}
+use Rattle.index.proofs.Numbering.{by_equal}
 use Rattle.index.specs.Blank.{kinds, per_item}
 use Rattle.index.specs.internal.Index.{code, fronted, Linked}
 use Rattle.index.proofs.Fronting.{fronted-head, fronted-at, fronted-other}

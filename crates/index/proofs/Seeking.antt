@@ -7,9 +7,9 @@ use Rattle.texts.proofs.Choosing.{by-test, both_true}
 use Rattle.texts.proofs.Comparing.{same-equal}
 use Rattle.model.specs.Schema.{Item, Schema, item_at, last_named, a_type, a_composite, an_enum}
 use Rattle.model.proofs.Searching.{named_so}
-use Rattle.ordered.specs.Numbered.{declares}
-use Rattle.ordered.specs.internal.Ordered.{last_by}
-use Rattle.ordered.proofs.Numbering.{by_kind, last_step}
+use Rattle.index.specs.Declarations.{declares}
+use Rattle.index.specs.internal.Sorted.{last_by}
+use Rattle.index.proofs.Numbering.{by_kind, last_step}
 use Rattle.index.specs.Blank.{per_item}
 use Rattle.index.specs.Declarations.{declared_by, declaration_of, number_of}
 use Rattle.index.specs.internal.Index.{kept_by, code, place, HeadOf, hashed, last_hashed, Chained}

@@ -2,15 +2,16 @@
 //! and type names from the last item back.
 ghost use Rattle.std.specs.Prelude.{◌≡◌, ◌+◌, ◌≤◌, ◌<◌, IfSome, length};
 ghost use Rattle.texts.specs.Choice.{pick};
-ghost use Rattle.ordered.specs.Numbered.{Added};
+ghost use Rattle.index.specs.internal.Sorted.{Added};
 ghost use Rattle.index.specs.Blank.{Blank};
 ghost use Rattle.index.specs.internal.Index.{Chained, Naming, Settling};
 ghost use Rattle.index.specs.Declarations.{declaration_of, number_of};
 
+use crate::declaration::{NAMED, is_declaring};
+use crate::sorted::Names;
 use crate::{CHAIN, EACH, FIRST, LAST_KIND, STEPS, head_of, kept_at, put_front, word};
 use model::FIELD;
 use model::view::View;
-use ordered::{Names, is_declaring};
 
 /// Pushes item `i`, if it declares a name, to the front of the chain of its hash.
 fn name_item(v: &View<'_>, i: u32, ix: &mut [u16])
@@ -68,7 +69,7 @@ fn resolved(v: &View<'_>, ix: &[u16], name: &[u8]) -> Option<u32>
         }
         let i = p - 1;
         kept = kept_at(v, i, name, kept);
-        let settled = kept == 1;
+        let settled = kept == NAMED;
         if settled {
             return Some(kept);
         }

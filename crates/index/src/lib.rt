@@ -3,11 +3,13 @@
 //! `Index::of` fills a lent array in two passes over the items of any schema. `child` then promises
 //! what the model's `next_under` does, and `declared` what its `last_named` does for a field's type
 //! name, without a walk over all items. A chain that eight items do not settle, as with names made
-//! to collide, is left to the sorted names of crate `ordered`.
+//! to collide, is left to the sorted names.
 #![tactic(auto)]
 
+pub mod declaration;
 mod filling;
 pub mod seen;
+mod sorted;
 
 ghost use Rattle.std.specs.Prelude.{◌≡◌, ◌+◌, ◌≤◌, ◌<◌, length, get_or};
 ghost use Rattle.std.specs.Int.Bits.{bit_and};
@@ -15,6 +17,7 @@ ghost use Rattle.model.specs.Schema.{item_at};
 ghost use Rattle.index.specs.Blank.{mask_of, Blank};
 ghost use Rattle.index.specs.internal.Index.{kept_by, fronted, short_word, mix, long_word, narrowed, HashOf, HeadOf, Indexed};
 
+use crate::declaration::{NAMED, TYPED};
 use crate::filling::{put_names, put_settled};
 use model::view::View;
 use model::{FIELD, MOST_ITEMS, TYPE};
@@ -188,9 +191,8 @@ fn word(ix: &[u16], k: usize) -> u32
 }
 
 /// One step of a walk along a chain, which begins with its last item: what `name` is declared as by
-/// item `i` and those passed so far, which say `kept`. 0 is nothing yet, 1 an enum or composite,
-/// and `i + 2` a type. An enum or composite wins over types, and of types the first met, declared
-/// last.
+/// item `i` and those passed so far, which say `kept`, as a declaration's number; 0 is nothing yet.
+/// An enum or composite wins over types, and of types the first met, declared last.
 fn kept_at(v: &View<'_>, i: u32, name: &[u8], kept: u32) -> u32
     requires { (i < 1024) × (kept < 1026) }
     ensures { (result ≡ kept_by (item_at v.now i) i name.now kept) × (result < 1026) }
@@ -200,12 +202,12 @@ fn kept_at(v: &View<'_>, i: u32, name: &[u8], kept: u32) -> u32
             return kept;
         }
         if same_name(v.name(i), name) {
-            return i + 2;
+            return i + TYPED;
         }
         return 0;
     }
     if same_name(v.name(i), name) {
-        return 1;
+        return NAMED;
     }
     kept
 }

@@ -7,12 +7,13 @@ ghost use Rattle.model.specs.Search.{ahead};
 ghost use Rattle.index.specs.Blank.{Blank, kinds};
 ghost use Rattle.index.specs.internal.Index.{code};
 ghost use Rattle.index.specs.Declarations.{declaration_of, number_of};
-ghost use Rattle.index.specs.declared.seen.Declaration.{Declaration};
+ghost use Rattle.index.specs.declared.declaration.Declaration.{Declaration};
 
+use crate::declaration::{Declaration, declaration_in, numbered};
 use crate::{CHAIN, EACH, FIRST, LAST_KIND, build};
 use model::search::{OfKind, Walk};
 use model::view::View;
-use model::{COMPOSITE, ENUM, FIELD, TYPE};
+use model::FIELD;
 use std::marker::Model;
 
 /// A view and its index. Contracts see it as the schema.
@@ -31,40 +32,6 @@ impl<'a> Model for Index<'a> {
     ghost view = { λ x. x.view };
 
     ghost invariant = { λ x. Indexed x.view x.links.now };
-}
-
-/// What a name is declared as. For a name that is not declared it is the `None` around this.
-#[derive(Clone, Copy)]
-pub enum Declaration {
-    /// An enum or a composite.
-    Named,
-    /// The type at this position.
-    Typed(u32),
-}
-
-/// A declaration from the index: 0 is none, 1 an enum or composite, `i + 2` the type at `i`.
-fn numbered(n: u32) -> Option<Declaration>
-    ensures { (d : Option Declaration) → n ≡ number_of d → result ≡ d }
-{
-    match n {
-        0 => None,
-        1 => Some(Declaration::Named),
-        _ => Some(Declaration::Typed(n - 2)),
-    }
-}
-
-/// What a name is declared as, by the model's searches alone.
-pub fn declaration_in(v: &View<'_>, name: &[u8]) -> Option<Declaration>
-    ensures { result ≡ declaration_of v.now name.now }
-{
-    if v.last_named(ENUM, name).is_some() {
-        return Some(Declaration::Named);
-    }
-    if v.last_named(COMPOSITE, name).is_some() {
-        return Some(Declaration::Named);
-    }
-    let i = v.last_named(TYPE, name)?;
-    Some(Declaration::Typed(i))
 }
 
 impl<'a> Index<'a> {

@@ -13,7 +13,7 @@ ghost use Rattle.wiresheet.specs.internal.SheetLines.{value_shown, part_shown, g
 
 use charsets::is_compatible;
 use names::convert::{write_screaming, write_singular, write_snake};
-use index::seen::declaration_in;
+use index::declaration::declaration_in;
 use model::view::View;
 use model::{COMPOSITE, ENUM, FIELD, GROUP, MEMBER, MESSAGE, REF, VALUE};
 use printing::Output;

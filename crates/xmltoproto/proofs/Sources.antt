@@ -13,8 +13,8 @@ use Rattle.xmltoproto.proofs.Outputs.{blank, printed-of}
 use Rattle.printing.proofs.Again.{standing-within}
 use Rattle.names.specs.Conversions.{camel_to_snake, camel_to_screaming_snake, prefix_of}
 use Rattle.index.specs.Declarations.{declaration_of, number_of}
-use Rattle.index.specs.declared.seen.Declaration.{Declaration}
-use Rattle.index.specs.declared.seen.Declaration.TheVariants.{Named, Typed}
+use Rattle.index.specs.declared.declaration.Declaration.{Declaration}
+use Rattle.index.specs.declared.declaration.Declaration.TheVariants.{Named, Typed}
 use Rattle.index.proofs.Finding.{declaration-none, declaration-named, declaration-typed}
 use Rattle.model.specs.Schema.{Item, Schema, no_item, item_at, positions_from, all_of, under, a_member, a_ref, a_composite, a_group, a_field}
 use Rattle.xmltoproto.specs.Types.{built_ins, form, form_of, built_in, as_named, proto_of, proto_by, Meaning, typed, unknown, meaning}

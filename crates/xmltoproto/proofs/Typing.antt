@@ -7,8 +7,8 @@ use Rattle.texts.proofs.Comparing.{same-equal}
 use Rattle.charsets.specs.Charset.{compatible}
 use Rattle.model.specs.Schema.{Schema, item_at, last_named, a_type, a_composite, an_enum}
 use Rattle.index.specs.Declarations.{declared_by, declaration_of}
-use Rattle.index.specs.declared.seen.Declaration.{Declaration}
-use Rattle.index.specs.declared.seen.Declaration.TheVariants.{Named, Typed}
+use Rattle.index.specs.declared.declaration.Declaration.{Declaration}
+use Rattle.index.specs.declared.declaration.Declaration.TheVariants.{Named, Typed}
 use Rattle.xmltoproto.specs.Types.{built_ins, built_in, chars, is_char, is_byte, is_raw, is_array, as_named, of_length, narrow, as_primitive, proto_of, Meaning, declared, typed, form, form_of, is_declared, type_or, meaning}
 use Rattle.xmltoproto.specs.internal.Shapes.{proto_in, meaning_in}
 use Rattle.xmltoproto.specs.declared.types.Shape.{Shape}

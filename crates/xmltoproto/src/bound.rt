@@ -10,7 +10,8 @@ ghost use Rattle.xmltoproto.specs.Types.{form_of};
 ghost use Rattle.xmltoproto.specs.Source.{source};
 ghost use Rattle.xmltoproto.specs.internal.Bound.{named_most, note_most, typed_most, value_most, field_most, share, Covers};
 
-use index::seen::{Declaration, Index};
+use index::declaration::Declaration;
+use index::seen::Index;
 use model::{COMPOSITE, ENUM, FIELD, GROUP, MEMBER, MESSAGE, REF, VALUE};
 
 /// The most digits of a `u32`.

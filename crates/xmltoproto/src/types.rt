@@ -9,7 +9,7 @@ ghost use Rattle.xmltoproto.specs.Types.{built_ins, chars, is_byte, is_raw, is_a
 ghost use Rattle.xmltoproto.specs.internal.Shapes.{proto_in, meaning_in};
 
 use charsets::is_compatible;
-use index::seen::Declaration;
+use index::declaration::Declaration;
 use swar::same_name;
 
 /// How a type prints. A number is the length in its option.

@@ -10,7 +10,7 @@ use Rattle.texts.specs.Choice.{pick, ◌and◌}
 use Rattle.texts.specs.Text.{piece, same}
 use Rattle.swar.specs.Word.{word_of}
 use Rattle.model.specs.Schema.{Item, Schema, item_at, positions_from, last, next_under, a_type, a_field}
-use Rattle.ordered.specs.Numbered.{declares}
+use Rattle.index.specs.Declarations.{declares}
 use Rattle.index.specs.Blank.{kinds, per_item, mask_of}
 use Rattle.index.specs.Declarations.{declaration_of, number_of}
 

@@ -1,5 +1,5 @@
 use Rattle.std.proofs.Common.{◌≡◌, Some, refl}
-use Rattle.index.specs.declared.seen.Declaration.TheVariants.{Named, Typed}
+use Rattle.index.specs.declared.declaration.Declaration.TheVariants.{Named, Typed}
 use Rattle.xmltoproto.proofs.Typing.{sense-declared, sense-typed, sense-built-in, sense-unknown}
 use Rattle.xmltoproto.proofs.types.sense_of.Goals as goal
 
