@@ -1,9 +1,9 @@
 //! The builder's state by value. specs/internal/Layout.antt says what lies in the buffers.
-ghost use Rattle.std.specs.Prelude.{◌≡◌};
+ghost use Rattle.std.specs.Prelude.{◌≡◌, ◌≤◌};
 ghost use Rattle.builder.specs.internal.Layout.{initial, popped, model_in};
 
 use crate::limits::MIN_TEXT;
-use model::{Head, Model};
+use model::{Count, Head, Model};
 
 /// How much of the buffers is in use. The record buffer holds `items` items and `depth` open names.
 /// The text buffer is free from `collected_to`, where the collected text ends that begins at
@@ -73,11 +73,12 @@ impl State {
 
     /// The schema so far, as it lies in the two buffers.
     pub fn model(self) -> Model
+        requires { self.usage.items ≤ 1024 }
         ensures { result ≡ model_in self }
     {
         Model {
             head: self.head,
-            count: self.usage.items,
+            count: Count::of(self.usage.items),
         }
     }
 

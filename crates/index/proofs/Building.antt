@@ -1,11 +1,11 @@
 -- Laws of building the index, each from the facts at hand where the code needs it.
-use Rattle.std.proofs.Common.{◌≡◌, refl, sym, ap, ◌∙◌, Bool, true, false, List, Option, Some, None, ℕ, ◌+◌, ◌*◌, ◌-◌, ◌≤◌, ◌<◌, arith, length, get_or, set, length-set, replicate, get_or-set_same, get_or-set_other}
+use Rattle.std.proofs.Common.{◌≡◌, refl, sym, ap, ◌∙◌, Bool, true, false, List, ℕ, ◌+◌, ◌*◌, ◌-◌, ◌≤◌, ◌<◌, arith, length, get_or, set, length-set, replicate, get_or-set_same, get_or-set_other}
 use lib.ListN.{length-replicate, get_or-replicate, get_or-eq_default}
 use Rattle.model.proofs.Records.{by_less}
-use Rattle.model.specs.Schema.{Schema, item_at, last_named, a_type, a_composite, an_enum, a_field}
+use Rattle.model.specs.Schema.{Schema, item_at, a_field}
 use Rattle.texts.specs.Choice.{pick}
-use Rattle.ordered.specs.Numbered.{declares, numbered}
-use Rattle.index.specs.Declarations.{declared_by, declaration_of, number_of}
+use Rattle.index.specs.Declarations.{declares, declaration_of, number_of}
+use Rattle.index.specs.Declarations.{declaration_of, number_of}
 use Rattle.index.specs.Blank.{kinds, per_item, mask_of, Blank}
 use Rattle.index.specs.internal.Index.{fronted, place, HeadOf, Chained, Naming, Settling, Indexed}
 use Rattle.index.proofs.Fronting.{fronted-length, fronted-other}
@@ -23,15 +23,15 @@ mask_low n = by_less 128 n (λ h. let e = mask-many h in omega arith) (λ h. let
 
 module _ (s : Schema) (size : ℕ) where
   pub blank-few : length s.items ≤ 128 → per_item * length s.items + 127 < size → Blank s (replicate size 0)
-  blank-few h fits = record { long = λ _. let q = mask-few {n = length s.items} h in let z = length-replicate {A = ℕ} size 0 in omega arith; zero = zeros size }
+  blank-few h fits = record { long = let q = mask-few {n = length s.items} h in let z = length-replicate {A = ℕ} size 0 in omega arith; zero = zeros size }
 
-  pub blank : (length s.items ≤ 1024 → per_item * length s.items + 1023 < size) → Blank s (replicate size 0)
-  blank fits = record { long = λ most. let f = fits most in let q = mask_low (length s.items) in let z = length-replicate {A = ℕ} size 0 in omega arith; zero = zeros size }
+  pub blank : per_item * length s.items + 1023 < size → Blank s (replicate size 0)
+  blank fits = record { long = let q = mask_low (length s.items) in let z = length-replicate {A = ℕ} size 0 in omega arith; zero = zeros size }
 
 -- ---- names
 
 pub naming-start : (s : Schema) (ix : List ℕ) → Blank s ix → length s.items ≤ 1024 → Naming s 0 ix
-naming-start s ix b most = record { long = b.long most; zero = λ k o _ _. b.zero (per_item * o + 2 + k); chained = chained-start s ix b.zero }
+naming-start s ix b few = record { long = b.long; zero = λ k o _ _. b.zero (per_item * o + 2 + k); chained = chained-start s ix few b.zero }
 
 pub naming-end : (s : Schema) (ix : List ℕ) {i n : ℕ} → Naming s i ix → i ≤ n → n ≡ length s.items → n ≤ i → Naming s (length s.items) ix
 naming-end s ix {i} {n} c a e b = let q : i ≡ length s.items = omega arith in rw q at c
@@ -78,6 +78,12 @@ settling-untold r c e = rw e at c
 pub settling-end : (s : Schema) (ix : List ℕ) {n : ℕ} → Settling s n n ix → n ≤ 0 → Settling s 0 0 ix
 settling-end s ix {n} l h = let e : n ≡ 0 = omega arith in rw e at l
 
+pub naming-few : {s : Schema} {i : ℕ} {ix : List ℕ} → Naming s i ix → i < length s.items → i < 1024
+naming-few c h = let f = c.chained.few in omega arith
+
+pub settling-few : {s : Schema} {i l r : ℕ} {ix : List ℕ} → Settling s l r ix → i < length s.items → i < 1024
+settling-few c h = let f = c.chained.few in omega arith
+
 pub settling-chained : (s : Schema) (ix : List ℕ) {l r : ℕ} → Settling s l r ix → Chained s (length s.items) ix
 settling-chained s ix c = c.chained
 
@@ -91,10 +97,10 @@ module _ (s : Schema) (i : ℕ) {kind : ℕ} (fk : kind ≡ (item_at s i).kind) 
   pub link-owner : {owner : ℕ} → owner ≡ (item_at s i).owner → {c : ℕ} → c ≡ length s.items → c ≤ owner → Settling s i i ix
   link-owner fo ec g = off (λ a b. omega arith)
 
-  pub link_on : {owner : ℕ} → owner ≡ (item_at s i).owner → length s.items ≤ 1024 → kind ≤ a_field → {c : ℕ} → c ≡ length s.items → owner < c → {ix' : List ℕ} → ix' ≡ fronted ix (per_item * owner + 2 + kind) (per_item * i) i → Settling s i i ix'
-  link_on {owner} fo most hk ec ho {ix'} q =
+  pub link_on : {owner : ℕ} → owner ≡ (item_at s i).owner → kind ≤ a_field → {c : ℕ} → c ≡ length s.items → owner < c → {ix' : List ℕ} → ix' ≡ fronted ix (per_item * owner + 2 + kind) (per_item * i) i → Settling s i i ix'
+  link_on {owner} fo hk ec ho {ix'} q =
       let big = l.long in
-      let on = linked_on s ix i l.linked h (omega arith) most (omega arith) (omega arith) in
+      let on = linked_on s ix i l.linked h (omega arith) (omega arith) (omega arith) in
       let r : ix' ≡ fronted ix (per_item * (item_at s i).owner + 2 + (item_at s i).kind) (per_item * i) i = rw (← fk, ← fo) q in
       record {
         long = rw (q, fronted-length ix (per_item * owner + 2 + kind) (per_item * i) i) l.long;
@@ -110,12 +116,6 @@ module _ (s : Schema) (i : ℕ) {kind : ℕ} (fk : kind ≡ (item_at s i).kind) 
 pub zeros-long : 1024 ≤ length {A = ℕ} (replicate 1024 0)
 zeros-long = let e = length-replicate {A = ℕ} 1024 0 in omega arith
 
-numbered_is : (e c t : Option ℕ) → numbered e c t ≡ number_of (declared_by e c t)
-numbered_is (Some i) c t = refl
-numbered_is None (Some i) t = refl
-numbered_is None None (Some i) = refl
-numbered_is None None None = refl
-
 field-aside : declares 9 ≡ false
 unfolding declares
 field-aside = refl
@@ -130,13 +130,13 @@ module _ (s : Schema) (i : ℕ) {k : ℕ} (f : k ≡ (item_at s i).kind) (ix : L
         resolved = record { is = λ j a l d. by_less i j (λ b. c.resolved.is j (omega arith) l d) (λ b. let q : j ≡ i = omega arith in absurd (n (f ∙ (rw q at d)))) };
       }
 
-  resolve-on : k ≡ 9 → i < length s.items → {w : List ℕ} → w ≡ (item_at s i).second → {d : ℕ} → d ≡ number_of (declaration_of s w) → {ix' : List ℕ} → ix' ≡ set ix (per_item * i + 1) d → Settling s (i + 1) i ix'
+  pub resolve-on : k ≡ 9 → i < length s.items → {w : List ℕ} → w ≡ (item_at s i).second → {d : ℕ} → (d ≡ number_of (declaration_of s w)) × (d < 1026) → {ix' : List ℕ} → ix' ≡ set ix (per_item * i + 1) d → Settling s (i + 1) i ix'
   resolve-on ek h {w} ew {d} ed {ix'} q =
       record {
         long = rw (q, length-set) c.long;
         linked = linked-frame s (i + 1) ix ix' (λ a o ha. rw q (get_or-set_other ix (per_item * i + 1) (per_item * o + 2 + a) d 0 (λ x. omega arith))) (λ j. rw q (get_or-set_other ix (per_item * i + 1) (per_item * j) d 0 (λ x. omega arith))) c.linked;
         chained = rw q (chained-aside s (length s.items) ix i d h aside c.chained);
-        resolved = record { is = λ j a l b. by_less i j (λ o. rw q (get_or-set_other ix (per_item * i + 1) (per_item * j + 1) d 0 (λ x. omega arith) ∙ c.resolved.is j (omega arith) l b)) (λ o. let z : j ≡ i = omega arith in rw (z, q) (here ∙ ed ∙ ap (λ x. number_of (declaration_of s x)) ew)) };
+        resolved = record { is = λ j a l b. by_less i j (λ o. rw q (get_or-set_other ix (per_item * i + 1) (per_item * j + 1) d 0 (λ x. omega arith) ∙ c.resolved.is j (omega arith) l b)) (λ o. let z : j ≡ i = omega arith in rw (z, q) (here ∙ ed.0 ∙ ap (λ x. number_of (declaration_of s x)) ew)) };
       }
     where
       here : get_or (set ix (per_item * i + 1) d) (per_item * i + 1) 0 ≡ d
@@ -145,19 +145,7 @@ module _ (s : Schema) (i : ℕ) {k : ℕ} (f : k ≡ (item_at s i).kind) (ix : L
       aside : declares (item_at s i).kind ≡ false
       aside = ap declares (sym f ∙ ek) ∙ field-aside
 
-  -- by a chain that is short enough
-  pub resolve-short : k ≡ 9 → i < length s.items → {w : List ℕ} → w ≡ (item_at s i).second → {d : ℕ} → (d ≡ number_of (declaration_of s w)) × (d < 1026) → {ix' : List ℕ} → ix' ≡ set ix (per_item * i + 1) d → Settling s (i + 1) i ix'
-  resolve-short ek h ew t q = resolve-on ek h ew t.0 q
-
-  -- by the sorted names
-  pub resolve-ordered : k ≡ 9 → i < length s.items → {w : List ℕ} → w ≡ (item_at s i).second → {d : ℕ} → (d ≡ numbered (last_named an_enum w s) (last_named a_composite w s) (last_named a_type w s)) × (d < 1026) → {ix' : List ℕ} → ix' ≡ set ix (per_item * i + 1) d → Settling s (i + 1) i ix'
-  unfolding declaration_of
-  resolve-ordered ek h {w} ew t q = resolve-on ek h ew (t.0 ∙ numbered_is (last_named an_enum w s) (last_named a_composite w s) (last_named a_type w s)) q
-
 -- ---- all
 
 pub indexed-built : (s : Schema) (ix : List ℕ) → Settling s 0 0 ix → Indexed s ix
-indexed-built s ix c = record { long = λ _. let l = c.long in omega arith; links = λ _. c.linked; types = λ _. c.resolved }
-
-pub indexed-not : (s : Schema) (ix : List ℕ) → Blank s ix → {n : ℕ} → n ≡ length s.items → 1024 < n → Indexed s ix
-indexed-not s ix b e h = record { long = λ most. absurd (omega arith); links = λ most. absurd (omega arith); types = λ most. absurd (omega arith) }
+indexed-built s ix c = record { long = let l = c.long in omega arith; links = c.linked; types = c.resolved }

@@ -4,9 +4,9 @@ use Rattle.texts.proofs.Choosing.{by-test, both_true, is_true}
 use Rattle.model.specs.Schema.{Item, Schema, item_at, positions_from, last}
 use Rattle.model.proofs.Records.{by_less}
 use Rattle.model.proofs.Searching.{last-yes, last-no}
-use Rattle.ordered.specs.Numbered.{declares}
-use Rattle.ordered.specs.internal.Ordered.{last_by}
-use Rattle.ordered.proofs.Numbering.{by_equal}
+use Rattle.index.specs.Declarations.{declares}
+use Rattle.index.specs.internal.Sorted.{last_by}
+use Rattle.index.proofs.Numbering.{by_equal}
 use Rattle.index.specs.Blank.{per_item, mask_of}
 use Rattle.index.specs.internal.Index.{code, fronted, place, hashed, last_hashed, Chained}
 use Rattle.index.proofs.Fronting.{fronted-head, fronted-at, fronted-other}
@@ -52,10 +52,11 @@ code-some None p h e = absurd (omega arith)
 code-some (Some i) p h e = let z : i ≡ p - 1 = omega arith in rw z
 
 -- no item is in the chains yet
-pub chained-start : (s : Schema) (ix : List ℕ) → ((k : ℕ) → get_or ix k 0 ≡ 0) → Chained s 0 ix
+pub chained-start : (s : Schema) (ix : List ℕ) → length s.items ≤ 1024 → ((k : ℕ) → get_or ix k 0 ≡ 0) → Chained s 0 ix
 unfolding last_hashed positions_from last
-chained-start s ix z =
+chained-start s ix few z =
     record {
+      few = few;
       head = λ b h. z (per_item * length s.items + b);
       chain = λ j h b t. absurd (omega arith);
     }
@@ -95,6 +96,7 @@ module _ (s : Schema) (ix : List ℕ) (n : ℕ) (c : Chained s n ix) (h : n < le
     pub chained-on : Chained s (n + 1) (fronted ix (per_item * length s.items + place s (item_at s n).name) (per_item * n + 1) n)
     chained-on =
         record {
+          few = c.few;
           head = chained-head;
           chain = λ j l b t. by_less j n
               (λ m. fronted-other ix (per_item * length s.items + place s (item_at s n).name) (per_item * n + 1) n (per_item * j + 1) (λ e. omega arith) (λ e. omega arith) ∙ c.chain j m b t)
@@ -104,6 +106,7 @@ module _ (s : Schema) (ix : List ℕ) (n : ℕ) (c : Chained s n ix) (h : n < le
   pub chained-off : declares (item_at s n).kind ≡ false → Chained s (n + 1) ix
   chained-off f =
       record {
+        few = c.few;
         head = λ b l. head-kept b l (unhashed b (λ d _. let z : ◌≡◌ {A = ℕ} 0 1 = cc in omega arith));
         chain = λ j l b t. by_less j n
             (λ m. c.chain j m b t)
@@ -114,6 +117,7 @@ module _ (s : Schema) (ix : List ℕ) (n : ℕ) (c : Chained s n ix) (h : n < le
 pub chained-aside : (s : Schema) (n : ℕ) (ix : List ℕ) (i d : ℕ) → i < length s.items → declares (item_at s i).kind ≡ false → Chained s n ix → Chained s n (set ix (per_item * i + 1) d)
 chained-aside s n ix i d h f c =
     record {
+      few = c.few;
       head = λ b l. get_or-set_other ix (per_item * i + 1) (per_item * length s.items + b) d 0 (λ e. omega arith) ∙ c.head b l;
       chain = λ j l b t. by_equal j i
           (λ e. absurd (let q = (hashed-as s (item_at s j) b (is_true (hashed s b (item_at s j)) t)).0 in let g = rw (sym e) at f in let z : ◌≡◌ {A = ℕ} 0 1 = cc in omega arith))
@@ -122,4 +126,4 @@ chained-aside s n ix i d h f c =
 
 -- the links are not part of the chains
 pub chained-frame : (s : Schema) (n : ℕ) (ix ix' : List ℕ) → ((b : ℕ) → get_or ix' (per_item * length s.items + b) 0 ≡ get_or ix (per_item * length s.items + b) 0) → ((j : ℕ) → get_or ix' (per_item * j + 1) 0 ≡ get_or ix (per_item * j + 1) 0) → Chained s n ix → Chained s n ix'
-chained-frame s n ix ix' f g c = record { head = λ b l. f b ∙ c.head b l; chain = λ j l b t. g j ∙ c.chain j l b t }
+chained-frame s n ix ix' f g c = record { few = c.few; head = λ b l. f b ∙ c.head b l; chain = λ j l b t. g j ∙ c.chain j l b t }

@@ -1,5 +1,5 @@
 -- Laws of searches by the index, each from the facts at hand where the code needs it.
-use Rattle.std.proofs.Common.{◌≡◌, refl, sym, ◌∙◌, true, false, Option, Some, None, is_some, List, [], ◌∷◌, ℕ, ◌+◌, ◌*◌, ◌-◌, ◌≤◌, ◌<◌, arith, length, get_or}
+use Rattle.std.proofs.Common.{◌≡◌, refl, sym, ◌∙◌, true, false, Option, Some, None, is_some, List, [], ◌∷◌, ℕ, ◌+◌, ◌*◌, ◌-◌, ◌<◌, arith, length, get_or}
 use lib.ListN.{get_or-eq_default}
 use Rattle.model.specs.Schema.{Schema, item_at, no_item, next_under, last_named, a_type, a_composite, an_enum}
 use Rattle.model.specs.Search.{ahead}
@@ -7,19 +7,9 @@ use Rattle.model.proofs.Records.{by_less}
 use Rattle.model.proofs.Searching.{ahead-none, ahead-some, owned_so}
 use Rattle.index.specs.Blank.{kinds, per_item}
 use Rattle.index.specs.Declarations.{declared_by, declaration_of, number_of}
-use Rattle.index.specs.declared.seen.Declaration.{Declaration}
-use Rattle.index.specs.declared.seen.Declaration.TheVariants.{Named, Typed}
+use Rattle.index.specs.declared.declaration.Declaration.{Declaration}
+use Rattle.index.specs.declared.declaration.Declaration.TheVariants.{Named, Typed}
 use Rattle.index.specs.internal.Index.{code, Indexed}
-
--- ---- positions
-
-pub position_some : {n : ℕ} → 0 < n → (o : Option ℕ) → n ≡ code o → Some (n - 1) ≡ o
-position_some h None e = absurd (omega arith)
-position_some {n} h (Some i) e = let z : n - 1 ≡ i = omega arith in rw z
-
-pub position-none : {n : ℕ} → n ≤ 0 → (o : Option ℕ) → n ≡ code o → None ≡ o
-position-none h None e = refl
-position-none h (Some i) e = absurd (omega arith)
 
 -- past the last item there is no field
 inside : (s : Schema) (i : ℕ) → (item_at s i).kind ≡ 9 → i < length s.items
@@ -28,18 +18,18 @@ inside s i k = by_less i (length s.items) (λ l. l) (λ l. absurd (let z : 0 ≡
 -- ---- children
 
 module _ (s : Schema) (ix : List ℕ) (x : Indexed s ix) (kind owner from : ℕ) where
-  pub child-first : {r : Option ℕ} → length s.items ≤ 1024 → kind < kinds → owner < length s.items → from ≡ 0 → ((o : Option ℕ) → get_or ix (per_item * owner + 2 + kind) 0 ≡ code o → r ≡ o) → r ≡ next_under kind owner from s
-  child-first most hk ho z f = f (next_under kind owner from s) (rw z ((x.links most).first kind owner hk ho))
+  pub child-first : {r : Option ℕ} → kind < kinds → owner < length s.items → from ≡ 0 → ((o : Option ℕ) → get_or ix (per_item * owner + 2 + kind) 0 ≡ code o → r ≡ o) → r ≡ next_under kind owner from s
+  child-first hk ho z f = f (next_under kind owner from s) (rw z (x.links.first kind owner hk ho))
 
-  child-on : length s.items ≤ 1024 → 0 < from → from - 1 < length s.items → (item_at s (from - 1)).kind ≡ kind → (item_at s (from - 1)).owner ≡ owner → kind < kinds → owner < length s.items → get_or ix (per_item * (from - 1)) 0 ≡ code (next_under kind owner from s)
-  child-on most h l ek eo hk ho =
+  child-on : 0 < from → from - 1 < length s.items → (item_at s (from - 1)).kind ≡ kind → (item_at s (from - 1)).owner ≡ owner → kind < kinds → owner < length s.items → get_or ix (per_item * (from - 1)) 0 ≡ code (next_under kind owner from s)
+  child-on h l ek eo hk ho =
       let z : from - 1 + 1 ≡ from = omega arith in
-      let e = (x.links most).next (from - 1) (omega arith) l (omega arith) (omega arith) in
+      let e = x.links.next (from - 1) (omega arith) l (omega arith) (omega arith) in
       rw (ek, eo, z) at e
 
-  pub child-next : {r : Option ℕ} → length s.items ≤ 1024 → kind < kinds → owner < length s.items → 0 < from → {n : ℕ} → n ≡ length s.items → from - 1 < n → {k : ℕ} → k ≡ (item_at s (from - 1)).kind → k ≡ kind → {o : ℕ} → o ≡ (item_at s (from - 1)).owner → o ≡ owner
+  pub child-next : {r : Option ℕ} → kind < kinds → owner < length s.items → 0 < from → {n : ℕ} → n ≡ length s.items → from - 1 < n → {k : ℕ} → k ≡ (item_at s (from - 1)).kind → k ≡ kind → {o : ℕ} → o ≡ (item_at s (from - 1)).owner → o ≡ owner
       → ((p : Option ℕ) → get_or ix (per_item * (from - 1)) 0 ≡ code p → r ≡ p) → r ≡ next_under kind owner from s
-  child-next most hk ho h en l fk ek fo eo g = g (next_under kind owner from s) (child-on most h (omega arith) (sym fk ∙ ek) (sym fo ∙ eo) hk ho)
+  child-next hk ho h en l fk ek fo eo g = g (next_under kind owner from s) (child-on h (omega arith) (sym fk ∙ ek) (sym fo ∙ eo) hk ho)
 
 -- what a search for the next one answers
 pub under-none : (kind owner from : ℕ) (s : Schema) → next_under kind owner from s ≡ None → ahead (owned_so kind owner) from s ≡ []
@@ -109,8 +99,8 @@ module _ (s : Schema) (name : List ℕ) {e : Option ℕ} (ee : e ≡ last_named 
       unfolding declaration_of
       searched-none q = rw (← ee, ← ec, ← et) (told-none e c t he hc q)
 
-pub field-within : (s : Schema) (i : ℕ) (ix : List ℕ) → Indexed s ix → length s.items ≤ 1024 → (item_at s i).kind ≡ 9 → per_item * i + 1 < length ix
-field-within s i ix x most k = omega (arith, inside s i k, x.long most)
+pub field-within : (s : Schema) (i : ℕ) (ix : List ℕ) → Indexed s ix → (item_at s i).kind ≡ 9 → per_item * i + 1 < length ix
+field-within s i ix x k = omega (arith, inside s i k, x.long)
 
-pub field-number : (s : Schema) (i : ℕ) (ix : List ℕ) → Indexed s ix → length s.items ≤ 1024 → (item_at s i).kind ≡ 9 → {w : ℕ} → w ≡ get_or ix (per_item * i + 1) 0 → w ≡ number_of (declaration_of s (item_at s i).second)
-field-number s i ix x most k ew = ew ∙ (x.types most).is i (omega arith) (inside s i k) k
+pub field-number : (s : Schema) (i : ℕ) (ix : List ℕ) → Indexed s ix → (item_at s i).kind ≡ 9 → {w : ℕ} → w ≡ get_or ix (per_item * i + 1) 0 → w ≡ number_of (declaration_of s (item_at s i).second)
+field-number s i ix x k ew = ew ∙ x.types.is i (omega arith) (inside s i k) k

@@ -4,7 +4,7 @@ use Rattle.texts.proofs.Choosing.{by-test, both_true}
 use Rattle.model.specs.Schema.{Schema, item_at, no_item, positions_from, first, next_under}
 use Rattle.model.proofs.Records.{by_less}
 use Rattle.model.proofs.Searching.{owned_so, first-yes, first-no}
-use Rattle.ordered.proofs.Numbering.{by_equal}
+use Rattle.index.proofs.Numbering.{by_equal}
 use Rattle.index.specs.Blank.{kinds, per_item}
 use Rattle.index.specs.internal.Index.{code, fronted, Linked}
 use Rattle.index.proofs.Fronting.{fronted-head, fronted-at, fronted-other}
@@ -39,7 +39,7 @@ linked-start s ix z n h =
 
 module _ (s : Schema) (ix : List ℕ) (j : ℕ) (l : Linked s (j + 1) ix) (h : j < length s.items) where
   -- an item with a kind below 10 and an owner among the items
-  module _ (big : per_item * length s.items ≤ length ix) (most : length s.items ≤ 1024) (hk : (item_at s j).kind < kinds) (ho : (item_at s j).owner < length s.items) where
+  module _ (big : per_item * length s.items ≤ length ix) (hk : (item_at s j).kind < kinds) (ho : (item_at s j).owner < length s.items) where
     linked-first : (k o : ℕ) → k < kinds → o < length s.items → get_or (fronted ix (per_item * (item_at s j).owner + 2 + (item_at s j).kind) (per_item * j) j) (per_item * o + 2 + k) 0 ≡ code (next_under k o j s)
     linked-first k o bk bo =
         by_equal k (item_at s j).kind

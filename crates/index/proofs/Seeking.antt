@@ -7,9 +7,9 @@ use Rattle.texts.proofs.Choosing.{by-test, both_true}
 use Rattle.texts.proofs.Comparing.{same-equal}
 use Rattle.model.specs.Schema.{Item, Schema, item_at, last_named, a_type, a_composite, an_enum}
 use Rattle.model.proofs.Searching.{named_so}
-use Rattle.ordered.specs.Numbered.{declares}
-use Rattle.ordered.specs.internal.Ordered.{last_by}
-use Rattle.ordered.proofs.Numbering.{by_kind, last_step}
+use Rattle.index.specs.Declarations.{declares}
+use Rattle.index.specs.internal.Sorted.{last_by}
+use Rattle.index.proofs.Numbering.{by_kind, last_step}
 use Rattle.index.specs.Blank.{per_item}
 use Rattle.index.specs.Declarations.{declared_by, declaration_of, number_of}
 use Rattle.index.specs.internal.Index.{kept_by, code, place, HeadOf, hashed, last_hashed, Chained}
@@ -118,8 +118,8 @@ module _ (name : List ℕ) (s : Schema) {p kept : ℕ} (k : Seeking name s p kep
     unfolding declares
     seeking-low = let l = (passed a_type refl).0 in let w = k.within in omega arith
 
-    pub seeking-few : length s.items ≤ 1024 → p - 1 < 1024
-    seeking-few most = let l = seeking-low in omega arith
+    pub seeking-few : {n : ℕ} {ix : List ℕ} → Chained s n ix → p - 1 < 1024
+    seeking-few x = let l = seeking-low in let f = x.few in omega arith
 
     turned : (kind : ℕ) → declares kind ≡ true → last_by (named_so kind name) k.n s ≡ pick (named_so kind name (item_at s (p - 1))) (Some (p - 1)) (last_by (named_so kind name) (p - 1) s)
     turned kind d = (passed kind d).2 ∙ last_step (named_so kind name) s (p - 1) seeking-low

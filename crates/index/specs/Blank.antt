@@ -1,5 +1,5 @@
 -- The array that an index is built in: zeros, and long enough for the schema.
-use Rattle.std.specs.Prelude.{◌≡◌, List, ℕ, ◌+◌, ◌*◌, ◌≤◌, ◌<◌, ltb, length, get_or}
+use Rattle.std.specs.Prelude.{◌≡◌, List, ℕ, ◌+◌, ◌*◌, ◌<◌, ltb, length, get_or}
 use Rattle.texts.specs.Choice.{pick}
 use Rattle.model.specs.Schema.{Schema, a_field}
 
@@ -15,8 +15,7 @@ per_item = 2 + kinds
 unfoldable pub mask_of : ℕ → ℕ
 mask_of n = pick (ltb 128 n) 1023 127
 
--- the numbers of each item and one for each chain; the length is free above 1,024 items, as
--- those are not indexed
+-- the numbers of each item and one for each chain
 pub record Blank (s : Schema) (ix : List ℕ) : Type 0 where
-  pub long : length s.items ≤ 1024 → per_item * length s.items + mask_of (length s.items) < length ix
+  pub long : per_item * length s.items + mask_of (length s.items) < length ix
   pub zero : (k : ℕ) → get_or ix k 0 ≡ 0

@@ -3,12 +3,13 @@
 //! `Index::of` fills a lent array in two passes over the items of any schema. `child` then promises
 //! what the model's `next_under` does, and `declared` what its `last_named` does for a field's type
 //! name, without a walk over all items. A chain that eight items do not settle, as with names made
-//! to collide, is left to the sorted names of crate `ordered`. A schema of more than 1,024 items,
-//! which no document gives, is left to the model's own searches.
+//! to collide, is left to the sorted names.
 #![tactic(auto)]
 
+pub mod declaration;
 mod filling;
 pub mod seen;
+mod sorted;
 
 ghost use Rattle.std.specs.Prelude.{◌≡◌, ◌+◌, ◌≤◌, ◌<◌, length, get_or};
 ghost use Rattle.std.specs.Int.Bits.{bit_and};
@@ -16,9 +17,10 @@ ghost use Rattle.model.specs.Schema.{item_at};
 ghost use Rattle.index.specs.Blank.{mask_of, Blank};
 ghost use Rattle.index.specs.internal.Index.{kept_by, fronted, short_word, mix, long_word, narrowed, HashOf, HeadOf, Indexed};
 
-use crate::filling::Few;
+use crate::declaration::{NAMED, TYPED};
+use crate::filling::{put_names, put_settled};
 use model::view::View;
-use model::{FIELD, TYPE};
+use model::{FIELD, MOST_ITEMS, TYPE};
 use swar::{half_at, same_name, word_at};
 
 // The array has `EACH` numbers for each item, then the head of each hash chain. A position is
@@ -46,9 +48,6 @@ const FEW_CHAINS: usize = 128;
 // The array is zeroed whole for each schema, and small documents would notice the largest one: so
 // there are four sizes, by the most items that they hold.
 
-/// The most items that an index holds: as many as a document may give.
-pub const ITEMS_1024: u32 = 1024;
-
 /// The most items of a schema of middle size.
 pub const ITEMS_384: u32 = 384;
 
@@ -58,8 +57,8 @@ pub const ITEMS_128: u32 = 128;
 /// The most items of a tiny schema.
 pub const ITEMS_16: u32 = 16;
 
-/// The array's length for `ITEMS_1024` items.
-pub const LINKS_1024: usize = EACH * ITEMS_1024 as usize + CHAINS;
+/// The array's length for as many items as a model may have.
+pub const LINKS_1024: usize = EACH * MOST_ITEMS as usize + CHAINS;
 
 /// The array's length for `ITEMS_384` items.
 pub const LINKS_384: usize = EACH * ITEMS_384 as usize + CHAINS;
@@ -192,9 +191,8 @@ fn word(ix: &[u16], k: usize) -> u32
 }
 
 /// One step of a walk along a chain, which begins with its last item: what `name` is declared as by
-/// item `i` and those passed so far, which say `kept`. 0 is nothing yet, 1 an enum or composite,
-/// and `i + 2` a type. An enum or composite wins over types, and of types the first met, declared
-/// last.
+/// item `i` and those passed so far, which say `kept`, as a declaration's number; 0 is nothing yet.
+/// An enum or composite wins over types, and of types the first met, declared last.
 fn kept_at(v: &View<'_>, i: u32, name: &[u8], kept: u32) -> u32
     requires { (i < 1024) × (kept < 1026) }
     ensures { (result ≡ kept_by (item_at v.now i) i name.now kept) × (result < 1026) }
@@ -204,24 +202,21 @@ fn kept_at(v: &View<'_>, i: u32, name: &[u8], kept: u32) -> u32
             return kept;
         }
         if same_name(v.name(i), name) {
-            return i + 2;
+            return i + TYPED;
         }
         return 0;
     }
     if same_name(v.name(i), name) {
-        return 1;
+        return NAMED;
     }
     kept
 }
 
-/// Fills `ix`, all zeros, with the index; for a schema of more than `ITEMS_1024` items it stays zeros.
+/// Fills `ix`, all zeros, with the index.
 fn build(v: &View<'_>, ix: &mut [u16])
     requires { Blank v.now ix.old }
     ensures { Indexed v.now ix.new }
 {
-    if v.count() <= ITEMS_1024 {
-        let few = Few::of(v);
-        few.put_names(ix);
-        few.put_settled(ix);
-    }
+    put_names(v, ix);
+    put_settled(v, ix);
 }

@@ -7,12 +7,13 @@ ghost use Rattle.model.specs.Search.{ahead};
 ghost use Rattle.index.specs.Blank.{Blank, kinds};
 ghost use Rattle.index.specs.internal.Index.{code};
 ghost use Rattle.index.specs.Declarations.{declaration_of, number_of};
-ghost use Rattle.index.specs.declared.seen.Declaration.{Declaration};
+ghost use Rattle.index.specs.declared.declaration.Declaration.{Declaration};
 
-use crate::{CHAIN, EACH, FIRST, ITEMS_1024, LAST_KIND, build};
+use crate::declaration::{Declaration, declaration_in, numbered};
+use crate::{CHAIN, EACH, FIRST, LAST_KIND, build};
 use model::search::{OfKind, Walk};
 use model::view::View;
-use model::{COMPOSITE, ENUM, FIELD, TYPE};
+use model::FIELD;
 use std::marker::Model;
 
 /// A view and its index. Contracts see it as the schema.
@@ -31,48 +32,6 @@ impl<'a> Model for Index<'a> {
     ghost view = { λ x. x.view };
 
     ghost invariant = { λ x. Indexed x.view x.links.now };
-}
-
-/// A position from the index, where it is stored plus 1; 0 is none.
-fn position(n: u32) -> Option<u32>
-    ensures is { (o : Option ℕ) → n ≡ code o → result ≡ o }
-    ensures within { IfSome result (λ i. i + 1 < 2 ^ 32) }
-{
-    if 0 < n { Some(n - 1) } else { None }
-}
-
-/// What a name is declared as. For a name that is not declared it is the `None` around this.
-#[derive(Clone, Copy)]
-pub enum Declaration {
-    /// An enum or a composite.
-    Named,
-    /// The type at this position.
-    Typed(u32),
-}
-
-/// A declaration from the index: 0 is none, 1 an enum or composite, `i + 2` the type at `i`.
-fn numbered(n: u32) -> Option<Declaration>
-    ensures { (d : Option Declaration) → n ≡ number_of d → result ≡ d }
-{
-    match n {
-        0 => None,
-        1 => Some(Declaration::Named),
-        _ => Some(Declaration::Typed(n - 2)),
-    }
-}
-
-/// What a name is declared as, by the model's searches alone.
-pub fn declaration_in(v: &View<'_>, name: &[u8]) -> Option<Declaration>
-    ensures { result ≡ declaration_of v.now name.now }
-{
-    if v.last_named(ENUM, name).is_some() {
-        return Some(Declaration::Named);
-    }
-    if v.last_named(COMPOSITE, name).is_some() {
-        return Some(Declaration::Named);
-    }
-    let i = v.last_named(TYPE, name)?;
-    Some(Declaration::Typed(i))
 }
 
 impl<'a> Index<'a> {
@@ -118,9 +77,10 @@ impl<'a> Index<'a> {
         self.view.version()
     }
 
-    /// How many items there are.
+    /// How many items there are, at most 1,024.
     pub fn count(&self) -> u32
-        ensures { result ≡ length self.now.items }
+        ensures is { result ≡ length self.now.items }
+        ensures few { length self.now.items ≤ 1024 }
     {
         self.view.count()
     }
@@ -208,7 +168,7 @@ impl<'a> Index<'a> {
     /// All items of a kind, in order.
     pub fn all_of(&'a self, kind: u32) -> Walk<'a, OfKind>
         ensures list { ahead (λ it. eqb it.kind result.by.kind) result.from result.view.now ≡ all_of kind self.now }
-        ensures few { length self.now.items < 2 ^ 32 }
+        ensures few { length self.now.items ≤ 1024 }
     {
         self.view.all_of(kind)
     }
@@ -218,7 +178,7 @@ impl<'a> Index<'a> {
     /// `child_number` for `from` above 0. As a rule item `from - 1` is of this kind and owner, and
     /// its link is the answer; otherwise the model searches.
     fn next_child(&self, kind: u32, owner: u32, from: u32) -> u32
-        requires { (length self.now.items ≤ 1024) × (kind < kinds) × (owner < length self.now.items) × (0 < from) }
+        requires { (kind < kinds) × (owner < length self.now.items) × (0 < from) }
         ensures { result ≡ code (next_under kind owner from self.now) }
     {
         let v = &self.view;
@@ -251,7 +211,7 @@ impl<'a> Index<'a> {
         ensures { result ≡ code (next_under kind owner from self.now) }
     {
         let n = self.view.count();
-        if ITEMS_1024 < n || LAST_KIND < kind || n <= owner {
+        if LAST_KIND < kind || n <= owner {
             return self.searched(kind, owner, from);
         }
         if from == 0 {
@@ -261,20 +221,12 @@ impl<'a> Index<'a> {
         self.next_child(kind, owner, from)
     }
 
-    /// The first item of a kind under an owner from `from` on.
-    pub fn child(&self, kind: u32, owner: u32, from: u32) -> Option<u32>
-        ensures is { result ≡ next_under kind owner from self.now }
-        ensures within { IfSome result (λ i. i + 1 < 2 ^ 32) }
-    {
-        position(self.child_number(kind, owner, from))
-    }
-
     /// All items of a kind under an owner, in order.
     pub fn children(&'a self, kind: u32, owner: u32) -> Children<'a>
         ensures list { ahead (λ it. eqb it.kind result.kind and eqb it.owner result.owner) result.from result.index.now ≡ under kind owner self.now }
-        ensures few { length self.now.items < 2 ^ 32 }
+        ensures few { length self.now.items ≤ 1024 }
     {
-        // Proves `few`: the count is a `u32`.
+        // Proves `few`.
         let _count = self.count();
         Children {
             index: self,
@@ -285,10 +237,10 @@ impl<'a> Index<'a> {
     }
 
     /// What the type name of the field at `i` is declared as: 0 is nothing, 1 an enum or composite,
-    /// `k + 2` the type at `k`. One load, so it requires a field of a schema that the index holds;
+    /// `k + 2` the type at `k`. One load, so it requires a field;
     /// by `declared`, which requires nothing, a conversion takes 2 % longer.
     pub fn field_number(&self, i: u32) -> u32
-        requires { (length self.now.items ≤ 1024) × ((item_at self.now i).kind ≡ a_field) }
+        requires { (item_at self.now i).kind ≡ a_field }
         ensures { result ≡ number_of (declaration_of self.now (item_at self.now i).second) }
     {
         self.links[EACH * (i as usize) + CHAIN] as u32
@@ -296,7 +248,7 @@ impl<'a> Index<'a> {
 
     /// `field_number` as a `Declaration`.
     pub fn field_declared(&self, i: u32) -> Option<Declaration>
-        requires { (length self.now.items ≤ 1024) × ((item_at self.now i).kind ≡ a_field) }
+        requires { (item_at self.now i).kind ≡ a_field }
         ensures { result ≡ declaration_of self.now (item_at self.now i).second }
     {
         numbered(self.field_number(i))
@@ -308,9 +260,7 @@ impl<'a> Index<'a> {
         ensures { result ≡ declaration_of self.now (item_at self.now i).second }
     {
         if self.kind(i) == FIELD {
-            if self.count() <= ITEMS_1024 {
-                return self.field_declared(i);
-            }
+            return self.field_declared(i);
         }
         declaration_in(&self.view, self.second(i))
     }

@@ -18,14 +18,15 @@ module _ (m : Model) (rec : List ℕ) where
   unfolding schema_of
   count-shown text = sym (length-items m.count rec text)
 
-  pub item-shown : (i : ℕ) (e : Entry) → i < m.count → e ≡ entry_at rec i → (text : List ℕ) → item_of text e ≡ item_at (schema_of m rec text) i
+  pub item-shown : (i : ℕ) (e : Entry) {n : ℕ} → n ≡ m.count → i < n → e ≡ entry_at rec i
+      → (text : List ℕ) → item_of text e ≡ item_at (schema_of m rec text) i
   unfolding schema_of
-  item-shown i e h q text = ap (item_of text) q ∙ sym (get_or-items m.count rec text i h)
+  item-shown i e en h q text = ap (item_of text) q ∙ sym (get_or-items m.count rec text i (rw en at h))
 
-  pub no-item-shown : (i : ℕ) → m.count ≤ i → (text : List ℕ) → item_of text (record { kind = 0; owner = 0; name = 0; nlen = 0; second = 0; slen = 0; number = 0; given = 0; encoding = 0; elen = 0 }) ≡ item_at (schema_of m rec text) i
+  pub no-item-shown : (i : ℕ) {n : ℕ} → n ≡ m.count → n ≤ i → (text : List ℕ) → item_of text (record { kind = 0; owner = 0; name = 0; nlen = 0; second = 0; slen = 0; number = 0; given = 0; encoding = 0; elen = 0 }) ≡ item_at (schema_of m rec text) i
   unfolding schema_of item_of
-  no-item-shown i h text =
-      let g : length (items_of m.count rec text) ≤ i = rw length-items h in
+  no-item-shown i en h text =
+      let g : length (items_of m.count rec text) ≤ i = rw (length-items, ← en) h in
       sym (get_or-eq_default (items_of m.count rec text) no_item g)
 
 -- what a view returns for its schema v, and for item i from its entry e
@@ -42,8 +43,14 @@ module _ (m : Model) (rec text : List ℕ) (v : Schema) (q : schema_of m rec tex
   unfolding schema_of
   version-shown = ap (λ (s : Schema). s.version) q
 
-  pub count-seen : m.count ≡ length v.items
-  count-seen = count-shown m rec text ∙ ap (λ (s : Schema). length s.items) q
+  items-seen : m.count ≡ length v.items
+  items-seen = count-shown m rec text ∙ ap (λ (s : Schema). length s.items) q
+
+  pub count-seen : {n : ℕ} → n ≡ m.count → n ≡ length v.items
+  count-seen e = e ∙ items-seen
+
+  pub count-few : m.count ≤ 1024 → length v.items ≤ 1024
+  count-few h = rw (← items-seen) h
 
   module _ (e : Entry) (i : ℕ) (f : (t : List ℕ) → item_of t e ≡ item_at (schema_of m rec t) i) where
     shown : item_of text e ≡ item_at v i

@@ -91,10 +91,6 @@ unfoldable pub first : List ℕ → Option ℕ
 first [] = None
 first (i ∷ is) = Some i
 
--- the first item of a kind, from a position on
-unfoldable pub next_of : ℕ → ℕ → Schema → Option ℕ
-next_of kind from s = first (positions_from from (λ it. eqb it.kind kind) (drop from s.items))
-
 -- the first item of a kind under an owner, from a position on
 unfoldable pub next_under : ℕ → ℕ → ℕ → Schema → Option ℕ
 next_under kind owner from s = first (positions_from from (λ it. eqb it.kind kind and eqb it.owner owner) (drop from s.items))

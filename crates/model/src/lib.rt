@@ -16,6 +16,8 @@ ghost use Rattle.std.specs.Prelude.{◌≡◌, ◌+◌, ◌*◌, ◌≤◌, leng
 ghost use Rattle.std.proofs.lemmas.List.Edits.{sets};
 ghost use Rattle.model.specs.internal.Store.{entry_at, words_of};
 
+use std::marker;
+
 // The kinds of items, numbered as in specs/Schema.antt. Numbers, not an enum: a record's kind is
 // whatever word the lent buffer holds, and searches compare with that word.
 
@@ -79,11 +81,51 @@ pub struct Head {
     pub version: u32,
 }
 
+/// The most items of a model: as many as a document may give.
+pub const MOST_ITEMS: u32 = 1024;
+
+/// How many items a model has, at most `MOST_ITEMS`. Contracts see it as that number.
+#[derive(Clone, Copy)]
+pub struct Count {
+    items: u32,
+}
+
+impl marker::Model for Count {
+    ghost use Rattle.std.specs.Prelude.{ℕ, ◌≤◌};
+
+    ghost Value = { ℕ };
+
+    ghost view = { λ c. c.items };
+
+    ghost inverse = { λ n. record { items = n } };
+
+    ghost invariant = { λ c. c.items ≤ 1024 };
+}
+
+impl Count {
+    /// The count of so many items.
+    pub fn of(items: u32) -> Count
+        requires { items ≤ 1024 }
+        ensures { result ≡ items }
+    {
+        Count { items }
+    }
+
+    /// How many items those are.
+    #[inline(always)]
+    pub fn items(self) -> u32
+        ensures is { result ≡ self }
+        ensures few { self ≤ 1024 }
+    {
+        self.items
+    }
+}
+
 /// A schema that was read: its head, and how many items the record buffer holds.
 #[derive(Clone, Copy)]
 pub struct Model {
     pub head: Head,
-    pub count: u32,
+    pub count: Count,
 }
 
 /// Word `i` of the records, or 0 past their end.

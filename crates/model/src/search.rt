@@ -1,9 +1,9 @@
 //! Searches among the items, and walks over those that pass a test.
-ghost use Rattle.std.specs.Prelude.{◌≡◌, Bool, ℕ, ◌+◌, ◌<◌, ◌^◌, OnSome, IfSome, eqb, length};
+ghost use Rattle.std.specs.Prelude.{◌≡◌, Bool, ℕ, ◌<◌, ◌≤◌, OnSome, IfSome, eqb, length};
 ghost use Rattle.std.specs.Iterator.{YieldsFirst, item_count};
 ghost use Rattle.texts.specs.Choice.{◌and◌};
 ghost use Rattle.texts.specs.Text.{same};
-ghost use Rattle.model.specs.Schema.{Item, item_at, positions_from, first, last, all_of, under, next_of, next_under, last_named};
+ghost use Rattle.model.specs.Schema.{Item, item_at, positions_from, first, last, all_of, under, next_under, last_named};
 ghost use Rattle.model.specs.Search.{ahead, last_under};
 
 use crate::view::View;
@@ -65,7 +65,7 @@ impl<'a> Test for Named<'a> {
 /// The first item from `from` on that passes.
 pub fn next<T: Test>(v: &View<'_>, by: &T, from: u32) -> Option<u32>
     ensures is { result ≡ first (ahead (T.test by.now) from v.now) }
-    ensures within { IfSome result (λ i. (i < length v.now.items) × (length v.now.items < 2 ^ 32)) }
+    ensures within { IfSome result (λ i. i < 1024) }
 {
     for i in from..v.count() {
         if by.passes(v, i) {
@@ -111,17 +111,10 @@ impl<'a, T: Test + Drop> Iterator for Walk<'a, T> {
 }
 
 impl<'a> View<'a> {
-    /// The first item of a kind from `from` on.
-    pub fn next_of(&self, kind: u32, from: u32) -> Option<u32>
-        ensures { result ≡ next_of kind from self.now }
-    {
-        next(self, &OfKind { kind }, from)
-    }
-
     /// The first item of a kind under an owner from `from` on.
     pub fn next_under(&self, kind: u32, owner: u32, from: u32) -> Option<u32>
         ensures is { result ≡ next_under kind owner from self.now }
-        ensures within { IfSome result (λ i. i + 1 < 2 ^ 32) }
+        ensures within { IfSome result (λ i. i < 1024) }
     {
         next(self, &Under { kind, owner }, from)
     }
@@ -143,9 +136,9 @@ impl<'a> View<'a> {
     /// All items of a kind, in order.
     pub fn all_of(&'a self, kind: u32) -> Walk<'a, OfKind>
         ensures list { ahead (λ it. eqb it.kind result.by.kind) result.from result.view.now ≡ all_of kind self.now }
-        ensures few { length self.now.items < 2 ^ 32 }
+        ensures few { length self.now.items ≤ 1024 }
     {
-        // Proves `few`: the count is a `u32`.
+        // Proves `few`.
         let _count = self.count();
         Walk {
             view: self,

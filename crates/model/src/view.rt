@@ -69,7 +69,7 @@ fn entry_by_pairs(rec: &[u32], i: u32) -> Entry
 fn item(m: Model, rec: &[u32], i: u32) -> Entry
     ensures { (text : List ℕ) → item_of text result ≡ item_at (schema_of m rec.now text) i }
 {
-    if i < m.count {
+    if i < m.count.items() {
         return entry_by_pairs(rec, i);
     }
     Entry {
@@ -141,11 +141,12 @@ impl<'a> View<'a> {
         self.model.head.version
     }
 
-    /// How many items there are.
+    /// How many items there are, at most 1,024.
     pub fn count(&self) -> u32
-        ensures { result ≡ length self.now.items }
+        ensures is { result ≡ length self.now.items }
+        ensures few { length self.now.items ≤ 1024 }
     {
-        self.model.count
+        self.model.count.items()
     }
 
     // ---- the item at position `i`; past the last item, an empty one

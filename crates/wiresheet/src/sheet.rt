@@ -15,7 +15,8 @@ ghost use Rattle.wiresheet.specs.internal.SheetLines.{value_shown, part_shown, g
 
 use charsets::is_compatible;
 use index::LINKS_1024;
-use index::seen::{Declaration, Index};
+use index::declaration::Declaration;
+use index::seen::Index;
 use model::view::View;
 use model::{COMPOSITE, ENUM, FIELD, GROUP, MEMBER, MESSAGE, REF, VALUE};
 use names::plurals::write_singular;

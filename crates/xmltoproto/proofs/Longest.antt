@@ -9,8 +9,8 @@ use Rattle.printing.specs.Decimal.{digits, decimal}
 use Rattle.charsets.specs.Charset.{cleaned, compatible}
 use Rattle.names.specs.Conversions.{camel_to_snake}
 use Rattle.index.specs.Declarations.{declaration_of}
-use Rattle.index.specs.declared.seen.Declaration.{Declaration}
-use Rattle.index.specs.declared.seen.Declaration.TheVariants.{Named, Typed}
+use Rattle.index.specs.declared.declaration.Declaration.{Declaration}
+use Rattle.index.specs.declared.declaration.Declaration.TheVariants.{Named, Typed}
 use Rattle.model.specs.Schema.{Item, Schema, item_at}
 use Rattle.xmltoproto.specs.Types.{Form, Proto, form_of, built_ins, built_in, is_char, chars, is_raw, as_named, of_length, note_on, narrow, as_primitive, proto_of, proto_by}
 use Rattle.xmltoproto.specs.Source.{value_text, note_line, bracketed, line, member_text, ref_text, field_text}

@@ -6,8 +6,8 @@ use Rattle.texts.specs.Lists.{among}
 use Rattle.texts.proofs.Comparing.{same-equal}
 use Rattle.model.specs.Schema.{Schema, item_at, last_named, a_type, a_composite, an_enum}
 use Rattle.index.specs.Declarations.{declared_by, declaration_of}
-use Rattle.index.specs.declared.seen.Declaration.{Declaration}
-use Rattle.index.specs.declared.seen.Declaration.TheVariants.{Named, Typed}
+use Rattle.index.specs.declared.declaration.Declaration.{Declaration}
+use Rattle.index.specs.declared.declaration.Declaration.TheVariants.{Named, Typed}
 use Rattle.xmltoproto.specs.Types.{built_ins, built_in, is_char, is_raw, as_named, as_primitive, proto_of, Meaning, declared, typed, unknown, form, form_of, is_declared, type_or, meaning}
 
 -- ---- a type name

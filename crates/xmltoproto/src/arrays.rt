@@ -9,7 +9,8 @@ ghost use Rattle.xmltoproto.specs.internal.Refusing.{refusing, Arrayless};
 
 use crate::composites::is_printed;
 use crate::types::is_char_or_byte;
-use index::seen::{Declaration, Index};
+use index::declaration::Declaration;
+use index::seen::Index;
 use model::{COMPOSITE, FIELD, GROUP, MEMBER, MESSAGE};
 use refusals::Refusal;
 

@@ -11,7 +11,8 @@ ghost use Rattle.xmltoproto.specs.Source.{source};
 ghost use Rattle.xmltoproto.specs.internal.Bound.{named_most, note_most, typed_most};
 ghost use Rattle.xmltoproto.specs.internal.Bound.{value_most, field_most, share, Covers};
 
-use index::seen::{Declaration, Index};
+use index::declaration::Declaration;
+use index::seen::Index;
 use model::{COMPOSITE, ENUM, FIELD, GROUP, MEMBER, MESSAGE, REF, VALUE};
 
 /// The most digits of a `u32`.
@@ -84,7 +85,7 @@ fn typed_most(s: &Index<'_>, n: u32, t: u32) -> usize
 /// The most bytes of the line of the field at `i`. It requires what `Index::field_declared`
 /// requires: by `declared`, which requires nothing, a conversion takes 2 % longer.
 fn field_most(s: &Index<'_>, i: u32) -> usize
-    requires { (length s.now.items ≤ 1024) × ((item_at s.now i).kind ≡ a_field) }
+    requires { (item_at s.now i).kind ≡ a_field }
     ensures { Covers result (field_most s.now (item_at s.now i)) }
 {
     has_few_digits(s.number(i));
@@ -108,7 +109,6 @@ fn value_most(s: &Index<'_>, i: u32) -> usize
 
 /// The most bytes that the item at `i` adds, without the items that it holds.
 fn item_most(s: &Index<'_>, i: u32) -> usize
-    requires { length s.now.items ≤ 1024 }
     ensures { Covers result (share s.now i) }
 {
     has_few_digits(s.number(i));
@@ -127,9 +127,8 @@ fn item_most(s: &Index<'_>, i: u32) -> usize
     }
 }
 
-/// At least the length of the source. At most 1,024 items, so that the sum fits.
+/// At least the length of the source. A model has at most 1,024 items, so the sum fits.
 pub fn source_most(s: &Index<'_>) -> usize
-    requires { length s.now.items ≤ 1024 }
     ensures { length (source s.now) ≤ result }
 {
     has_few_digits(s.id());

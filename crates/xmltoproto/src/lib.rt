@@ -32,9 +32,7 @@ use crate::arrays::array_refusal;
 use crate::bound::source_most;
 use crate::source::write_source;
 use index::seen::Index;
-use index::{
-    ITEMS_16, ITEMS_128, ITEMS_384, ITEMS_1024, LINKS_16, LINKS_128, LINKS_384, LINKS_1024,
-};
+use index::{ITEMS_16, ITEMS_128, ITEMS_384, LINKS_16, LINKS_128, LINKS_384, LINKS_1024};
 use model::view::View;
 use printing::Output;
 use refusals::Refusal;
@@ -55,10 +53,8 @@ fn print_source(s: &Index<'_>, out: &mut [u8]) -> usize
 fn has_room(s: &Index<'_>, room: usize) -> bool
     ensures { result ≡ leb (past 0 (source s.now)) room }
 {
-    if s.count() <= ITEMS_1024 {
-        if source_most(s) <= room {
-            return true;
-        }
+    if source_most(s) <= room {
+        return true;
     }
     let mut none = [0u8; 0];
     print_source(s, &mut none) <= room

@@ -9,8 +9,8 @@ ghost use Rattle.xmltoproto.specs.internal.Parts.{indent_of, undeclared, group_h
 use crate::line::{write_line, write_typed};
 use crate::types::{Shape, shape_of};
 use crate::walk::{ItemText, write_under};
-use index::ITEMS_1024;
-use index::seen::{Declaration, Index};
+use index::declaration::Declaration;
+use index::seen::Index;
 use model::{FIELD, GROUP};
 use names::plurals::write_singular;
 use names::snake::write_snake;
@@ -27,7 +27,7 @@ fn write_undeclared(out: &mut Output<'_>, deep: bool, type_name: &[u8], name: &[
 }
 
 /// Writes the line of the item at `i` by `Index::declared`. Out of line: this is only for an item
-/// that is no field, or a schema that the index does not hold.
+/// that is no field.
 #[tactic(auto, unfolding(crate::specs::Source::field_text, crate::specs::Types::as_named), using(crate::proofs::Typing::meanings))]
 #[cold]
 #[inline(never)]
@@ -54,20 +54,18 @@ fn write_field(out: &mut Output<'_>, s: &Index<'_>, deep: bool, i: u32)
     let name = s.name(i);
     let number = s.number(i);
     if s.kind(i) == FIELD {
-        if s.count() <= ITEMS_1024 {
-            // By the number: a `Declaration` would be stored and loaded again, and the branch would
-            // wait for that (store forwarding).
-            let known = s.field_number(i);
-            if 1 < known {
-                let k = known - 2;
-                return write_typed(out, s, deep, k, name, number);
-            }
-            let type_name = s.second(i);
-            if known == 1 {
-                return write_line(out, deep, Shape::Plain, type_name, b"", name, number);
-            }
-            return write_undeclared(out, deep, type_name, name, number);
+        // By the number: a `Declaration` would be stored and loaded again, and the branch would
+        // wait for that (store forwarding).
+        let known = s.field_number(i);
+        if 1 < known {
+            let k = known - 2;
+            return write_typed(out, s, deep, k, name, number);
         }
+        let type_name = s.second(i);
+        if known == 1 {
+            return write_line(out, deep, Shape::Plain, type_name, b"", name, number);
+        }
+        return write_undeclared(out, deep, type_name, name, number);
     }
     write_unsettled(out, s, deep, i);
 }

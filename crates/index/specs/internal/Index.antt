@@ -10,7 +10,7 @@ use Rattle.texts.specs.Choice.{pick, ◌and◌}
 use Rattle.texts.specs.Text.{piece, same}
 use Rattle.swar.specs.Word.{word_of}
 use Rattle.model.specs.Schema.{Item, Schema, item_at, positions_from, last, next_under, a_type, a_field}
-use Rattle.ordered.specs.Numbered.{declares}
+use Rattle.index.specs.Declarations.{declares}
 use Rattle.index.specs.Blank.{kinds, per_item, mask_of}
 use Rattle.index.specs.Declarations.{declaration_of, number_of}
 
@@ -82,6 +82,7 @@ last_hashed b n s = last (positions_from 0 (hashed s b) (take n s.items))
 -- the first n items are in their chains: a head is the last item of its chain, and each leads to
 -- the one before it
 pub record Chained (s : Schema) (n : ℕ) (ix : List ℕ) : Type 0 where
+  pub few : length s.items ≤ 1024
   pub head : (b : ℕ) → b ≤ mask_of (length s.items) → get_or ix (per_item * length s.items + b) 0 ≡ code (last_hashed b n s)
   pub chain : (j : ℕ) → j < n → (b : ℕ) → T (hashed s b (item_at s j)) → get_or ix (per_item * j + 1) 0 ≡ code (last_hashed b j s)
 
@@ -97,13 +98,13 @@ kept_by it i name kept = pick (eqb it.kind a_type) (pick (ltb 0 kept) kept (pick
 pub record Resolved (s : Schema) (n : ℕ) (ix : List ℕ) : Type 0 where
   pub is : (j : ℕ) → n ≤ j → j < length s.items → (item_at s j).kind ≡ a_field → get_or ix (per_item * j + 1) 0 ≡ number_of (declaration_of s (item_at s j).second)
 
--- ---- the whole index, which holds nothing of a schema of more than 1,024 items
+-- ---- the whole index
 
 -- the index is right for the schema
 pub record Indexed (s : Schema) (ix : List ℕ) : Type 0 where
-  pub long : length s.items ≤ 1024 → per_item * length s.items ≤ length ix
-  pub links : length s.items ≤ 1024 → Linked s 0 ix
-  pub types : length s.items ≤ 1024 → Resolved s 0 ix
+  pub long : per_item * length s.items ≤ length ix
+  pub links : Linked s 0 ix
+  pub types : Resolved s 0 ix
 
 -- ---- while it is built
 

@@ -11,7 +11,7 @@ pub generate_with-requires-then-n-le-ITEMS_128 : goal.generate_with-requires-the
 generate_with-requires-then-n-le-ITEMS_128 c = (blank-few c.args.schema (per_item * 128 + 128) (omega arith) (omega arith), omega arith)
 
 pub generate_with-requires-then-n-le-ITEMS_384 : goal.generate_with-requires-then-n-le-ITEMS_384
-generate_with-requires-then-n-le-ITEMS_384 c = (blank c.args.schema (per_item * 384 + 1024) (λ _. omega arith), omega arith)
+generate_with-requires-then-n-le-ITEMS_384 c = (blank c.args.schema (per_item * 384 + 1024) (omega arith), omega arith)
 
 pub generate_with-requires-2 : goal.generate_with-requires-2
-generate_with-requires-2 c = (blank c.args.schema (per_item * 1024 + 1024) (λ most. omega arith), omega arith)
+generate_with-requires-2 c = (blank c.args.schema (per_item * 1024 + 1024) (let f = c.count-n.ensures.few in omega arith), omega arith)

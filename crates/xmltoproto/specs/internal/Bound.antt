@@ -3,8 +3,8 @@ use Rattle.std.specs.Prelude.{Option, Some, None, ℕ, zero, suc, ◌+◌, ◌*�
 use Rattle.texts.specs.Choice.{pick}
 use Rattle.printing.specs.Decimal.{decimal}
 use Rattle.index.specs.Declarations.{declaration_of}
-use Rattle.index.specs.declared.seen.Declaration.{Declaration}
-use Rattle.index.specs.declared.seen.Declaration.TheVariants.{Named, Typed}
+use Rattle.index.specs.declared.declaration.Declaration.{Declaration}
+use Rattle.index.specs.declared.declaration.Declaration.TheVariants.{Named, Typed}
 use Rattle.model.specs.Schema.{Item, Schema, item_at, a_member, a_ref, a_composite, an_enum, a_value, a_message, a_group, a_field}
 use Rattle.xmltoproto.specs.Types.{Form, form_of, built_in}
 

@@ -12,4 +12,4 @@ loop-i-preserved c =
     ]
 
 pub returns : goal.returns
-returns c _ = lacking-all c.loop-i.invariant c.count-i-end.ensures (omega arith)
+returns c _ = lacking-all c.loop-i.invariant c.count-i-end.ensures.is (omega arith)

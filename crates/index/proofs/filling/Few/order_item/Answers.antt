@@ -1,6 +1,0 @@
-use Rattle.std.proofs.Common.{refl}
-use Rattle.index.proofs.Building.{resolve-ordered}
-use Rattle.index.proofs.filling.Few.order_item.Goals as goal
-
-pub returns-then-kind-eq-FIELD : goal.returns-then-kind-eq-FIELD
-returns-then-kind-eq-FIELD c = let e = c.self.view_is in let n = rw c.requires.1 at c.number_of-d.ensures in resolve-ordered _ _ (rw e at c.kind.ensures) _ c.requires.0 c.if-kind-eq-FIELD.true c.requires.2 (rw e at c.second.ensures) n refl

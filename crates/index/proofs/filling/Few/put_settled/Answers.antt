@@ -1,6 +1,0 @@
-use Rattle.std.proofs.Common.{refl, arith}
-use Rattle.index.proofs.Building.{settling-start}
-use Rattle.index.proofs.filling.Few.put_settled.Goals as goal
-
-pub loop-i-init : goal.loop-i-init
-loop-i-init c = let n = rw c.self.view_is at c.count-i.ensures in record { settling = settling-start _ _ c.requires n; within = omega (arith, n); long = refl }

@@ -1,6 +1,0 @@
-use Rattle.std.proofs.Common.{◌≡◌}
-use Rattle.ordered.proofs.Inserting.{Moving}
-use Rattle.ordered.proofs.Places.insert.Given as goal
-
-abbrev pub invariant-loop-j : goal.invariant-loop-j
-invariant-loop-j l = Moving l.initial.self.names l.initial.self.count l.p l.self.names l.j × (l.self.count ≡ l.initial.self.count)

@@ -1,9 +1,0 @@
-use Prim.Native.Nat.{◌-◌}
-use Rattle.ordered.proofs.Placing.{Halving}
-use Rattle.ordered.proofs.Places.place_of.Given as goal
-
-abbrev pub invariant-loop-low : goal.invariant-loop-low
-invariant-loop-low l = Halving l.v l.self.names l.self.count l.name l.low l.high
-
-abbrev pub decreases-loop-low : goal.decreases-loop-low
-decreases-loop-low l = l.high - l.low

@@ -1,2 +1,0 @@
--- Internal: what the contracts between functions cite. No customer has to read these.
-pub mod Ordered
