@@ -8,7 +8,7 @@ use Rattle.texts.specs.Text.{ascii, piece, same}
 use Rattle.texts.proofs.Stores.{piece-above}
 use Rattle.refusals.specs.declared.Refusal.{Refusal}
 use Rattle.refusals.specs.declared.Refusal.TheVariants.{BadNumber, TooDeep}
-use Rattle.tags.specs.declared.tag.Noted.{Noted}
+use Rattle.builder.specs.declared.work.Found.{Found}
 use Rattle.tags.specs.Attributes.{attribute_at, raw_length}
 use Rattle.elements.specs.Keys.{schema_keys, keys_of}
 use Rattle.saxlite.specs.Event.{value_in}
@@ -26,7 +26,7 @@ use Rattle.builder.specs.declared.work.Work.{Work}
 use Rattle.builder.proofs.Alikes.{alike_self, alike-wider, alike-trans, builder-alike}
 use Rattle.builder.proofs.Stacking.{length-stack, push-ready, push-builder}
 use Rattle.builder.proofs.Adding.{same-trans, after-as, after-refused}
-use Rattle.builder.proofs.Finding.{second-said, third-said, third-room}
+use Rattle.builder.proofs.Finding.{second-said, name-said, name-room}
 use Rattle.builder.proofs.Numbering.{is_number, no-number, refused-by, numbered-some, numbered-none}
 
 -- ---- messageSchema
@@ -45,7 +45,7 @@ unfolding open_schema
 bad-version place a b f g = rw (f, g)
 
 -- two numbers, then the package's name
-module _ {w : Work} {s : State} {tag : Tag} (o : Opens schema_keys w s tag) {f : Noted} (ef : Finds tag f) {w₁ : Work} {x : Result ℕ Refusal} (m : Numbered tag.place (room tag) f.first w s w₁ x) where
+module _ {w : Work} {s : State} {tag : Tag} (o : Opens schema_keys w s tag) {f : Found} (ef : Finds tag f) {w₁ : Work} {x : Result ℕ Refusal} (m : Numbered tag.place (room tag) f.number w s w₁ x) where
   abbrev Schemas : Work → Result State Refusal → Type 0
   Schemas w' r = After (open_schema tag.place (attributes_of w tag) (builder_in w s)) w s (room tag) w' r
 
@@ -63,12 +63,12 @@ module _ {w : Work} {s : State} {tag : Tag} (o : Opens schema_keys w s tag) {f :
         let z : r ≡ Err (BadNumber tag.place) = p.1 ∙ ap (λ u. Err u) (p.2 ∙ v.1) in
         rw z (record { is = bad-version tag.place (attributes_of w tag) (builder_in w s) (is_number o ef m ex) (sym said ∙ v.0); kept = tt; used = tt; same = same-trans m.same n.same })
 
-    pub package-asked : (raw_length f.third ≤ s.place.high) × (s.place.high ≤ length w₂.text.now)
-    package-asked = (omega (arith, third-room o ef, n.ready.room), omega (arith, n.ready.kept.top, n.ready.kept.bytes))
+    pub package-asked : (raw_length f.name ≤ s.place.high) × (s.place.high ≤ length w₂.text.now)
+    package-asked = (omega (arith, name-room o ef, n.ready.room), omega (arith, n.ready.kept.top, n.ready.kept.bytes))
 
-    module _ {version : ℕ} (ey : y ≡ Ok version) {k : Taken} {t : List ℕ} (q : TakenAt f.third w₂.doc.now w₂.text.now s.place.high k t) where
+    module _ {version : ℕ} (ey : y ≡ Ok version) {k : Taken} {t : List ℕ} (q : TakenAt f.name w₂.doc.now w₂.text.now s.place.high k t) where
       low : s.place.low ≤ k.from
-      low = omega (arith, third-room o ef, n.ready.room, q.start)
+      low = omega (arith, name-room o ef, n.ready.room, q.start)
 
       abbrev now : State
       now = record { place = record { depth = s.place.depth; count = s.place.count; low = s.place.low; high = k.from; start = s.place.start }; current = s.current; head = record { name = k.from; len = k.len; id = id; version = version } }
@@ -84,7 +84,7 @@ module _ {w : Work} {s : State} {tag : Tag} (o : Opens schema_keys w s tag) {f :
       schema-now u a =
           let d : w₂.doc ≡ w.doc = n.same.doc ∙ m.same.doc in
           let p : piece u k.from k.len ≡ or_empty (value_in w.doc.now (attribute_at w.doc.now tag.attributes (ascii "package"))) =
-          piece-above t u k.from k.from k.len (omega arith) a.above ∙ q.is ∙ ap (λ (x : Bor (List ℕ)). or_empty (value_in x.now f.third)) d ∙ ap (λ (x : Option Range). or_empty (value_in w.doc.now x)) (third-said o ef) in
+          piece-above t u k.from k.from k.len (omega arith) a.above ∙ q.is ∙ ap (λ (x : Bor (List ℕ)). or_empty (value_in x.now f.name)) d ∙ ap (λ (x : Option Range). or_empty (value_in w.doc.now x)) (name-said o ef) in
           let i : items_of s.place.count w₂.records.now u ≡ items_of s.place.count w₂.records.now w₂.text.now =
           ap (λ (x : Schema). x.items) (n.ready.kept.stable u (alike-trans whole (alike-wider t u s.place.low k.from s.place.high (omega (arith, q.start)) a))) in
           rw (p, i)
@@ -115,7 +115,7 @@ module _ {w : Work} {s : State} {tag : Tag} (o : Opens schema_keys w s tag) {f :
                   depth = k.depth;
                   stable = λ u a. schema-now u a ∙ sym (schema-now t alike_self);
                 };
-            used = omega (arith, q.start, k.top, third-room o ef);
+            used = omega (arith, q.start, k.top, name-room o ef);
             same = same-trans m.same (same-trans n.same (record { limits = refl; doc = refl; records = refl; text = refl }));
           }
 

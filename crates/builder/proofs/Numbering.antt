@@ -5,7 +5,7 @@ use Rattle.std.proofs.Common.{Option, Some, None, Result, Ok, Err, IsErrAnd, ◌
 use denote.Ref.{Bor}
 use Rattle.refusals.specs.declared.Refusal.{Refusal}
 use Rattle.refusals.specs.declared.Refusal.TheVariants.{BadNumber, MisplacedField}
-use Rattle.tags.specs.declared.tag.Noted.{Noted}
+use Rattle.builder.specs.declared.work.Found.{Found}
 use Rattle.tags.specs.Attributes.{attribute_at}
 use Rattle.elements.specs.Keys.{Keys, field_keys, type_keys}
 use Rattle.saxlite.specs.Event.{value_in}
@@ -20,7 +20,7 @@ use Rattle.builder.specs.declared.take.Draft.{Draft}
 use Rattle.builder.specs.declared.work.Tag.{Tag}
 use Rattle.builder.specs.declared.work.Work.{Work}
 use Rattle.builder.proofs.Adding.{after-as, after-then}
-use Rattle.builder.proofs.Finding.{currently, message-now, group-now, first_said, typed, type-drafted, named-drafted, field-drafted}
+use Rattle.builder.proofs.Finding.{currently, message-now, group-now, number-said, typed, type-drafted, named-drafted, field-drafted}
 use Rattle.builder.proofs.Opening.{field-of-group, field-bad, message-added, group-added, type-by, member-not, member-by, message-by, group-not, group-by, field-not, field-of-message, bad-message, bad-group, bad-field, bad-type, Added, Gives}
 
 -- ---- a number
@@ -40,12 +40,12 @@ numbered-none place None e = (refl, err-inj e)
 numbered-none place (Some m) e = absurd (let z : ◌≡◌ {A = ℕ} 0 1 = cc in omega arith)
 
 -- the first value that was noted of a tag, as a number
-module _ {k : Keys} {w : Work} {s : State} {tag : Tag} (o : Opens k w s tag) {f : Noted} (ef : Finds tag f) {n : ℕ} {w₁ : Work} {x : Result ℕ Refusal} (m : Numbered tag.place n f.first w s w₁ x) where
-  pub is_number : {v : ℕ} → x ≡ Ok v → number_of (value_in w.doc.now (attribute_at w.doc.now tag.attributes k.first)) ≡ Some v
-  is_number e = ap (λ (y : Option Range). number_of (value_in w.doc.now y)) (sym (first_said o ef)) ∙ numbered-some tag.place _ (sym e ∙ m.is)
+module _ {k : Keys} {w : Work} {s : State} {tag : Tag} (o : Opens k w s tag) {f : Found} (ef : Finds tag f) {n : ℕ} {w₁ : Work} {x : Result ℕ Refusal} (m : Numbered tag.place n f.number w s w₁ x) where
+  pub is_number : {v : ℕ} → x ≡ Ok v → number_of (value_in w.doc.now (attribute_at w.doc.now tag.attributes k.number)) ≡ Some v
+  is_number e = ap (λ (y : Option Range). number_of (value_in w.doc.now y)) (sym (number-said o ef)) ∙ numbered-some tag.place _ (sym e ∙ m.is)
 
-  pub no-number : {q : Refusal} → x ≡ Err q → number_of (value_in w.doc.now (attribute_at w.doc.now tag.attributes k.first)) ≡ None
-  no-number e = ap (λ (y : Option Range). number_of (value_in w.doc.now y)) (sym (first_said o ef)) ∙ (numbered-none tag.place _ (sym e ∙ m.is)).0
+  pub no-number : {q : Refusal} → x ≡ Err q → number_of (value_in w.doc.now (attribute_at w.doc.now tag.attributes k.number)) ≡ None
+  no-number e = ap (λ (y : Option Range). number_of (value_in w.doc.now y)) (sym (number-said o ef)) ∙ (numbered-none tag.place _ (sym e ∙ m.is)).0
 
   -- 32, where it is none
   pub refused-by : {q : Refusal} → x ≡ Err q → {r : Result State Refusal} → IsErrAnd r (λ y. y ≡ q) → {p : Outcome} → refused (BadNumber tag.place) ≡ p → After p w s (room tag) w₁ r
@@ -66,7 +66,7 @@ module _ {k : Keys} {w : Work} {s : State} {tag : Tag} (o : Opens k w s tag) {f 
   unadded : {o : Outcome} → on (builder_in w s) ≡ o → After o w s (room tag) w₁ (Ok s)
   unadded e = record { is = ap on m.builder ∙ e; kept = m.ready.kept; used = omega arith; same = m.same }
 
-module _ {w : Work} {s : State} {tag : Tag} (o : Opens field_keys w s tag) {f : Noted} (ef : Finds tag f) {n : ℕ} {w₁ : Work} {x : Result ℕ Refusal} (m : Numbered tag.place n f.first w s w₁ x) where
+module _ {w : Work} {s : State} {tag : Tag} (o : Opens field_keys w s tag) {f : Found} (ef : Finds tag f) {n : ℕ} {w₁ : Work} {x : Result ℕ Refusal} (m : Numbered tag.place n f.number w s w₁ x) where
   module _ {q : Refusal} (e : x ≡ Err q) {r : Result State Refusal} (h : IsErrAnd r (λ y. y ≡ q)) where
     pub message-refused : Gives (open_message w.limits tag.place (attributes_of w tag) (builder_in w s)) w s tag w₁ r
     message-refused = refused-by o ef m e h (bad-message w.limits tag.place (attributes_of w tag) (builder_in w s) (no-number o ef m e))
@@ -90,32 +90,32 @@ module _ {w : Work} {s : State} {tag : Tag} (o : Opens field_keys w s tag) {f : 
         record { is = field-bad w.limits tag.place (attributes_of w tag) (builder_in w s) (is_number o ef m e) z h (rw (← i) (ne_eqb y c k)); kept = tt; used = tt; same = m.same }
 
     module _ {d : Draft} {w' : Work} {r : Result State Refusal} where
-      pub message-on : d ≡ drafted a_message 0 v f.second None → Added w₁ tag (currently s (message-now s)) d w' r → Gives (open_message w.limits tag.place (attributes_of w tag) (builder_in w s)) w s tag w' r
+      pub message-on : d ≡ drafted a_message 0 v f.name None → Added w₁ tag (currently s (message-now s)) d w' r → Gives (open_message w.limits tag.place (attributes_of w tag) (builder_in w s)) w s tag w' r
       message-on q p =
           after-then m.same (after-as s
           (readded o ef m (now_message (Some s.place.count)) d (named-drafted o ef q) ∙ message-added w.limits tag.place _ w s ∙ message-by w.limits tag.place (attributes_of w tag) (builder_in w s) (is_number o ef m e))
           refl (omega arith) p)
 
-      pub group-on : {c : ℕ} → s.current.message ≡ Some c → d ≡ drafted a_group c v f.second None → Added w₁ tag (currently s (group-now s)) d w' r → Gives (open_group w.limits tag.place (attributes_of w tag) (builder_in w s)) w s tag w' r
+      pub group-on : {c : ℕ} → s.current.message ≡ Some c → d ≡ drafted a_group c v f.name None → Added w₁ tag (currently s (group-now s)) d w' r → Gives (open_group w.limits tag.place (attributes_of w tag) (builder_in w s)) w s tag w' r
       group-on z q p =
           after-then m.same (after-as s
           (readded o ef m (now_group (Some s.place.count)) d (named-drafted o ef q) ∙ group-added w.limits tag.place _ w s ∙ group-by w.limits tag.place (attributes_of w tag) (builder_in w s) (is_number o ef m e) z)
           refl (omega arith) p)
 
-      pub field-message : {c : ℕ} → s.current.message ≡ Some c → s.current.group ≡ None → d ≡ drafted a_field c v f.second f.third → Added w₁ tag s d w' r → Gives (open_field w.limits tag.place (attributes_of w tag) (builder_in w s)) w s tag w' r
+      pub field-message : {c : ℕ} → s.current.message ≡ Some c → s.current.group ≡ None → d ≡ drafted a_field c v f.name f.second → Added w₁ tag s d w' r → Gives (open_field w.limits tag.place (attributes_of w tag) (builder_in w s)) w s tag w' r
       field-message z h q p =
           after-then m.same (after-as s
           (readded o ef m (λ b. b) d (field-drafted o ef q) ∙ field-of-message w.limits tag.place (attributes_of w tag) (builder_in w s) (is_number o ef m e) z h)
           refl (omega arith) p)
 
-      pub field-group : {c g : ℕ} → s.current.message ≡ Some c → s.current.group ≡ Some g → {y : ℕ} → y ≡ (item_at (builder_in w₁ s).schema g).owner → y ≡ c → d ≡ drafted a_field g v f.second f.third → Added w₁ tag s d w' r → Gives (open_field w.limits tag.place (attributes_of w tag) (builder_in w s)) w s tag w' r
+      pub field-group : {c g : ℕ} → s.current.message ≡ Some c → s.current.group ≡ Some g → {y : ℕ} → y ≡ (item_at (builder_in w₁ s).schema g).owner → y ≡ c → d ≡ drafted a_field g v f.name f.second → Added w₁ tag s d w' r → Gives (open_field w.limits tag.place (attributes_of w tag) (builder_in w s)) w s tag w' r
       field-group {c} {g} z h {y} j k q p =
           let i : y ≡ (item_at (builder_in w s).schema g).owner = j ∙ ap (λ (b : Builder). (item_at b.schema g).owner) m.builder in
           after-then m.same (after-as s
           (readded o ef m (λ b. b) d (field-drafted o ef q) ∙ field-of-group w.limits tag.place (attributes_of w tag) (builder_in w s) (is_number o ef m e) z h (rw (← i) (eq-eqb y c k)))
           refl (omega arith) p)
 
-module _ {w : Work} {s : State} {tag : Tag} (o : Opens type_keys w s tag) {f : Noted} (ef : Finds tag f) {n : ℕ} {w₁ : Work} {x : Result ℕ Refusal} (m : Numbered tag.place n f.first w s w₁ x) where
+module _ {w : Work} {s : State} {tag : Tag} (o : Opens type_keys w s tag) {f : Found} (ef : Finds tag f) {n : ℕ} {w₁ : Work} {x : Result ℕ Refusal} (m : Numbered tag.place n f.number w s w₁ x) where
   abbrev Types : Work → Result State Refusal → Type 0
   Types w' r = Gives (open_type w.limits tag.place (parent_composite (builder_in w s)) (attributes_of w tag) (builder_in w s)) w s tag w' r
 

@@ -3,7 +3,7 @@ use Rattle.std.proofs.Common.{Some, None, Result, Ok, ◌≡◌, refl, ap, ◌�
 use Rattle.texts.specs.Choice.{pick}
 use Rattle.refusals.specs.declared.Refusal.{Refusal}
 use Rattle.refusals.specs.declared.Refusal.TheVariants.{BadNumber, MisplacedField}
-use Rattle.tags.specs.declared.tag.Noted.{Noted}
+use Rattle.builder.specs.declared.work.Found.{Found}
 use Rattle.elements.specs.Keys.{field_keys, enum_keys}
 use Rattle.model.specs.Schema.{Item, item_at, a_type, a_member, a_ref, a_composite, an_enum, a_value, a_message, a_group, a_field}
 use Rattle.builder.specs.Builder.{Builder, Outcome, on, refused, added, and_then, plain_item, type_item, text_in, open_type, open_ref, open_composite, open_enum, open_value, open_message, open_group, open_field, Attributes, number_in, now_composite, now_enum, now_message, now_group, with_text, next_position}
@@ -146,24 +146,24 @@ module _ {w : Work} {s : State} {tag : Tag} where
         let z : s.place.low - s.place.low ≡ 0 = omega arith in
         record { is = rw z (value_not w.limits tag.place (attributes_of w tag) (builder_in w s) e); kept = kept-emptied o.ready.kept; used = omega arith; same = same_self }
 
-    module _ {f : Noted} (ef : Finds tag f) {d : Draft} {w' : Work} {r : Result State Refusal} where
-      pub ref-on : {c : ℕ} → s.current.composite ≡ Some c → d ≡ drafted a_ref c 0 f.second f.third → Added w tag s d w' r → Gives (open_ref w.limits tag.place (attributes_of w tag) (builder_in w s)) w s tag w' r
+    module _ {f : Found} (ef : Finds tag f) {d : Draft} {w' : Work} {r : Result State Refusal} where
+      pub ref-on : {c : ℕ} → s.current.composite ≡ Some c → d ≡ drafted a_ref c 0 f.name f.second → Added w tag s d w' r → Gives (open_ref w.limits tag.place (attributes_of w tag) (builder_in w s)) w s tag w' r
       ref-on e q p = after-as s (of-item w tag s (field-drafted o ef q) ∙ ref-by w.limits tag.place (attributes_of w tag) (builder_in w s) e) refl (omega arith) p
 
-      pub composite-on : d ≡ drafted a_composite 0 0 f.second None
+      pub composite-on : d ≡ drafted a_composite 0 0 f.name None
           → Added w tag (currently s (composite-now s)) d w' r
           → Gives (open_composite w.limits tag.place (attributes_of w tag) (builder_in w s)) w s tag w' r
       unfolding open_composite
       composite-on q p = after-as s (of-item w tag (currently s (composite-now s)) (named-drafted o ef q) ∙ composite-added w.limits tag.place _ w s) refl (omega arith) p
 
-      pub value_on : {c : ℕ} → s.current.enumer ≡ Some c → d ≡ drafted a_value c 0 f.second None
+      pub value_on : {c : ℕ} → s.current.enumer ≡ Some c → d ≡ drafted a_value c 0 f.name None
           → Added w tag (emptied s (value-now s)) d w' r
           → Gives (open_value w.limits tag.place (attributes_of w tag) (builder_in w s)) w s tag w' r
       value_on e q p =
           let z : s.place.low - s.place.low ≡ 0 = omega arith in
           after-as s (of-item w tag (emptied s (value-now s)) (named-drafted o ef q) ∙ rw z (value-added w.limits tag.place _ w s ∙ value-by w.limits tag.place (attributes_of w tag) (builder_in w s) e)) refl (omega arith) p
 
-  pub enum-on : Opens enum_keys w s tag → {f : Noted} → Finds tag f → {d : Draft} → d ≡ drafted an_enum 0 0 f.first f.second → {w' : Work} {r : Result State Refusal}
+  pub enum-on : Opens enum_keys w s tag → {f : Found} → Finds tag f → {d : Draft} → d ≡ drafted an_enum 0 0 f.name f.second → {w' : Work} {r : Result State Refusal}
       → Added w tag (currently s (enum-now s)) d w' r
       → Gives (open_enum w.limits tag.place (attributes_of w tag) (builder_in w s)) w s tag w' r
   unfolding open_enum
