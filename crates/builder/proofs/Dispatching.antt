@@ -8,7 +8,7 @@ use Rattle.texts.specs.Text.{ascii, piece, same}
 use Rattle.texts.proofs.Stores.{piece-above}
 use Rattle.refusals.specs.declared.Refusal.{Refusal}
 use Rattle.refusals.specs.declared.Refusal.TheVariants.{BadNumber, TooDeep}
-use Rattle.tags.specs.declared.tag.Noted.{Noted}
+use Rattle.builder.specs.declared.work.Found.{Found}
 use Rattle.tags.specs.Attributes.{attribute_at, raw_length}
 use Rattle.elements.specs.Keys.{schema_keys, keys_of}
 use Rattle.saxlite.specs.Event.{value_in}
@@ -26,7 +26,7 @@ use Rattle.builder.specs.declared.work.Work.{Work}
 use Rattle.builder.proofs.Alikes.{alike_self, alike-wider, alike-trans, builder-alike}
 use Rattle.builder.proofs.Stacking.{length-stack, push-ready, push-builder}
 use Rattle.builder.proofs.Adding.{same-trans, after-as, after-refused}
-use Rattle.builder.proofs.Finding.{second-said, third-said, third-room}
+use Rattle.builder.proofs.Finding.{second-said, name-said, name-room}
 use Rattle.builder.proofs.Opening.{is_number, number-ok, number-err}
 
 -- ---- messageSchema
@@ -41,7 +41,7 @@ unfolding open_schema
 bad-version place a b f g = rw (f, g)
 
 -- two numbers, then the package's name
-module _ {w : Work} {s : State} {tag : Tag} (o : ReadyToOpen schema_keys w s tag) {f : Noted} (ef : Finds tag f) {w₁ : Work} {x : Result ℕ Refusal} (m : NumberRead tag.place (room tag) f.first w s w₁ x) where
+module _ {w : Work} {s : State} {tag : Tag} (o : ReadyToOpen schema_keys w s tag) {f : Found} (ef : Finds tag f) {w₁ : Work} {x : Result ℕ Refusal} (m : NumberRead tag.place (room tag) f.number w s w₁ x) where
   abbrev Schemas : Work → Result State Refusal → Type 0
   Schemas w' r = After (open_schema tag.place (attributes_of w tag) (builder_in w s)) w s (room tag) w' r
 
@@ -56,12 +56,12 @@ module _ {w : Work} {s : State} {tag : Tag} (o : ReadyToOpen schema_keys w s tag
         let z : r ≡ Err (BadNumber tag.place) = p.1 ∙ ap (λ u. Err u) (p.2 ∙ v.1) in
         rw z (record { is = bad-version tag.place (attributes_of w tag) (builder_in w s) (is_number o ef m ex) (sym said ∙ v.0); sound = tt; used = tt; same = same-trans m.same n.same })
 
-    pub package-asked : (raw_length f.third ≤ s.usage.taken_from) × (s.usage.taken_from ≤ length w₂.text.now)
-    package-asked = (omega (arith, third-room o ef, n.ready.room), omega (arith, n.ready.sound.within.top, n.ready.sound.lent.bytes))
+    pub package-asked : (raw_length f.name ≤ s.usage.taken_from) × (s.usage.taken_from ≤ length w₂.text.now)
+    package-asked = (omega (arith, name-room o ef, n.ready.room), omega (arith, n.ready.sound.within.top, n.ready.sound.lent.bytes))
 
-    module _ {version : ℕ} (ey : y ≡ Ok version) {k : Range} {t : List ℕ} (q : TakenAt f.third w₂.doc.now w₂.text.now s.usage.taken_from k t) where
+    module _ {version : ℕ} (ey : y ≡ Ok version) {k : Range} {t : List ℕ} (q : TakenAt f.name w₂.doc.now w₂.text.now s.usage.taken_from k t) where
       low : s.usage.collected_to ≤ k.from
-      low = omega (arith, third-room o ef, n.ready.room, q.start)
+      low = omega (arith, name-room o ef, n.ready.room, q.start)
 
       abbrev now : State
       now = record s { usage = record s.usage { taken_from = k.from }; head = record { name = k.from; len = k.len; id = id; version = version } }
@@ -77,7 +77,7 @@ module _ {w : Work} {s : State} {tag : Tag} (o : ReadyToOpen schema_keys w s tag
       schema-now u a =
           let d : w₂.doc ≡ w.doc = n.same.doc ∙ m.same.doc in
           let p : piece u k.from k.len ≡ or_empty (value_in w.doc.now (attribute_at w.doc.now tag.attributes (ascii "package"))) =
-          piece-above t u k.from k.from k.len (omega arith) a.above ∙ q.is ∙ ap (λ (x : Bor (List ℕ)). or_empty (value_in x.now f.third)) d ∙ ap (λ (x : Option Range). or_empty (value_in w.doc.now x)) (third-said o ef) in
+          piece-above t u k.from k.from k.len (omega arith) a.above ∙ q.is ∙ ap (λ (x : Bor (List ℕ)). or_empty (value_in x.now f.name)) d ∙ ap (λ (x : Option Range). or_empty (value_in w.doc.now x)) (name-said o ef) in
           let i : items_of s.usage.items w₂.records.now u ≡ items_of s.usage.items w₂.records.now w₂.text.now =
           ap (λ (x : Schema). x.items) (n.ready.sound.stable u (alike-trans whole (alike-wider t u s.usage.collected_to k.from s.usage.taken_from (omega (arith, q.start)) a))) in
           rw (p, i)
@@ -96,7 +96,7 @@ module _ {w : Work} {s : State} {tag : Tag} (o : ReadyToOpen schema_keys w s tag
                 ∙ ap (open_schema tag.place (attributes_of w tag)) b;
             sound =
                 record { within = record { deep = k.within.deep; many = k.within.many; begun = k.within.begun; apart = low; top = omega (arith, q.start, k.within.top) }; lent = record { document = k.lent.document; records = k.lent.records; bytes = omega (arith, q.long, k.lent.bytes) }; stable = λ u a. schema-now u a ∙ sym (schema-now t alike_self) };
-            used = omega (arith, q.start, k.within.top, third-room o ef);
+            used = omega (arith, q.start, k.within.top, name-room o ef);
             same = same-trans m.same (same-trans n.same (record { limits = refl; doc = refl; records = refl; text = refl }));
           }
 

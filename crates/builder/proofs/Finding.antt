@@ -3,7 +3,7 @@ use Rattle.texts.specs.declared.Range.{Range}
 use Rattle.std.proofs.Common.{Option, Some, None, Result, ◌≡◌, refl, ap, ◌∙◌, true, List, [], ◌∷◌, ℕ, ◌≤◌, arith}
 use Rattle.texts.specs.Text.{ascii, same}
 use Rattle.refusals.specs.declared.Refusal.{Refusal}
-use Rattle.tags.specs.declared.tag.Noted.{Noted}
+use Rattle.builder.specs.declared.work.Found.{Found}
 use Rattle.tags.specs.Attributes.{attribute_at, raw_length}
 use Rattle.elements.specs.Keys.{Keys, schema_keys, field_keys, type_keys, enum_keys}
 use Rattle.builder.specs.Builder.{plain_item, type_item, text_in}
@@ -55,98 +55,98 @@ ready-emptied r = record { sound = sound-emptied r.sound; room = r.room }
 
 -- ---- what was found in a tag
 
-module _ {k : Keys} {w : Work} {s : State} {tag : Tag} (o : ReadyToOpen k w s tag) {f : Noted} (e : Finds tag f) where
+module _ {k : Keys} {w : Work} {s : State} {tag : Tag} (o : ReadyToOpen k w s tag) {f : Found} (e : Finds tag f) where
   abbrev pub at : List ℕ → Option Range
   at key = attribute_at w.doc.now tag.attributes key
 
-  pub first_said : f.first ≡ at k.first
-  first_said = ap (λ (r : Noted). r.first) e.is ∙ o.noted.first
+  pub number-said : f.number ≡ at k.number
+  number-said = ap (λ (r : Found). r.number) e.is ∙ o.noted.number
+
+  pub name-said : f.name ≡ at k.name
+  name-said = ap (λ (r : Found). r.name) e.is ∙ o.noted.name
 
   pub second-said : f.second ≡ at k.second
-  second-said = ap (λ (r : Noted). r.second) e.is ∙ o.noted.second
+  second-said = ap (λ (r : Found). r.second) e.is ∙ o.noted.second
 
-  pub third-said : f.third ≡ at k.third
-  third-said = ap (λ (r : Noted). r.third) e.is ∙ o.noted.third
-
-  pub fourth-said : f.fourth ≡ at k.fourth
-  fourth-said = ap (λ (r : Noted). r.fourth) e.is ∙ o.noted.fourth
+  pub encoding-said : f.encoding ≡ at k.encoding
+  encoding-said = ap (λ (r : Found). r.encoding) e.is ∙ o.noted.encoding
 
   -- it takes no more than the tag
-  pub first-room : Reads w s tag f.first
+  pub number-room : Reads w s tag f.number
   unfolding Reads
-  first-room = (o.ready, rw first_said (tag_one w.doc.now tag.attributes tag.next o.tagged k.first))
+  number-room = (o.ready, rw number-said (tag_one w.doc.now tag.attributes tag.next o.tagged k.number))
+
+  pub name-room : raw_length f.name ≤ room tag
+  name-room = rw name-said (tag_one w.doc.now tag.attributes tag.next o.tagged k.name)
 
   pub second-room : raw_length f.second ≤ room tag
   second-room = rw second-said (tag_one w.doc.now tag.attributes tag.next o.tagged k.second)
 
-  pub third-room : raw_length f.third ≤ room tag
-  third-room = rw third-said (tag_one w.doc.now tag.attributes tag.next o.tagged k.third)
+module _ {w : Work} {s : State} {tag : Tag} {f : Found} where
+  pub type-reads : ReadyToOpen type_keys w s tag → Finds tag f → Reads w s tag f.number
+  type-reads o e = number-room o e
 
-module _ {w : Work} {s : State} {tag : Tag} {f : Noted} where
-  pub type-reads : ReadyToOpen type_keys w s tag → Finds tag f → Reads w s tag f.first
-  type-reads o e = first-room o e
+  pub field-reads : ReadyToOpen field_keys w s tag → Finds tag f → Reads w s tag f.number
+  field-reads o e = number-room o e
 
-  pub field-reads : ReadyToOpen field_keys w s tag → Finds tag f → Reads w s tag f.first
-  field-reads o e = first-room o e
-
-  pub id-reads : ReadyToOpen schema_keys w s tag → Finds tag f → Reads w s tag f.first
-  id-reads o e = first-room o e
+  pub id-reads : ReadyToOpen schema_keys w s tag → Finds tag f → Reads w s tag f.number
+  id-reads o e = number-room o e
 
   pub version-reads : ReadyToOpen schema_keys w s tag → Finds tag f → {place : ℕ} {found : Option Range} {w₁ : Work} {x : Result ℕ Refusal} → NumberRead place (room tag) found w s w₁ x → Reads w₁ s tag f.second
   unfolding Reads
   version-reads o e m = (m.ready, second-room o e)
 
 -- a type or a member, of what was found
-abbrev pub typed : Noted → ℕ → ℕ → ℕ → Draft
-typed f kind owner n = record { kind = kind; owner = owner; number = n; given = f.first; name = f.second; second = f.third; encoding = f.fourth }
+abbrev pub typed : Found → ℕ → ℕ → ℕ → Draft
+typed f kind owner n = record { kind = kind; owner = owner; number = n; given = f.number; name = f.name; second = f.second; encoding = f.encoding }
 
-module _ {w : Work} {s : State} {tag : Tag} {f : Noted} (o : ReadyToOpen type_keys w s tag) (e : Finds tag f) where
+module _ {w : Work} {s : State} {tag : Tag} {f : Found} (o : ReadyToOpen type_keys w s tag) (e : Finds tag f) where
   pub type-adds : {place : ℕ} {found : Option Range} {w₁ : Work} {x : Result ℕ Refusal} → NumberRead place (room tag) found w s w₁ x → (kind owner v : ℕ) → Adds w₁ s tag (typed f kind owner v)
   unfolding same Adds
-  type-adds m kind owner v = (m.ready, rw (second-said o e, third-said o e, fourth-said o e) (omega (arith, tag-room w.doc.now tag.attributes tag.next o.tagged (ascii "name" ∷ ascii "primitiveType" ∷ ascii "characterEncoding" ∷ []) tt)))
+  type-adds m kind owner v = (m.ready, rw (name-said o e, second-said o e, encoding-said o e) (omega (arith, tag-room w.doc.now tag.attributes tag.next o.tagged (ascii "name" ∷ ascii "primitiveType" ∷ ascii "characterEncoding" ∷ []) tt)))
 
   pub type-drafted : (kind owner n : ℕ) → drafted_item (typed f kind owner n) w.doc.now ≡ type_item kind owner (attributes_of w tag) n
-  type-drafted kind owner n = simp (first_said o e, second-said o e, third-said o e, fourth-said o e)
+  type-drafted kind owner n = simp (number-said o e, name-said o e, second-said o e, encoding-said o e)
 
-module _ {w : Work} {s : State} {tag : Tag} {f : Noted} (o : ReadyToOpen field_keys w s tag) (e : Finds tag f) (kind owner id : ℕ) where
-  pub named-room : draft_length (drafted kind owner id f.second None) ≤ room tag
-  named-room = omega (arith, second-room o e)
+module _ {w : Work} {s : State} {tag : Tag} {f : Found} (o : ReadyToOpen field_keys w s tag) (e : Finds tag f) (kind owner id : ℕ) where
+  pub named-room : draft_length (drafted kind owner id f.name None) ≤ room tag
+  named-room = omega (arith, name-room o e)
 
-  pub named-adds : (c : Current) → Adds w (currently s c) tag (drafted kind owner id f.second None)
+  pub named-adds : (c : Current) → Adds w (currently s c) tag (drafted kind owner id f.name None)
   unfolding Adds
   named-adds c = (ready-current o.ready, named-room)
 
-  pub value-adds : (c : Current) → Adds w (emptied s c) tag (drafted kind owner id f.second None)
+  pub value-adds : (c : Current) → Adds w (emptied s c) tag (drafted kind owner id f.name None)
   unfolding Adds
   value-adds c = (ready-emptied o.ready, named-room)
 
-  pub named-then : {place : ℕ} {found : Option Range} {w₁ : Work} {x : Result ℕ Refusal} → NumberRead place (room tag) found w s w₁ x → (c : Current) → Adds w₁ (currently s c) tag (drafted kind owner id f.second None)
+  pub named-then : {place : ℕ} {found : Option Range} {w₁ : Work} {x : Result ℕ Refusal} → NumberRead place (room tag) found w s w₁ x → (c : Current) → Adds w₁ (currently s c) tag (drafted kind owner id f.name None)
   unfolding Adds
   named-then m c = (ready-current m.ready, named-room)
 
-  pub field-room : draft_length (drafted kind owner id f.second f.third) ≤ room tag
+  pub field-room : draft_length (drafted kind owner id f.name f.second) ≤ room tag
   unfolding same
-  field-room = rw (second-said o e, third-said o e) (omega (arith, tag-room w.doc.now tag.attributes tag.next o.tagged (ascii "name" ∷ ascii "type" ∷ []) tt))
+  field-room = rw (name-said o e, second-said o e) (omega (arith, tag-room w.doc.now tag.attributes tag.next o.tagged (ascii "name" ∷ ascii "type" ∷ []) tt))
 
-  pub ref-adds : Adds w s tag (drafted kind owner id f.second f.third)
+  pub ref-adds : Adds w s tag (drafted kind owner id f.name f.second)
   unfolding Adds
   ref-adds = (o.ready, field-room)
 
-  pub field-adds : {place : ℕ} {found : Option Range} {w₁ : Work} {x : Result ℕ Refusal} → NumberRead place (room tag) found w s w₁ x → Adds w₁ s tag (drafted kind owner id f.second f.third)
+  pub field-adds : {place : ℕ} {found : Option Range} {w₁ : Work} {x : Result ℕ Refusal} → NumberRead place (room tag) found w s w₁ x → Adds w₁ s tag (drafted kind owner id f.name f.second)
   unfolding Adds
   field-adds m = (m.ready, field-room)
 
-module _ {w : Work} {s : State} {tag : Tag} {f : Noted} (o : ReadyToOpen enum_keys w s tag) (e : Finds tag f) (kind owner id : ℕ) where
-  pub enum-adds : (c : Current) → Adds w (currently s c) tag (drafted kind owner id f.first f.second)
+module _ {w : Work} {s : State} {tag : Tag} {f : Found} (o : ReadyToOpen enum_keys w s tag) (e : Finds tag f) (kind owner id : ℕ) where
+  pub enum-adds : (c : Current) → Adds w (currently s c) tag (drafted kind owner id f.name f.second)
   unfolding same Adds
-  enum-adds c = (ready-current o.ready, rw (first_said o e, second-said o e) (omega (arith, tag-room w.doc.now tag.attributes tag.next o.tagged (ascii "name" ∷ ascii "encodingType" ∷ []) tt)))
+  enum-adds c = (ready-current o.ready, rw (name-said o e, second-said o e) (omega (arith, tag-room w.doc.now tag.attributes tag.next o.tagged (ascii "name" ∷ ascii "encodingType" ∷ []) tt)))
 
-module _ {w : Work} {s : State} {tag : Tag} {f : Noted} {d : Draft} {kind owner id : ℕ} where
-  pub named-drafted : ReadyToOpen field_keys w s tag → Finds tag f → d ≡ drafted kind owner id f.second None → drafted_item d w.doc.now ≡ plain_item kind owner (text_in (attributes_of w tag) "name") [] id
-  named-drafted o e q = rw (q, second-said o e) refl
+module _ {w : Work} {s : State} {tag : Tag} {f : Found} {d : Draft} {kind owner id : ℕ} where
+  pub named-drafted : ReadyToOpen field_keys w s tag → Finds tag f → d ≡ drafted kind owner id f.name None → drafted_item d w.doc.now ≡ plain_item kind owner (text_in (attributes_of w tag) "name") [] id
+  named-drafted o e q = rw (q, name-said o e) refl
 
-  pub field-drafted : ReadyToOpen field_keys w s tag → Finds tag f → d ≡ drafted kind owner id f.second f.third → drafted_item d w.doc.now ≡ plain_item kind owner (text_in (attributes_of w tag) "name") (text_in (attributes_of w tag) "type") id
-  field-drafted o e q = rw (q, second-said o e, third-said o e) refl
+  pub field-drafted : ReadyToOpen field_keys w s tag → Finds tag f → d ≡ drafted kind owner id f.name f.second → drafted_item d w.doc.now ≡ plain_item kind owner (text_in (attributes_of w tag) "name") (text_in (attributes_of w tag) "type") id
+  field-drafted o e q = rw (q, name-said o e, second-said o e) refl
 
-  pub enum-drafted : ReadyToOpen enum_keys w s tag → Finds tag f → d ≡ drafted kind owner id f.first f.second → drafted_item d w.doc.now ≡ plain_item kind owner (text_in (attributes_of w tag) "name") (text_in (attributes_of w tag) "encodingType") id
-  enum-drafted o e q = rw (q, first_said o e, second-said o e) refl
+  pub enum-drafted : ReadyToOpen enum_keys w s tag → Finds tag f → d ≡ drafted kind owner id f.name f.second → drafted_item d w.doc.now ≡ plain_item kind owner (text_in (attributes_of w tag) "name") (text_in (attributes_of w tag) "encodingType") id
+  enum-drafted o e q = rw (q, name-said o e, second-said o e) refl

@@ -5,7 +5,7 @@ use Rattle.std.proofs.Common.{Option, Some, None, Result, Ok, Err, IsErrAnd, ◌
 use denote.Ref.{Bor}
 use Rattle.refusals.specs.declared.Refusal.{Refusal}
 use Rattle.refusals.specs.declared.Refusal.TheVariants.{BadNumber, MisplacedField}
-use Rattle.tags.specs.declared.tag.Noted.{Noted}
+use Rattle.builder.specs.declared.work.Found.{Found}
 use Rattle.tags.specs.Attributes.{attribute_at}
 use Rattle.elements.specs.Keys.{Keys, field_keys, type_keys, enum_keys, schema_keys}
 use Rattle.saxlite.specs.Event.{value_in}
@@ -20,7 +20,7 @@ use Rattle.builder.specs.declared.take.Draft.{Draft}
 use Rattle.builder.specs.declared.work.Tag.{Tag}
 use Rattle.builder.specs.declared.work.Work.{Work}
 use Rattle.builder.proofs.Adding.{after_same, after-as, after-then, same_self, counted-items}
-use Rattle.builder.proofs.Finding.{currently, message-now, group-now, first_said, typed, type-drafted, named-drafted, field-drafted, composite-now, enum-now, value-now, emptied, sound-emptied, enum-drafted}
+use Rattle.builder.proofs.Finding.{currently, message-now, group-now, number-said, typed, type-drafted, named-drafted, field-drafted, composite-now, enum-now, value-now, emptied, sound-emptied, enum-drafted}
 use Rattle.texts.specs.Choice.{pick}
 
 -- ---- an item added, and f after it, which changes nothing that it is added by
@@ -84,17 +84,17 @@ module _ {w : Work} {s : State} {tag : Tag} where
         let z : s.usage.collected_to - s.usage.collected_to ≡ 0 = omega arith in
         record { is = rw z (value-by w.limits tag.place (attributes_of w tag) (builder_in w s) None e); sound = sound-emptied o.ready.sound; used = omega arith; same = same_self }
 
-    module _ {f : Noted} (ef : Finds tag f) {d : Draft} {w' : Work} {r : Result State Refusal} where
-      pub ref-on : {c : ℕ} → s.current.composite ≡ Some c → d ≡ drafted a_ref c 0 f.second f.third → Added w tag s d w' r → Gives (open_ref w.limits tag.place (attributes_of w tag) (builder_in w s)) w s tag w' r
+    module _ {f : Found} (ef : Finds tag f) {d : Draft} {w' : Work} {r : Result State Refusal} where
+      pub ref-on : {c : ℕ} → s.current.composite ≡ Some c → d ≡ drafted a_ref c 0 f.name f.second → Added w tag s d w' r → Gives (open_ref w.limits tag.place (attributes_of w tag) (builder_in w s)) w s tag w' r
       ref-on e q p = after-as s (of-item w tag s (field-drafted o ef q) ∙ ref-by w.limits tag.place (attributes_of w tag) (builder_in w s) (Some _) e) refl (omega arith) p
 
-      pub composite-on : d ≡ drafted a_composite 0 0 f.second None
+      pub composite-on : d ≡ drafted a_composite 0 0 f.name None
           → Added w tag (currently s (composite-now s)) d w' r
           → Gives (open_composite w.limits tag.place (attributes_of w tag) (builder_in w s)) w s tag w' r
       unfolding open_composite
       composite-on q p = after-as s (of-item w tag (currently s (composite-now s)) (named-drafted o ef q) ∙ current-added w.limits tag.place _ now_composite w s (λ x. refl) (λ x y. refl)) refl (omega arith) p
 
-      pub value_on : {c : ℕ} → s.current.enumeration ≡ Some c → d ≡ drafted a_value c 0 f.second None
+      pub value_on : {c : ℕ} → s.current.enumeration ≡ Some c → d ≡ drafted a_value c 0 f.name None
           → Added w tag (emptied s (value-now s)) d w' r
           → Gives (open_value w.limits tag.place (attributes_of w tag) (builder_in w s)) w s tag w' r
       value_on e q p =
@@ -103,7 +103,7 @@ module _ {w : Work} {s : State} {tag : Tag} where
           (of-item w tag (emptied s (value-now s)) (named-drafted o ef q) ∙ rw z (then-added w.limits tag.place _ (with_text true []) (builder_in w s) refl (λ x. refl) ∙ value-by w.limits tag.place (attributes_of w tag) (builder_in w s) (Some _) e))
           refl (omega arith) p
 
-  pub enum-on : ReadyToOpen enum_keys w s tag → {f : Noted} → Finds tag f → {d : Draft} → d ≡ drafted an_enum 0 0 f.first f.second → {w' : Work} {r : Result State Refusal}
+  pub enum-on : ReadyToOpen enum_keys w s tag → {f : Found} → Finds tag f → {d : Draft} → d ≡ drafted an_enum 0 0 f.name f.second → {w' : Work} {r : Result State Refusal}
       → Added w tag (currently s (enum-now s)) d w' r
       → Gives (open_enum w.limits tag.place (attributes_of w tag) (builder_in w s)) w s tag w' r
   unfolding open_enum
@@ -126,12 +126,12 @@ number-err place None e = (refl, err-inj e)
 number-err place (Some m) e = absurd (let z : ◌≡◌ {A = ℕ} 0 1 = cc in omega arith)
 
 -- the first value that was noted of a tag, as a number
-module _ {k : Keys} {w : Work} {s : State} {tag : Tag} (o : ReadyToOpen k w s tag) {f : Noted} (ef : Finds tag f) {n : ℕ} {w₁ : Work} {x : Result ℕ Refusal} (m : NumberRead tag.place n f.first w s w₁ x) where
+module _ {k : Keys} {w : Work} {s : State} {tag : Tag} (o : ReadyToOpen k w s tag) {f : Found} (ef : Finds tag f) {n : ℕ} {w₁ : Work} {x : Result ℕ Refusal} (m : NumberRead tag.place n f.number w s w₁ x) where
   pub is_number : {v : ℕ} → x ≡ Ok v → number_of (value_in w.doc.now (attribute_at w.doc.now tag.attributes k.first)) ≡ Some v
-  is_number e = ap (λ (y : Option Range). number_of (value_in w.doc.now y)) (sym (first_said o ef)) ∙ number-ok tag.place _ (sym e ∙ m.is)
+  is_number e = ap (λ (y : Option Range). number_of (value_in w.doc.now y)) (sym (number-said o ef)) ∙ number-ok tag.place _ (sym e ∙ m.is)
 
   pub no-number : {q : Refusal} → x ≡ Err q → number_of (value_in w.doc.now (attribute_at w.doc.now tag.attributes k.first)) ≡ None
-  no-number e = ap (λ (y : Option Range). number_of (value_in w.doc.now y)) (sym (first_said o ef)) ∙ (number-err tag.place _ (sym e ∙ m.is)).0
+  no-number e = ap (λ (y : Option Range). number_of (value_in w.doc.now y)) (sym (number-said o ef)) ∙ (number-err tag.place _ (sym e ∙ m.is)).0
 
   -- 32, where it is none
   pub refused-by : {q : Refusal} → x ≡ Err q → {r : Result State Refusal} → IsErrAnd r (λ y. y ≡ q) → (g : ℕ → Outcome) → After (with_number tag.place (number_of (value_in w.doc.now (attribute_at w.doc.now tag.attributes k.first))) g) w s (room tag) w₁ r
@@ -156,7 +156,7 @@ module _ {k : Keys} {w : Work} {s : State} {tag : Tag} (o : ReadyToOpen k w s ta
   unadded : {o : Outcome} → on (builder_in w s) ≡ o → After o w s (room tag) w₁ (Ok s)
   unadded e = record { is = ap on m.builder ∙ e; sound = m.ready.sound; used = omega arith; same = m.same }
 
-module _ {w : Work} {s : State} {tag : Tag} (o : ReadyToOpen field_keys w s tag) {f : Noted} (ef : Finds tag f) {n : ℕ} {w₁ : Work} {x : Result ℕ Refusal} (m : NumberRead tag.place n f.first w s w₁ x) {v : ℕ} (e : x ≡ Ok v) where
+module _ {w : Work} {s : State} {tag : Tag} (o : ReadyToOpen field_keys w s tag) {f : Found} (ef : Finds tag f) {n : ℕ} {w₁ : Work} {x : Result ℕ Refusal} (m : NumberRead tag.place n f.number w s w₁ x) {v : ℕ} (e : x ≡ Ok v) where
   abbrev Groups : Work → Result State Refusal → Type 0
   Groups w' r = Gives (open_group w.limits tag.place (attributes_of w tag) (builder_in w s)) w s tag w' r
 
@@ -186,28 +186,28 @@ module _ {w : Work} {s : State} {tag : Tag} (o : ReadyToOpen field_keys w s tag)
         let t : eqb (item_at (builder_in w s).schema g).owner c ≡ false = rw (← owner) (ne_eqb y c k) in
         record { is = sym (ap chosen t) ∙ by-message (Some c) (Some g) z h; sound = tt; used = tt; same = m.same }
 
-    pub field-group : y ≡ c → {d : Draft} → d ≡ drafted a_field g v f.second f.third → {w' : Work} {r : Result State Refusal} → Added w₁ tag s d w' r → Fields w' r
+    pub field-group : y ≡ c → {d : Draft} → d ≡ drafted a_field g v f.name f.second → {w' : Work} {r : Result State Refusal} → Added w₁ tag s d w' r → Fields w' r
     field-group k {d} q p =
         let t : eqb (item_at (builder_in w s).schema g).owner c ≡ true = rw (← owner) (eq-eqb y c k) in
         read-added o ef m (λ b. b) d (field-drafted o ef q) (sym (ap chosen t) ∙ by-message (Some c) (Some g) z h) refl p
 
   module _ {d : Draft} {w' : Work} {r : Result State Refusal} where
-    pub message-on : d ≡ drafted a_message 0 v f.second None → Added w₁ tag (currently s (message-now s)) d w' r → Gives (open_message w.limits tag.place (attributes_of w tag) (builder_in w s)) w s tag w' r
+    pub message-on : d ≡ drafted a_message 0 v f.name None → Added w₁ tag (currently s (message-now s)) d w' r → Gives (open_message w.limits tag.place (attributes_of w tag) (builder_in w s)) w s tag w' r
     message-on q p =
         read-added o ef m (now_message (Some s.usage.items)) d (named-drafted o ef q)
         (current-added w.limits tag.place _ now_message w s (λ x. refl) (λ x y. refl) ∙ message-by w.limits tag.place (attributes_of w tag) (builder_in w s) (is_number o ef m e))
         refl p
 
-    pub group-on : {c : ℕ} → s.current.message ≡ Some c → d ≡ drafted a_group c v f.second None → Added w₁ tag (currently s (group-now s)) d w' r → Groups w' r
+    pub group-on : {c : ℕ} → s.current.message ≡ Some c → d ≡ drafted a_group c v f.name None → Added w₁ tag (currently s (group-now s)) d w' r → Groups w' r
     group-on z q p =
         read-added o ef m (now_group (Some s.usage.items)) d (named-drafted o ef q)
         (current-added w.limits tag.place _ now_group w s (λ x. refl) (λ x y. refl) ∙ group-by w.limits tag.place (attributes_of w tag) (builder_in w s) (is_number o ef m e) (Some _) z)
         refl p
 
-    pub field-message : {c : ℕ} → s.current.message ≡ Some c → s.current.group ≡ None → d ≡ drafted a_field c v f.second f.third → Added w₁ tag s d w' r → Fields w' r
+    pub field-message : {c : ℕ} → s.current.message ≡ Some c → s.current.group ≡ None → d ≡ drafted a_field c v f.name f.second → Added w₁ tag s d w' r → Fields w' r
     field-message z h q p = read-added o ef m (λ b. b) d (field-drafted o ef q) (by-message (Some _) None z h) refl p
 
-module _ {w : Work} {s : State} {tag : Tag} (o : ReadyToOpen type_keys w s tag) {f : Noted} (ef : Finds tag f) {n : ℕ} {w₁ : Work} {x : Result ℕ Refusal} (m : NumberRead tag.place n f.first w s w₁ x) {v : ℕ} (e : x ≡ Ok v) {y : Bool} (i : y ≡ parent_composite (builder_in w₁ s)) where
+module _ {w : Work} {s : State} {tag : Tag} (o : ReadyToOpen type_keys w s tag) {f : Found} (ef : Finds tag f) {n : ℕ} {w₁ : Work} {x : Result ℕ Refusal} (m : NumberRead tag.place n f.number w s w₁ x) {v : ℕ} (e : x ≡ Ok v) {y : Bool} (i : y ≡ parent_composite (builder_in w₁ s)) where
   abbrev Types : Work → Result State Refusal → Type 0
   Types w' r = Gives (open_type w.limits tag.place (parent_composite (builder_in w s)) (attributes_of w tag) (builder_in w s)) w s tag w' r
 

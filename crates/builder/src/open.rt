@@ -26,9 +26,9 @@ impl<'d, 'a> Work<'d, 'a> {
         ensures { After (open_schema tag.now.place (attributes_of self.old tag.now) (builder_in self.old s)) self.old s (room tag.now) self.new result }
     {
         let found = tag.found();
-        let id = self.number(s, tag, found.first)?;
+        let id = self.number(s, tag, found.number)?;
         let version = self.number(s, tag, found.second)?;
-        let package = take_value(self.doc, found.third, self.text, s.usage.taken_from);
+        let package = take_value(self.doc, found.name, self.text, s.usage.taken_from);
         Ok(State {
             usage: Usage {
                 taken_from: package.from,
@@ -50,15 +50,15 @@ impl<'d, 'a> Work<'d, 'a> {
         ensures { After (open_type self.old.limits tag.now.place (parent_composite (builder_in self.old s)) (attributes_of self.old tag.now) (builder_in self.old s)) self.old s (room tag.now) self.new result }
     {
         let found = tag.found();
-        let number = self.number(s, tag, found.first)?;
+        let number = self.number(s, tag, found.number)?;
         let d = Draft {
             kind: model::TYPE,
             owner: 0,
             number,
-            given: found.first,
-            name: found.second,
-            second: found.third,
-            encoding: found.fourth,
+            given: found.number,
+            name: found.name,
+            second: found.second,
+            encoding: found.encoding,
         };
         if !self.in_composite(s) {
             return self.add(s, tag, d);
@@ -79,7 +79,7 @@ impl<'d, 'a> Work<'d, 'a> {
             return Ok(s);
         };
         let found = tag.found();
-        let d = Draft::new(model::REF, owner, 0, found.second, found.third);
+        let d = Draft::new(model::REF, owner, 0, found.name, found.second);
         self.add(s, tag, d)
     }
 
@@ -89,7 +89,7 @@ impl<'d, 'a> Work<'d, 'a> {
         ensures { After (open_composite self.old.limits tag.now.place (attributes_of self.old tag.now) (builder_in self.old s)) self.old s (room tag.now) self.new result }
     {
         let found = tag.found();
-        let d = Draft::new(model::COMPOSITE, 0, 0, found.second, None);
+        let d = Draft::new(model::COMPOSITE, 0, 0, found.name, None);
         let current = Current {
             composite: Some(s.usage.items),
             ..s.current
@@ -103,7 +103,7 @@ impl<'d, 'a> Work<'d, 'a> {
         ensures { After (open_enum self.old.limits tag.now.place (attributes_of self.old tag.now) (builder_in self.old s)) self.old s (room tag.now) self.new result }
     {
         let found = tag.found();
-        let d = Draft::new(model::ENUM, 0, 0, found.first, found.second);
+        let d = Draft::new(model::ENUM, 0, 0, found.name, found.second);
         let current = Current {
             enumeration: Some(s.usage.items),
             ..s.current
@@ -124,7 +124,7 @@ impl<'d, 'a> Work<'d, 'a> {
             return Ok(State { usage, ..s });
         };
         let found = tag.found();
-        let d = Draft::new(model::VALUE, owner, 0, found.second, None);
+        let d = Draft::new(model::VALUE, owner, 0, found.name, None);
         let current = Current {
             collecting: true,
             ..s.current
@@ -146,8 +146,8 @@ impl<'d, 'a> Work<'d, 'a> {
         ensures { After (open_message self.old.limits tag.now.place (attributes_of self.old tag.now) (builder_in self.old s)) self.old s (room tag.now) self.new result }
     {
         let found = tag.found();
-        let id = self.number(s, tag, found.first)?;
-        let d = Draft::new(model::MESSAGE, 0, id, found.second, None);
+        let id = self.number(s, tag, found.number)?;
+        let d = Draft::new(model::MESSAGE, 0, id, found.name, None);
         let current = Current {
             message: Some(s.usage.items),
             ..s.current
@@ -161,11 +161,11 @@ impl<'d, 'a> Work<'d, 'a> {
         ensures { After (open_group self.old.limits tag.now.place (attributes_of self.old tag.now) (builder_in self.old s)) self.old s (room tag.now) self.new result }
     {
         let found = tag.found();
-        let id = self.number(s, tag, found.first)?;
+        let id = self.number(s, tag, found.number)?;
         let Some(owner) = s.current.message else {
             return Ok(s);
         };
-        let d = Draft::new(model::GROUP, owner, id, found.second, None);
+        let d = Draft::new(model::GROUP, owner, id, found.name, None);
         let current = Current {
             group: Some(s.usage.items),
             ..s.current
@@ -180,19 +180,19 @@ impl<'d, 'a> Work<'d, 'a> {
         ensures { After (open_field self.old.limits tag.now.place (attributes_of self.old tag.now) (builder_in self.old s)) self.old s (room tag.now) self.new result }
     {
         let found = tag.found();
-        let id = self.number(s, tag, found.first)?;
+        let id = self.number(s, tag, found.number)?;
         let Some(message) = s.current.message else {
             return Ok(s);
         };
         let Some(group) = s.current.group else {
-            let d = Draft::new(model::FIELD, message, id, found.second, found.third);
+            let d = Draft::new(model::FIELD, message, id, found.name, found.second);
             return self.add(s, tag, d);
         };
         let ours = self.owner_of(s, group) == message;
         if !ours {
             return Err(Refusal::MisplacedField { place: tag.place });
         }
-        let d = Draft::new(model::FIELD, group, id, found.second, found.third);
+        let d = Draft::new(model::FIELD, group, id, found.name, found.second);
         self.add(s, tag, d)
     }
 

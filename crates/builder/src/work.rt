@@ -13,8 +13,8 @@ use crate::state::{State, Usage};
 use elements::Element;
 use model::word;
 use swar::same_name;
-use tags::tag::{Noted, Notes, noted_of};
-use texts::{equal, part};
+use tags::noting::Notes;
+use texts::{Range, equal, part};
 
 /// The document, and the two buffers for what is read of it: items and open names, and texts.
 #[derive(Drop)]
@@ -23,6 +23,15 @@ pub struct Work<'d, 'a> {
     pub doc: &'d [u8],
     pub records: &'a mut [u32],
     pub text: &'a mut [u8],
+}
+
+/// The ranges of the raw values that a tag's element looks up; `None` without such an attribute.
+#[derive(Clone, Copy)]
+pub(crate) struct Found {
+    pub number: Option<Range>,
+    pub name: Option<Range>,
+    pub second: Option<Range>,
+    pub encoding: Option<Range>,
 }
 
 /// An open tag: the place of its `<`, its local name and element, where its attributes begin, where
@@ -40,10 +49,15 @@ pub struct Tag {
 
 impl Tag {
     /// The ranges of the values that the reader noted.
-    pub(crate) fn found(&self) -> Noted
+    pub(crate) fn found(&self) -> Found
         ensures { Finds self.now result }
     {
-        noted_of(self.noted)
+        Found {
+            number: self.noted.number(),
+            name: self.noted.name(),
+            second: self.noted.second(),
+            encoding: self.noted.encoding(),
+        }
     }
 }
 

@@ -4,28 +4,32 @@ use Rattle.texts.specs.Text.{ascii}
 use Rattle.elements.specs.declared.Element.{Element}
 use Rattle.elements.specs.declared.Element.TheVariants.{MessageSchema, «Type», Ref, Composite, Enum, ValidValue, Message, Group, Field, Other}
 
--- four names, [] where an element looks up fewer
+-- four names, by what their values become in an item; [] where an element looks up fewer. A
+-- schema's name is its package, its second text its version
 pub record Keys : Type 0 where
-  pub first : List ℕ
+  pub number : List ℕ
+  pub name : List ℕ
   pub second : List ℕ
-  pub third : List ℕ
-  pub fourth : List ℕ
+  pub encoding : List ℕ
+
+abbrev pub keys : List ℕ → List ℕ → List ℕ → List ℕ → Keys
+keys number name second encoding = record { number = number; name = name; second = second; encoding = encoding }
 
 -- of messageSchema
 abbrev pub schema_keys : Keys
-schema_keys = record { first = ascii "id"; second = ascii "version"; third = ascii "package"; fourth = [] }
+schema_keys = keys (ascii "id") (ascii "package") (ascii "version") []
 
 -- of type
 abbrev pub type_keys : Keys
-type_keys = record { first = ascii "length"; second = ascii "name"; third = ascii "primitiveType"; fourth = ascii "characterEncoding" }
+type_keys = keys (ascii "length") (ascii "name") (ascii "primitiveType") (ascii "characterEncoding")
 
 -- of enum
 abbrev pub enum_keys : Keys
-enum_keys = record { first = ascii "name"; second = ascii "encodingType"; third = []; fourth = [] }
+enum_keys = keys [] (ascii "name") (ascii "encodingType") []
 
 -- of every other element
 abbrev pub field_keys : Keys
-field_keys = record { first = ascii "id"; second = ascii "name"; third = ascii "type"; fourth = [] }
+field_keys = keys (ascii "id") (ascii "name") (ascii "type") []
 
 abbrev pub keys_of : Element → Keys
 keys_of MessageSchema = schema_keys

@@ -6,7 +6,7 @@ ghost use Rattle.saxlite.specs.Reader.{cursor_at};
 ghost use Rattle.saxlite.specs.internal.Moving.{bare};
 
 use elements::Element;
-use tags::tag::{Notes, nothing};
+use tags::noting::Notes;
 
 /// What the reader yields, as ranges of the document.
 #[derive(Clone, Copy)]
@@ -82,7 +82,7 @@ impl Read {
                 event,
                 element,
                 place,
-                noted: nothing(),
+                noted: Notes::none(),
             },
             cursor: Cursor::at(next),
         }

@@ -10,7 +10,6 @@ use crate::event::{Cursor, Event, Owed, Read, Told};
 use crate::markup::read_at;
 use crate::passing::past_silent;
 use refusals::Refusal;
-use tags::tag::nothing;
 
 impl Owed {
     /// The close event, behind which the reader goes on at `at`.

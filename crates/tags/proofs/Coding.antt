@@ -4,7 +4,7 @@ use Rattle.texts.specs.declared.Range.{Range}
 use Rattle.std.proofs.Common.{Some, None, Option, Result, Ok, Err, ◌≡◌, refl, sym, ap, ◌∙◌, Bool, true, false, not, List, [], ◌∷◌, ℕ, ◌+◌, ◌-◌, ◌<◌, zero-add, arith, T, eqb, leb, leb→le, length, eq-eqb, ne_eqb, le-ltb, append-nil}
 use Rattle.texts.specs.Choice.{pick}
 use Rattle.texts.specs.Lists.{all}
-use Rattle.texts.specs.Text.{ascii, piece, same}
+use Rattle.texts.specs.Text.{piece, same}
 use Rattle.texts.specs.Scan.{count_while, scan, until, is}
 use Rattle.texts.proofs.Choosing.{by-test, and_left, and_right}
 use Rattle.classes.specs.Class.{is_space, is_tag_name_end, is_attribute_name_end}
@@ -12,15 +12,15 @@ use Rattle.tags.specs.declared.known.Codes.{Codes}
 use Rattle.tags.specs.declared.part.TagPart.{TagPart}
 use Rattle.tags.specs.declared.part.TagPart.TheVariants.{Attribute as Part, TagEnd}
 use Rattle.tags.specs.declared.part.Quick.{Quick}
-use Rattle.tags.specs.declared.tag.Notes.{Notes}
+use Rattle.tags.specs.declared.noting.Notes.{Notes}
 use Rattle.refusals.specs.declared.Refusal.{Refusal}
 use Rattle.elements.specs.declared.Element.{Element}
 use Rattle.elements.specs.declared.Element.TheVariants.{MessageSchema, «Type», Ref, Composite, Enum, ValidValue, Message, Group, Field, Other}
-use Rattle.elements.specs.Keys.{Keys, field_keys, keys_of}
+use Rattle.elements.specs.Keys.{Keys, schema_keys, type_keys, enum_keys, field_keys, keys_of}
 use Rattle.tags.specs.Names.{prefix_length, local_name, is_xmlns}
-use Rattle.tags.specs.Attributes.{tag_part_at, tag_at, later, attribute_at}
-use Rattle.tags.specs.internal.Noting.{no_notes, found_at, value_if_named, NotedWith, NotedBy}
-use Rattle.tags.specs.internal.Known.{known_name, codes, CodesOf, Apart, QuickAt, NamedAs, Declares, NotedMore}
+use Rattle.tags.specs.Attributes.{tag_part_at, tag_at, attribute_at}
+use Rattle.tags.specs.internal.Noting.{no_notes, found_at, number_in, name_in, second_in, encoding_in, with_value, Adds, NotedMore, NotedBy}
+use Rattle.tags.specs.internal.Known.{known_name, codes, CodesOf, differ, Apart, QuickAt, NamedAs, Declares}
 use Rattle.tags.proofs.Tagging.{Going, part-less, part-value, going_on, going_end, going-bad}
 use Rattle.tags.proofs.Looking.{found-value, Looking, looking-start, looking-on, looking-end, looking-bad}
 use Rattle.tags.proofs.Knowing.{up-each, count-to, goes, plain_name, known-plain, goes-all, goes_other}
@@ -28,17 +28,17 @@ use Rattle.tags.proofs.Knowing.{up-each, count-to, goes, plain_name, known-plain
 -- ---- the codes of the names that matter
 
 module _ {e : Element} where
-  pub codes-schema : e ≡ MessageSchema → CodesOf (keys_of e) (record { first = 2; second = 8; third = 9; fourth = 0 })
+  pub codes-schema : e ≡ MessageSchema → CodesOf (keys_of e) (record { number = 2; name = 9; second = 8; encoding = 0 })
   unfolding same
-  codes-schema q = rw q (record { first = tt; second = tt; third = tt; fourth = tt })
+  codes-schema q = rw q (record { number = tt; name = tt; second = tt; encoding = tt })
 
-  pub codes-type : e ≡ «Type» → CodesOf (keys_of e) (record { first = 4; second = 1; third = 5; fourth = 7 })
+  pub codes-type : e ≡ «Type» → CodesOf (keys_of e) (record { number = 4; name = 1; second = 5; encoding = 7 })
   unfolding same
-  codes-type q = rw q (record { first = tt; second = tt; third = tt; fourth = tt })
+  codes-type q = rw q (record { number = tt; name = tt; second = tt; encoding = tt })
 
-  pub codes-enum : e ≡ Enum → CodesOf (keys_of e) (record { first = 1; second = 6; third = 0; fourth = 0 })
+  pub codes-enum : e ≡ Enum → CodesOf (keys_of e) (record { number = 0; name = 1; second = 6; encoding = 0 })
   unfolding same
-  codes-enum q = rw q (record { first = tt; second = tt; third = tt; fourth = tt })
+  codes-enum q = rw q (record { number = tt; name = tt; second = tt; encoding = tt })
 
 -- an element that is none of the three
 keys_else : (e : Element) → (e ≡ MessageSchema → ⊥) → (e ≡ «Type» → ⊥) → (e ≡ Enum → ⊥) → keys_of e ≡ field_keys
@@ -53,9 +53,9 @@ keys_else Group a b c = refl
 keys_else Field a b c = refl
 keys_else Other a b c = refl
 
-pub codes-other : {e : Element} → (e ≡ MessageSchema → ⊥) → (e ≡ «Type» → ⊥) → (e ≡ Enum → ⊥) → CodesOf (keys_of e) (record { first = 2; second = 1; third = 3; fourth = 0 })
+pub codes-other : {e : Element} → (e ≡ MessageSchema → ⊥) → (e ≡ «Type» → ⊥) → (e ≡ Enum → ⊥) → CodesOf (keys_of e) (record { number = 2; name = 1; second = 3; encoding = 0 })
 unfolding same
-codes-other {e} a b c = rw (keys_else e a b c) (record { first = tt; second = tt; third = tt; fourth = tt })
+codes-other {e} a b c = rw (keys_else e a b c) (record { number = tt; name = tt; second = tt; encoding = tt })
 
 -- ---- what is noted
 
@@ -87,78 +87,57 @@ plain-space (b ∷ s) t = is-not (is_xmlns (b ∷ s)) (and_right (all goes s) (n
     is-not false u = refl
 
 module _ (code : ℕ) (h : 0 < code) (l : code < 18) (value len : ℕ) (key : List ℕ) (c was long : ℕ) (t : T (codes key c)) where
-  known-noted : {m : Bool} → m ≡ eqb code c → {y z : ℕ} → y ≡ pick m (value + 1) was → z ≡ pick m len long → found_at y z ≡ later (value_if_named (known_name code) value len key) (found_at was long)
+  known-noted : {m : Bool} → m ≡ eqb code c → {y z : ℕ} → y ≡ pick m (value + 1) was → z ≡ pick m len long → Adds (known_name code) value len key (found_at was long) (found_at y z)
   known-noted {m} e hy hz =
       let s = e ∙ codes_same key c code t h l in
       rw (plain-space (known_name code) (known-plain code h l), plain_local (known_name code) (known-plain code h l), ← s)
       (by-test m (λ t. rw (hy, hz, t) (found-value value len)) (λ t. rw (hy, hz, t) refl))
 
--- each m is the result of a comparison with a code
-module _ (code : ℕ) (h : 0 < code) (l : code < 18) (value len : ℕ) (was : Notes) (cs : Codes) where
-  pub known_more :
-      {m₁ m₂ m₃ m₄ : Bool} → m₁ ≡ eqb code cs.first → m₂ ≡ eqb code cs.second → m₃ ≡ eqb code cs.third → m₄ ≡ eqb code cs.fourth →
-      {r : Notes} → r.first ≡ pick m₁ (value + 1) was.first → r.len1 ≡ pick m₁ len was.len1 → r.second ≡ pick m₂ (value + 1) was.second → r.len2 ≡ pick m₂ len was.len2 → r.third ≡ pick m₃ (value + 1) was.third → r.len3 ≡ pick m₃ len was.len3 → r.fourth ≡ pick m₄ (value + 1) was.fourth → r.len4 ≡ pick m₄ len was.len4 →
-      (k : Keys) → CodesOf k cs → NotedMore (known_name code) value len k was r
-  known_more e₁ e₂ e₃ e₄ y₁ z₁ y₂ z₂ y₃ z₃ y₄ z₄ k t =
-      record {
-        first = known-noted code h l value len k.first cs.first was.first was.len1 t.first e₁ y₁ z₁;
-        second = known-noted code h l value len k.second cs.second was.second was.len2 t.second e₂ y₂ z₂;
-        third = known-noted code h l value len k.third cs.third was.third was.len3 t.third e₃ y₃ z₃;
-        fourth = known-noted code h l value len k.fourth cs.fourth was.fourth was.len4 t.fourth e₄ y₄ z₄;
-      }
+-- each b is the result of a comparison with a code
+known_more : (code : ℕ) → 0 < code → code < 18 → (value len : ℕ) (was : Notes) (cs : Codes) (k : Keys) → CodesOf k cs → {a b c d : Bool} → a ≡ eqb code cs.number → b ≡ eqb code cs.name → c ≡ eqb code cs.second → d ≡ eqb code cs.encoding
+    → NotedMore (known_name code) value len k was (with_value (record { number = a; name = b; second = c; encoding = d }) (record { from = value; len = len }) was)
+known_more code h l value len was cs k t a b c d =
+    record {
+      number = known-noted code h l value len k.number cs.number was.number was.number_len t.number a refl refl;
+      name = known-noted code h l value len k.name cs.name was.name was.name_len t.name b refl refl;
+      second = known-noted code h l value len k.second cs.second was.second was.second_len t.second c refl refl;
+      encoding = known-noted code h l value len k.encoding cs.encoding was.encoding was.encoding_len t.encoding d refl refl;
+    }
 
 -- ---- each name on its own
 
+differ-not : (c d : ℕ) → T (differ c d) → 0 < c → c ≡ d → ⊥
+differ-not c d t h e = rw (ne_eqb c 0 (λ z. omega arith), eq-eqb c d e) at t
+
 module _ (code : ℕ) (h : 0 < code) (l : code < 18) (value len : ℕ) (was : Notes) (cs : Codes) (a : Apart cs) (k : Keys) (t : CodesOf k cs) where
   -- the result of a comparison with another code, where one code is equal
-  other : (c d : ℕ) → code ≡ c → eqb c d ≡ false → false ≡ eqb code d
-  other c d e f = sym (ap (λ x. eqb x d) e ∙ f)
+  other : (c d : ℕ) → T (differ c d) → code ≡ c → false ≡ eqb code d
+  other c d f e = sym (ne_eqb code d (λ z. differ-not c d f (omega arith) (sym e ∙ z)))
 
-  earlier : (c d : ℕ) → code ≡ d → eqb c d ≡ false → false ≡ eqb code c
-  earlier c d e f = sym (ne_eqb code c (λ z. let q : eqb c d ≡ true = eq-eqb c d (sym z ∙ e) in let w : ◌≡◌ {A = ℕ} 0 1 = cc in omega arith))
+  earlier : (c d : ℕ) → T (differ c d) → code ≡ d → false ≡ eqb code c
+  earlier c d f e = sym (ne_eqb code c (λ z. differ-not c d f (omega arith) (sym z ∙ e)))
 
-  pub known-first : code ≡ cs.first → NotedMore (known_name code) value len k was (record { first = value + 1; len1 = len; second = was.second; len2 = was.len2; third = was.third; len3 = was.len3; fourth = was.fourth; len4 = was.len4 })
-  known-first e = known_more code h l value len was cs (sym (eq-eqb code cs.first e)) (other _ _ e a.first-second) (other _ _ e a.first-third) (other _ _ e a.first-fourth) refl refl refl refl refl refl refl refl k t
+  pub known-number : code ≡ cs.number → NotedMore (known_name code) value len k was (record was { number = value + 1; number_len = len })
+  known-number e = known_more code h l value len was cs k t (sym (eq-eqb code cs.number e)) (other _ _ a.number-name e) (other _ _ a.number-second e) (other _ _ a.number-encoding e)
 
-  pub known-second : code ≡ cs.second → NotedMore (known_name code) value len k was (record { first = was.first; len1 = was.len1; second = value + 1; len2 = len; third = was.third; len3 = was.len3; fourth = was.fourth; len4 = was.len4 })
-  known-second e = known_more code h l value len was cs (earlier _ _ e a.first-second) (sym (eq-eqb code cs.second e)) (other _ _ e a.second-third) (other _ _ e a.second-fourth) refl refl refl refl refl refl refl refl k t
+  pub known-name : code ≡ cs.name → NotedMore (known_name code) value len k was (record was { name = value + 1; name_len = len })
+  known-name e = known_more code h l value len was cs k t (earlier _ _ a.number-name e) (sym (eq-eqb code cs.name e)) (other _ _ a.name-second e) (other _ _ a.name-encoding e)
 
-  pub known-third : code ≡ cs.third → NotedMore (known_name code) value len k was (record { first = was.first; len1 = was.len1; second = was.second; len2 = was.len2; third = value + 1; len3 = len; fourth = was.fourth; len4 = was.len4 })
-  known-third e = known_more code h l value len was cs (earlier _ _ e a.first-third) (earlier _ _ e a.second-third) (sym (eq-eqb code cs.third e)) (other _ _ e (a.third-fourth (omega arith))) refl refl refl refl refl refl refl refl k t
+  pub known-second : code ≡ cs.second → NotedMore (known_name code) value len k was (record was { second = value + 1; second_len = len })
+  known-second e = known_more code h l value len was cs k t (earlier _ _ a.number-second e) (earlier _ _ a.name-second e) (sym (eq-eqb code cs.second e)) (other _ _ a.second-encoding e)
 
-  pub known-fourth : code ≡ cs.fourth → (code ≡ cs.third → ⊥) → NotedMore (known_name code) value len k was (record { first = was.first; len1 = was.len1; second = was.second; len2 = was.len2; third = was.third; len3 = was.len3; fourth = value + 1; len4 = len })
-  known-fourth e n = known_more code h l value len was cs (earlier _ _ e a.first-fourth) (earlier _ _ e a.second-fourth) (sym (ne_eqb code cs.third n)) (sym (eq-eqb code cs.fourth e)) refl refl refl refl refl refl refl refl k t
+  pub known-encoding : code ≡ cs.encoding → NotedMore (known_name code) value len k was (record was { encoding = value + 1; encoding_len = len })
+  known-encoding e = known_more code h l value len was cs k t (earlier _ _ a.number-encoding e) (earlier _ _ a.name-encoding e) (earlier _ _ a.second-encoding e) (sym (eq-eqb code cs.encoding e))
 
-  pub known-nowhere : (code ≡ cs.first → ⊥) → (code ≡ cs.second → ⊥) → (code ≡ cs.third → ⊥) → (code ≡ cs.fourth → ⊥) → NotedMore (known_name code) value len k was was
-  known-nowhere n o p q = known_more code h l value len was cs (sym (ne_eqb code cs.first n)) (sym (ne_eqb code cs.second o)) (sym (ne_eqb code cs.third p)) (sym (ne_eqb code cs.fourth q)) refl refl refl refl refl refl refl refl k t
+  pub known-nowhere : (code ≡ cs.number → ⊥) → (code ≡ cs.name → ⊥) → (code ≡ cs.second → ⊥) → (code ≡ cs.encoding → ⊥) → NotedMore (known_name code) value len k was was
+  known-nowhere n o p q = known_more code h l value len was cs k t (sym (ne_eqb code cs.number n)) (sym (ne_eqb code cs.name o)) (sym (ne_eqb code cs.second p)) (sym (ne_eqb code cs.encoding q))
 
--- the codes of a kind's names differ
-pub apart-schema : Apart (record { first = 2; second = 8; third = 9; fourth = 0 })
-apart-schema = record { first-second = refl; first-third = refl; first-fourth = refl; second-third = refl; second-fourth = refl; third-fourth = λ h. refl }
-
-pub apart-type : Apart (record { first = 4; second = 1; third = 5; fourth = 7 })
-apart-type = record { first-second = refl; first-third = refl; first-fourth = refl; second-third = refl; second-fourth = refl; third-fourth = λ h. refl }
-
-pub apart-enum : Apart (record { first = 1; second = 6; third = 0; fourth = 0 })
-apart-enum = record { first-second = refl; first-third = refl; first-fourth = refl; second-third = refl; second-fourth = refl; third-fourth = λ h. absurd (omega arith) }
-
-pub apart-other : Apart (record { first = 2; second = 1; third = 3; fourth = 0 })
-apart-other = record { first-second = refl; first-third = refl; first-fourth = refl; second-third = refl; second-fourth = refl; third-fourth = λ h. refl }
-
--- a name that matters in no tag changes nothing
+-- no element looks up a name of a code above 9
 pub known_past : (code : ℕ) → 9 < code → code < 18 → (value len : ℕ) (was : Notes) (cs : Codes) (k : Keys) → CodesOf k cs → NotedMore (known_name code) value len k was was
-known_past code h l value len was cs k t =
-    record {
-      first = past k.first cs.first was.first was.len1 t.first;
-      second = past k.second cs.second was.second was.len2 t.second;
-      third = past k.third cs.third was.third was.len3 t.third;
-      fourth = past k.fourth cs.fourth was.fourth was.len4 t.fourth;
-    }
+known_past code h l value len was cs k t = known_more code (omega arith) l value len was cs k t (past k.number cs.number t.number) (past k.name cs.name t.name) (past k.second cs.second t.second) (past k.encoding cs.encoding t.encoding)
   where
-    past : (key : List ℕ) (c x y : ℕ) → T (codes key c) → found_at x y ≡ later (value_if_named (known_name code) value len key) (found_at x y)
-    past key c x y u =
-        let n : code ≡ c → ⊥ = λ e. omega (arith, leb→le c 9 (and_left (leb c 9) _ u)) in
-        known-noted code (omega arith) l value len key c x y u (sym (ne_eqb code c n)) refl refl
+    past : (key : List ℕ) (c : ℕ) → T (codes key c) → false ≡ eqb code c
+    past key c u = sym (ne_eqb code c (λ e. omega (arith, leb→le c 9 (and_left (leb c 9) _ u))))
 
 module _ {doc : List ℕ} {name n : ℕ} {known : Option ℕ} {code : ℕ} (e : NamedAs doc name n known) (h : known ≡ Some code) where
   pub named-above : 0 < code
@@ -172,29 +151,29 @@ module _ {doc : List ℕ} {name n : ℕ} {known : Option ℕ} {code : ℕ} (e : 
 
 -- by the element, where an attribute has any name
 module _ (raw : List ℕ) (value len : ℕ) {e : Element} {was r : Notes} where
-  pub other-schema : e ≡ MessageSchema → NotedWith raw value len (ascii "id") (ascii "version") (ascii "package") [] was r → NotedMore raw value len (keys_of e) was r
-  other-schema q n = rw q (record { first = n.0; second = n.1; third = n.2; fourth = n.3 })
+  pub other-schema : e ≡ MessageSchema → NotedMore raw value len schema_keys was r → NotedMore raw value len (keys_of e) was r
+  other-schema q n = rw q n
 
-  pub other-type : e ≡ «Type» → NotedWith raw value len (ascii "length") (ascii "name") (ascii "primitiveType") (ascii "characterEncoding") was r → NotedMore raw value len (keys_of e) was r
-  other-type q n = rw q (record { first = n.0; second = n.1; third = n.2; fourth = n.3 })
+  pub other-type : e ≡ «Type» → NotedMore raw value len type_keys was r → NotedMore raw value len (keys_of e) was r
+  other-type q n = rw q n
 
-  pub other-enum : e ≡ Enum → NotedWith raw value len (ascii "name") (ascii "encodingType") [] [] was r → NotedMore raw value len (keys_of e) was r
-  other-enum q n = rw q (record { first = n.0; second = n.1; third = n.2; fourth = n.3 })
+  pub other-enum : e ≡ Enum → NotedMore raw value len enum_keys was r → NotedMore raw value len (keys_of e) was r
+  other-enum q n = rw q n
 
-  pub other-field : (e ≡ MessageSchema → ⊥) → (e ≡ «Type» → ⊥) → (e ≡ Enum → ⊥) → NotedWith raw value len (ascii "id") (ascii "name") (ascii "type") [] was r → NotedMore raw value len (keys_of e) was r
-  other-field a b c n = rw (keys_else e a b c) (record { first = n.0; second = n.1; third = n.2; fourth = n.3 })
+  pub other-field : (e ≡ MessageSchema → ⊥) → (e ≡ «Type» → ⊥) → (e ≡ Enum → ⊥) → NotedMore raw value len field_keys was r → NotedMore raw value len (keys_of e) was r
+  other-field a b c n = rw (keys_else e a b c) n
 
 -- ---- the loop of `tag_noting` is at i; q is the part there
 
 pub record LookingAll (doc : List ℕ) (at : ℕ) (k : Keys) (i : ℕ) (noted : Notes) : Type 0 where
-  pub first : Looking doc at k.first i (found_at noted.first noted.len1)
-  pub second : Looking doc at k.second i (found_at noted.second noted.len2)
-  pub third : Looking doc at k.third i (found_at noted.third noted.len3)
-  pub fourth : Looking doc at k.fourth i (found_at noted.fourth noted.len4)
+  pub number : Looking doc at k.number i (number_in noted)
+  pub name : Looking doc at k.name i (name_in noted)
+  pub second : Looking doc at k.second i (second_in noted)
+  pub encoding : Looking doc at k.encoding i (encoding_in noted)
 
 pub all_start : (doc : List ℕ) (at : ℕ) (k : Keys) {noted : Notes} → noted ≡ no_notes → LookingAll doc at k at noted
 unfolding found_at
-all_start doc at k e = rw e (record { first = looking-start; second = looking-start; third = looking-start; fourth = looking-start })
+all_start doc at k e = rw e (record { number = looking-start; name = looking-start; second = looking-start; encoding = looking-start })
 
 module _ (doc : List ℕ) (at place i : ℕ) {q : Quick} (u : QuickAt doc i place q) where
   pub quick-less : {name n value len next : ℕ} → q.part ≡ Ok (Part name n value len next) → length doc - next < length doc - i
@@ -219,28 +198,28 @@ module _ (doc : List ℕ) (at place i : ℕ) {q : Quick} (u : QuickAt doc i plac
     pub all-on : {name n value len next : ℕ} → q.part ≡ Ok (Part name n value len next) → {r : Notes} → NotedMore (piece doc name n) value len k noted r → LookingAll doc at k next r
     all-on f m =
         record {
-          first = looking-on inv.first place u.is f m.first;
+          number = looking-on inv.number place u.is f m.number;
+          name = looking-on inv.name place u.is f m.name;
           second = looking-on inv.second place u.is f m.second;
-          third = looking-on inv.third place u.is f m.third;
-          fourth = looking-on inv.fourth place u.is f m.fourth;
+          encoding = looking-on inv.encoding place u.is f m.encoding;
         }
 
     pub all_end : {ending : Ending} → q.part ≡ Ok (TagEnd ending) → NotedBy k doc at noted
     all_end f =
         record {
-          first = looking-end inv.first place u.is f;
+          number = looking-end inv.number place u.is f;
+          name = looking-end inv.name place u.is f;
           second = looking-end inv.second place u.is f;
-          third = looking-end inv.third place u.is f;
-          fourth = looking-end inv.fourth place u.is f;
+          encoding = looking-end inv.encoding place u.is f;
         }
 
     pub all-bad : {refusal : Refusal} → q.part ≡ Err refusal → NotedBy k doc at noted
     all-bad f =
         record {
-          first = looking-bad inv.first place u.is f;
+          number = looking-bad inv.number place u.is f;
+          name = looking-bad inv.name place u.is f;
           second = looking-bad inv.second place u.is f;
-          third = looking-bad inv.third place u.is f;
-          fourth = looking-bad inv.fourth place u.is f;
+          encoding = looking-bad inv.encoding place u.is f;
         }
 
 -- one name alone

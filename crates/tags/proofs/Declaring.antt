@@ -8,10 +8,10 @@ use Rattle.texts.proofs.Comparing.{same-equal, same-lengths, starts-yes, starts-
 use Rattle.swar.specs.Word.{word_of}
 use Rattle.swar.specs.internal.Standing.{ShortText, StandsShort}
 use Rattle.classes.specs.Class.{is_space, is_tag_name_end, is_attribute_name_end}
-use Rattle.tags.specs.declared.tag.Notes.{Notes}
+use Rattle.tags.specs.declared.noting.Notes.{Notes}
 use Rattle.tags.specs.Names.{is_xmlns}
 use Rattle.elements.specs.Keys.{Keys}
-use Rattle.tags.specs.internal.Known.{NotedMore}
+use Rattle.tags.specs.internal.Noting.{NotedMore}
 use Rattle.tags.proofs.Knowing.{starts-split}
 use Rattle.tags.proofs.Looking.{named-xmlns}
 
@@ -106,10 +106,10 @@ module _ (raw : List ℕ) {b : Bool} (x : b ≡ is_xmlns raw) where
 pub declares-more : (doc : List ℕ) (raw n value len : ℕ) (k : Keys) (was : Notes) {b : Bool} → b ≡ is_xmlns (piece doc raw n) → b ≡ true → NotedMore (piece doc raw n) value len k was was
 declares-more doc raw n value len k was x t =
     record {
-      first = named-xmlns doc raw n value len k.first was.first was.len1 x t;
-      second = named-xmlns doc raw n value len k.second was.second was.len2 x t;
-      third = named-xmlns doc raw n value len k.third was.third was.len3 x t;
-      fourth = named-xmlns doc raw n value len k.fourth was.fourth was.len4 x t;
+      number = named-xmlns doc raw n value len k.number was.number was.number_len x t;
+      name = named-xmlns doc raw n value len k.name was.name was.name_len x t;
+      second = named-xmlns doc raw n value len k.second was.second was.second_len x t;
+      encoding = named-xmlns doc raw n value len k.encoding was.encoding was.encoding_len x t;
     }
 
 pub ruleset declaring = (xmlns-short, xmlns-bare, xmlns-colon, xmlns-not, xmlns-part, xmlns-equals, xmlns-on, declares-not, declares-more, rules)

@@ -9,7 +9,7 @@ use Rattle.classes.specs.Class.{is_space, is_attribute_name_end}
 use Rattle.refusals.specs.declared.Refusal.{Refusal}
 use Rattle.tags.specs.declared.part.TagPart.{TagPart}
 use Rattle.tags.specs.declared.part.TagPart.TheVariants.{Attribute as Part, TagEnd}
-use Rattle.tags.specs.declared.tag.Notes.{Notes}
+use Rattle.tags.specs.declared.noting.Notes.{Notes}
 use Rattle.tags.specs.Names.{is_xmlns}
 use Rattle.elements.specs.Keys.{Keys}
 use Rattle.tags.specs.Find.{stands}
@@ -138,10 +138,10 @@ looking-past {name = name} {found = found} inv u = record { rest = ap (λ (t : T
 pub all-past : {doc : List ℕ} {at : ℕ} {k : Keys} {i r : ℕ} {noted : Notes} → LookingAll doc at k i noted → Unchanged doc i r → LookingAll doc at k r noted
 all-past inv u =
     record {
-      first = looking-past inv.first u;
+      number = looking-past inv.number u;
+      name = looking-past inv.name u;
       second = looking-past inv.second u;
-      third = looking-past inv.third u;
-      fourth = looking-past inv.fourth u;
+      encoding = looking-past inv.encoding u;
     }
 
 pub ruleset dropping = (passed_none, passed-more, passed-less, quoted-first, quoted-second, quoted-next, quoted-none, double-next, single-next, value-none, passed-whole, rules)

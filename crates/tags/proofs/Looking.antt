@@ -8,10 +8,11 @@ use Rattle.texts.proofs.Choosing.{by-test, pick_yes, pick_no}
 use Rattle.refusals.specs.declared.Refusal.{Refusal}
 use Rattle.tags.specs.declared.part.TagPart.{TagPart}
 use Rattle.tags.specs.declared.part.TagPart.TheVariants.{Attribute as Part, TagEnd}
-use Rattle.tags.specs.declared.tag.Notes.{Notes}
+use Rattle.elements.specs.Keys.{Keys}
+use Rattle.tags.specs.declared.noting.Notes.{Notes}
 use Rattle.tags.specs.Names.{prefix_length, is_xmlns}
 use Rattle.tags.specs.Attributes.{tag_part_at, Tag, with_part, tag_at, later, last_of, attribute_at}
-use Rattle.tags.specs.internal.Noting.{found_at, noted_of, value_if_named}
+use Rattle.tags.specs.internal.Noting.{found_at, with_value, value_if_named, Adds, NotedMore}
 use Rattle.tags.proofs.Naming.{local-of}
 use Rattle.tags.proofs.Tagging.{tag-part, tag-end, tag-bad}
 use Rattle.tags.proofs.Placeless.{any_part, any-end, any-bad}
@@ -48,27 +49,35 @@ module _ (at len : ℕ) where
       let e : at - 1 + 1 ≡ at = omega arith in
       sym (found-value (at - 1) len) ∙ ap (λ k. found_at k len) e
 
--- four of them
-pub noted-each : (n : Notes) {a b c d : Option Range} → a ≡ found_at n.first n.len1 → b ≡ found_at n.second n.len2 → c ≡ found_at n.third n.len3 → d ≡ found_at n.fourth n.len4 → record { first = a; second = b; third = c; fourth = d } ≡ noted_of n
-noted-each n e f g h = rw (e, f, g, h)
+pub named-yes : (named : Bool) (this earlier : ℕ) → named ≡ true → this ≡ pick named this earlier
+named-yes named this earlier t = rw t
 
-pub latest-this : (on : Bool) (this earlier : ℕ) → on ≡ true → this ≡ pick on this earlier
-latest-this on this earlier t = rw t
-
-pub latest-earlier : (on : Bool) (this earlier : ℕ) → on ≡ false → earlier ≡ pick on this earlier
-latest-earlier on this earlier f = rw f
+pub named-no : (named : Bool) (this earlier : ℕ) → named ≡ false → earlier ≡ pick named this earlier
+named-no named this earlier f = rw f
 
 module _ (doc : List ℕ) (raw n value len : ℕ) (key : List ℕ) (was long : ℕ) where
   -- b is whether the raw name declares a namespace
-  pub named-xmlns : {b : Bool} → b ≡ is_xmlns (piece doc raw n) → b ≡ true → found_at was long ≡ later (value_if_named (piece doc raw n) value len key) (found_at was long)
+  pub named-xmlns : {b : Bool} → b ≡ is_xmlns (piece doc raw n) → b ≡ true → Adds (piece doc raw n) value len key (found_at was long) (found_at was long)
   named-xmlns x t = rw (← x, t)
 
   -- it does not; w is the raw name, v the local name, and m whether that is the key
-  pub named-local : is_xmlns (piece doc raw n) ≡ false → {w : List ℕ} → w ≡ piece doc raw n → {lost : ℕ} → lost ≡ prefix_length w → {v : List ℕ} → v ≡ piece w lost n → {m : Bool} → m ≡ same v key → {y z : ℕ} → y ≡ pick m (value + 1) was → z ≡ pick m len long → found_at y z ≡ later (value_if_named (piece doc raw n) value len key) (found_at was long)
-  named-local f e l p {m} s hy hz =
+  named-local : is_xmlns (piece doc raw n) ≡ false → {w : List ℕ} → w ≡ piece doc raw n → {prefix : ℕ} → prefix ≡ prefix_length w → {v : List ℕ} → v ≡ piece w prefix n → {m : Bool} → m ≡ same v key → Adds (piece doc raw n) value len key (found_at was long) (found_at (pick m (value + 1) was) (pick m len long))
+  named-local f e l p {m} s =
       let z = p ∙ local-of doc raw n e l in
-      rw (f, ← z, ← s)
-      (by-test m (λ t. rw (hy, hz, t) (found-value value len)) (λ t. rw (hy, hz, t) refl))
+      rw (f, ← z, ← s) (by-test m (λ t. rw t (found-value value len)) (λ t. rw t refl))
+
+-- by the four comparisons of the local name
+pub named-with : (doc : List ℕ) (raw n value len : ℕ) (k : Keys) (was : Notes) → is_xmlns (piece doc raw n) ≡ false → {w : List ℕ} → w ≡ piece doc raw n → {prefix : ℕ} → prefix ≡ prefix_length w → {v : List ℕ} → v ≡ piece w prefix n
+    → {a b c d : Bool} → a ≡ same v k.number → b ≡ same v k.name → c ≡ same v k.second → d ≡ same v k.encoding
+    → {r : Notes} → r ≡ with_value (record { number = a; name = b; second = c; encoding = d }) (record { from = value; len = len }) was → NotedMore (piece doc raw n) value len k was r
+named-with doc raw n value len k was f e l p a b c d q =
+    rw q
+    (record {
+      number = named-local doc raw n value len k.number was.number was.number_len f e l p a;
+      name = named-local doc raw n value len k.name was.name was.name_len f e l p b;
+      second = named-local doc raw n value len k.second was.second was.second_len f e l p c;
+      encoding = named-local doc raw n value len k.encoding was.encoding was.encoding_len f e l p d;
+    })
 
 -- ---- a loop that looks a name up, from `at` on, is at i, with `found` so far; p is the part at i
 
@@ -81,7 +90,7 @@ looking-start {doc} {at} {name} = record { rest = later-absent (last_of name (ta
 
 module _ {doc : List ℕ} {at : ℕ} {name : List ℕ} {i : ℕ} {found : Option Range} (inv : Looking doc at name i found) (place : ℕ) {p : Result TagPart Refusal} (e : p ≡ tag_part_at doc i place) where
   -- g is the later of the attribute there, where it has that name, and what was found
-  pub looking-on : {raw n value len next : ℕ} → p ≡ Ok (Part raw n value len next) → {g : Option Range} → g ≡ later (value_if_named (piece doc raw n) value len name) found → Looking doc at name next g
+  pub looking-on : {raw n value len next : ℕ} → p ≡ Ok (Part raw n value len next) → {g : Option Range} → Adds (piece doc raw n) value len name found g → Looking doc at name next g
   looking-on {raw} {n} {value} {len} {next} f m =
       record { rest = ap (later (last_of name (tag_at doc next 0).attributes)) m ∙ sym (last-with doc raw n value len (tag_at doc next 0) name found) ∙ (rw (tag-part doc i 0 (any_part doc i place 0 (sym e ∙ f))) at inv.rest) }
 

@@ -15,6 +15,25 @@ ghost use Rattle.tags.specs.internal.Known.{KnownAt, CodesOf, Apart, ToldShort, 
 use elements::Element;
 use swar::{stands_long, stands_short};
 
+const NAME: usize = 1;
+
+const ID: usize = 2;
+
+const TYPE: usize = 3;
+
+const LENGTH: usize = 4;
+
+const PRIMITIVE_TYPE: usize = 5;
+
+const ENCODING_TYPE: usize = 6;
+
+const CHARACTER_ENCODING: usize = 7;
+
+const VERSION: usize = 8;
+
+/// The last code of a name that some element looks up.
+pub const PACKAGE: usize = 9;
+
 /// A known attribute: the code of its name (specs/internal/Known.antt), and how far its value is from the
 /// space before the name, which is the name's length and 3: one addition finds the value. The code
 /// is a number, not an enum, since the proofs compute over all codes.
@@ -24,45 +43,45 @@ pub struct Known {
     pub skip: usize,
 }
 
-/// The codes of the four names that matter in a tag, 0 for none. Numbers, not options, which would
-/// take two comparisons for each attribute.
+/// The codes of the four names that an element looks up, 0 for none. Numbers, not options, which
+/// would take two comparisons for each attribute.
 #[derive(Clone, Copy)]
 pub struct Codes {
-    pub first: usize,
+    pub number: usize,
+    pub name: usize,
     pub second: usize,
-    pub third: usize,
-    pub fourth: usize,
+    pub encoding: usize,
 }
 
-/// The codes of the names that matter in a tag of this element.
+/// The codes of the names that this element looks up.
 pub fn codes_of(element: Element) -> Codes
     ensures are { CodesOf (keys_of element) result }
     ensures apart { Apart result }
 {
     match element {
         Element::MessageSchema => Codes {
-            first: 2,
-            second: 8,
-            third: 9,
-            fourth: 0,
+            number: ID,
+            name: PACKAGE,
+            second: VERSION,
+            encoding: 0,
         },
         Element::Type => Codes {
-            first: 4,
-            second: 1,
-            third: 5,
-            fourth: 7,
+            number: LENGTH,
+            name: NAME,
+            second: PRIMITIVE_TYPE,
+            encoding: CHARACTER_ENCODING,
         },
         Element::Enum => Codes {
-            first: 1,
-            second: 6,
-            third: 0,
-            fourth: 0,
+            number: 0,
+            name: NAME,
+            second: ENCODING_TYPE,
+            encoding: 0,
         },
         _ => Codes {
-            first: 2,
-            second: 1,
-            third: 3,
-            fourth: 0,
+            number: ID,
+            name: NAME,
+            second: TYPE,
+            encoding: 0,
         },
     }
 }
@@ -127,7 +146,7 @@ fn known_p(doc: &[u8], at: usize) -> Option<Known>
     let first = known_long(
         doc,
         at,
-        5,
+        PRIMITIVE_TYPE,
         16,
         0x7669_7469_6d69_7270,
         0x100_0000_0000_0000,
@@ -140,7 +159,7 @@ fn known_p(doc: &[u8], at: usize) -> Option<Known>
     if second.is_some() {
         return second;
     }
-    known_long(doc, at, 9, 10, 0x3d65_6761_6b63_6170, 0x100, 0x22)
+    known_long(doc, at, PACKAGE, 10, 0x3d65_6761_6b63_6170, 0x100, 0x22)
 }
 
 /// By those that begin with 's': semanticType, sinceVersion, semanticVersion.
@@ -209,9 +228,9 @@ fn known_by(doc: &[u8], at: usize) -> Option<Known>
     ensures { KnownAt doc.now at result }
 {
     match doc[at] {
-        b'n' => known_short(doc, at, 1, 7, 0x1_0000_0000_0000, 0x223d_656d_616e),
-        b'i' => known_short(doc, at, 2, 5, 0x1_0000_0000, 0x223d_6469),
-        b't' => known_short(doc, at, 3, 7, 0x1_0000_0000_0000, 0x223d_6570_7974),
+        b'n' => known_short(doc, at, NAME, 7, 0x1_0000_0000_0000, 0x223d_656d_616e),
+        b'i' => known_short(doc, at, ID, 5, 0x1_0000_0000, 0x223d_6469),
+        b't' => known_short(doc, at, TYPE, 7, 0x1_0000_0000_0000, 0x223d_6570_7974),
         b'd' => known_long(
             doc,
             at,
@@ -224,19 +243,19 @@ fn known_by(doc: &[u8], at: usize) -> Option<Known>
         b'p' => known_p(doc, at),
         b's' => known_s(doc, at),
         b'o' => known_long(doc, at, 12, 9, 0x223d_7465_7366_666f, 1, 0),
-        b'l' => known_long(doc, at, 4, 9, 0x223d_6874_676e_656c, 1, 0),
+        b'l' => known_long(doc, at, LENGTH, 9, 0x223d_6874_676e_656c, 1, 0),
         b'e' => known_long(
             doc,
             at,
-            6,
+            ENCODING_TYPE,
             15,
             0x676e_6964_6f63_6e65,
             0x1_0000_0000_0000,
             0x223d_6570_7954,
         ),
         b'b' => known_b(doc, at),
-        b'c' => known_text(doc, at, 7, 20, b"characterEncoding=\""),
-        b'v' => known_long(doc, at, 8, 10, 0x3d6e_6f69_7372_6576, 0x100, 0x22),
+        b'c' => known_text(doc, at, CHARACTER_ENCODING, 20, b"characterEncoding=\""),
+        b'v' => known_long(doc, at, VERSION, 10, 0x3d6e_6f69_7372_6576, 0x100, 0x22),
         _ => None,
     }
 }

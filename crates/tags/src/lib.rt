@@ -18,7 +18,7 @@
 pub mod beginning;
 mod known;
 mod namespaces;
-mod noting;
+pub mod noting;
 pub mod part;
 pub mod scan;
 pub mod tag;

@@ -1,42 +1,126 @@
-//! What one more attribute adds to a tag's notes: its value, if its name matters there.
+//! What is noted of a tag as it is read, and what one more attribute adds: its value, if the tag's
+//! element looks its name up.
 #![tactic(auto, using(crate::proofs::Laws::laws))]
 
 ghost use Rattle.std.specs.Prelude.{◌≡◌, false, [], ◌+◌, ◌<◌, ◌^◌, length};
 ghost use Rattle.texts.specs.Choice.{pick};
 ghost use Rattle.texts.specs.Text.{piece};
 ghost use Rattle.tags.specs.Names.{is_xmlns};
-ghost use Rattle.elements.specs.Keys.{Keys, keys_of};
-ghost use Rattle.tags.specs.internal.Noting.{NotedWith};
-ghost use Rattle.tags.specs.internal.Known.{known_name, CodesOf, Apart, NamedAs, Declares, NotedMore};
+ghost use Rattle.elements.specs.Keys.{Keys, keys, keys_of};
+ghost use Rattle.tags.specs.internal.Noting.{found_at, number_in, name_in, second_in, encoding_in, no_notes, with_value, NotedMore};
+ghost use Rattle.tags.specs.internal.Known.{known_name, CodesOf, Apart, NamedAs, Declares};
 
-use crate::known::Codes;
+use crate::known::{Codes, PACKAGE};
 use crate::scan::{is_xmlns_at, prefix_len};
-use crate::tag::Notes;
 use elements::Element;
 use texts::Range;
 
-/// `this` if `on`, else `earlier`.
-fn latest(on: bool, this: usize, earlier: usize) -> usize
-    ensures { result ≡ pick on this earlier }
-{
-    if on { this } else { earlier }
+/// What was noted of a tag: where the raw values lie that its element looks up, by what they become
+/// in an item. For each, 1 + the position of its first byte, or 0 if there is no such attribute, and
+/// its length.
+///
+/// Plain words, since they are copied for each attribute: padding beside an enum's tag, or a pair
+/// that is loaded whole right after its halves were stored, would defeat store forwarding.
+#[derive(Clone, Copy)]
+pub struct Notes {
+    number: usize,
+    number_len: usize,
+    name: usize,
+    name_len: usize,
+    second: usize,
+    second_len: usize,
+    encoding: usize,
+    encoding_len: usize,
 }
 
-/// The notes with one more value, under each name that it has: `is1` to `is4`.
-fn noted_where(is1: bool, is2: bool, is3: bool, is4: bool, value: Range, earlier: Notes) -> Notes
+/// The range of a noted value; `None` if `at` is 0.
+fn found(at: usize, len: usize) -> Option<Range>
+    ensures { result ≡ found_at at len }
+{
+    if at == 0 {
+        return None;
+    }
+    Some(Range { from: at - 1, len })
+}
+
+impl Notes {
+    /// No value under any name.
+    pub fn none() -> Notes
+        ensures { result ≡ no_notes }
+    {
+        Notes {
+            number: 0,
+            number_len: 0,
+            name: 0,
+            name_len: 0,
+            second: 0,
+            second_len: 0,
+            encoding: 0,
+            encoding_len: 0,
+        }
+    }
+
+    /// The value of id, or of a type's length.
+    pub fn number(&self) -> Option<Range>
+        ensures { result ≡ number_in self.now }
+    {
+        found(self.number, self.number_len)
+    }
+
+    /// The value of name, or of a schema's package.
+    pub fn name(&self) -> Option<Range>
+        ensures { result ≡ name_in self.now }
+    {
+        found(self.name, self.name_len)
+    }
+
+    /// The value of type, primitiveType or encodingType, or of a schema's version.
+    pub fn second(&self) -> Option<Range>
+        ensures { result ≡ second_in self.now }
+    {
+        found(self.second, self.second_len)
+    }
+
+    /// The value of characterEncoding.
+    pub fn encoding(&self) -> Option<Range>
+        ensures { result ≡ encoding_in self.now }
+    {
+        found(self.encoding, self.encoding_len)
+    }
+}
+
+/// `this` if the attribute has the name in question, else `earlier`.
+fn if_named(named: bool, this: usize, earlier: usize) -> usize
+    ensures { result ≡ pick named this earlier }
+{
+    if named { this } else { earlier }
+}
+
+/// Which of the four names an attribute has.
+#[derive(Clone, Copy)]
+struct Named {
+    number: bool,
+    name: bool,
+    second: bool,
+    encoding: bool,
+}
+
+/// The notes with one more value, under each name that it has.
+fn with_value(named: Named, value: Range, earlier: Notes) -> Notes
     requires { value.from < 2 ^ 63 }
-    ensures { (result.first ≡ pick is1 (value.from + 1) earlier.first) × (result.len1 ≡ pick is1 value.len earlier.len1) × (result.second ≡ pick is2 (value.from + 1) earlier.second) × (result.len2 ≡ pick is2 value.len earlier.len2) × (result.third ≡ pick is3 (value.from + 1) earlier.third) × (result.len3 ≡ pick is3 value.len earlier.len3) × (result.fourth ≡ pick is4 (value.from + 1) earlier.fourth) × (result.len4 ≡ pick is4 value.len earlier.len4) }
+    ensures { result ≡ with_value named value earlier }
 {
     let at = value.from + 1;
+    let len = value.len;
     Notes {
-        first: latest(is1, at, earlier.first),
-        len1: latest(is1, value.len, earlier.len1),
-        second: latest(is2, at, earlier.second),
-        len2: latest(is2, value.len, earlier.len2),
-        third: latest(is3, at, earlier.third),
-        len3: latest(is3, value.len, earlier.len3),
-        fourth: latest(is4, at, earlier.fourth),
-        len4: latest(is4, value.len, earlier.len4),
+        number: if_named(named.number, at, earlier.number),
+        number_len: if_named(named.number, len, earlier.number_len),
+        name: if_named(named.name, at, earlier.name),
+        name_len: if_named(named.name, len, earlier.name_len),
+        second: if_named(named.second, at, earlier.second),
+        second_len: if_named(named.second, len, earlier.second_len),
+        encoding: if_named(named.encoding, at, earlier.encoding),
+        encoding_len: if_named(named.encoding, len, earlier.encoding_len),
     }
 }
 
@@ -51,30 +135,32 @@ pub struct RawAttribute {
 fn noted_with(
     doc: &[u8],
     a: RawAttribute,
-    first: &[u8],
+    number: &[u8],
+    name: &[u8],
     second: &[u8],
-    third: &[u8],
-    fourth: &[u8],
+    encoding: &[u8],
     earlier: Notes,
 ) -> Notes
     requires { (a.value.from < length doc.now) × (is_xmlns (piece doc.now a.name.from a.name.len) ≡ false) }
-    ensures { NotedWith (piece doc.now a.name.from a.name.len) a.value.from a.value.len first.now second.now third.now fourth.now earlier result }
+    ensures { NotedMore (piece doc.now a.name.from a.name.len) a.value.from a.value.len (keys number.now name.now second.now encoding.now) earlier result }
 {
     let whole = texts::part(doc, a.name.from, a.name.len);
-    let lost = prefix_len(whole);
-    let name = texts::part(whole, lost, a.name.len);
-    let is1 = texts::equal(name, first);
-    let is2 = texts::equal(name, second);
-    let is3 = texts::equal(name, third);
-    let is4 = texts::equal(name, fourth);
-    noted_where(is1, is2, is3, is4, a.value, earlier)
+    let prefix = prefix_len(whole);
+    let local = texts::part(whole, prefix, a.name.len);
+    let named = Named {
+        number: texts::equal(local, number),
+        name: texts::equal(local, name),
+        second: texts::equal(local, second),
+        encoding: texts::equal(local, encoding),
+    };
+    with_value(named, a.value, earlier)
 }
 
-/// The notes with one more attribute, for a look-up of one name, noted as the first. A namespace
+/// The notes with one more attribute, for a look-up of one name, noted as the number. A namespace
 /// declaration changes nothing.
 pub fn noted_one(doc: &[u8], a: RawAttribute, name: &[u8], earlier: Notes) -> Notes
     requires { a.value.from < length doc.now }
-    ensures { NotedWith (piece doc.now a.name.from a.name.len) a.value.from a.value.len name.now [] [] [] earlier result }
+    ensures { NotedMore (piece doc.now a.name.from a.name.len) a.value.from a.value.len (keys name.now [] [] []) earlier result }
 {
     if is_xmlns_at(doc, a.name.from, a.name.len) {
         return earlier;
@@ -88,36 +174,38 @@ fn noted_known(code: usize, codes: Codes, value: Range, earlier: Notes) -> Notes
     requires { (0 < code) × (code < 18) × (value.from < 2 ^ 63) × Apart codes }
     ensures { (k : Keys) → CodesOf k codes → NotedMore (known_name code) value.from value.len k earlier result }
 {
-    // Codes above 9 matter in no tag.
-    if 9 < code {
+    // No element looks up a name of a later code.
+    let past = PACKAGE < code;
+    if past {
         return earlier;
     }
     let at = value.from + 1;
-    if code == codes.first {
+    let len = value.len;
+    if code == codes.number {
         return Notes {
-            first: at,
-            len1: value.len,
+            number: at,
+            number_len: len,
+            ..earlier
+        };
+    }
+    if code == codes.name {
+        return Notes {
+            name: at,
+            name_len: len,
             ..earlier
         };
     }
     if code == codes.second {
         return Notes {
             second: at,
-            len2: value.len,
+            second_len: len,
             ..earlier
         };
     }
-    if code == codes.third {
+    if code == codes.encoding {
         return Notes {
-            third: at,
-            len3: value.len,
-            ..earlier
-        };
-    }
-    if code == codes.fourth {
-        return Notes {
-            fourth: at,
-            len4: value.len,
+            encoding: at,
+            encoding_len: len,
             ..earlier
         };
     }
@@ -130,7 +218,7 @@ fn noted_other(doc: &[u8], a: RawAttribute, element: Element, earlier: Notes) ->
     ensures { NotedMore (piece doc.now a.name.from a.name.len) a.value.from a.value.len (keys_of element) earlier result }
 {
     match element {
-        Element::MessageSchema => noted_with(doc, a, b"id", b"version", b"package", b"", earlier),
+        Element::MessageSchema => noted_with(doc, a, b"id", b"package", b"version", b"", earlier),
         Element::Type => noted_with(
             doc,
             a,
@@ -140,7 +228,7 @@ fn noted_other(doc: &[u8], a: RawAttribute, element: Element, earlier: Notes) ->
             b"characterEncoding",
             earlier,
         ),
-        Element::Enum => noted_with(doc, a, b"name", b"encodingType", b"", b"", earlier),
+        Element::Enum => noted_with(doc, a, b"", b"name", b"encodingType", b"", earlier),
         _ => noted_with(doc, a, b"id", b"name", b"type", b"", earlier),
     }
 }

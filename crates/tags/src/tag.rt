@@ -6,43 +6,16 @@ ghost use Rattle.texts.specs.Choice.{pick};
 ghost use Rattle.texts.specs.Text.{piece};
 ghost use Rattle.tags.specs.Names.{is_xmlns};
 ghost use Rattle.tags.specs.Attributes.{tag_at, attribute_at};
-ghost use Rattle.elements.specs.Keys.{Keys, keys_of};
-ghost use Rattle.tags.specs.internal.Noting.{no_notes, found_at, noted_of, NotedWith, NotedBy};
-ghost use Rattle.tags.specs.internal.Known.{known_name, CodesOf, Apart, NamedAs, Declares, NotedMore};
+ghost use Rattle.elements.specs.Keys.{keys_of};
+ghost use Rattle.tags.specs.internal.Noting.{NotedBy};
 
 use crate::known::codes_of;
 use crate::namespaces::past_declarations;
-use crate::noting::{RawAttribute, is_declaration, noted_by, noted_one};
+use crate::noting::{Notes, RawAttribute, is_declaration, noted_by, noted_one};
 use crate::part::{Ending, Quick, TagPart, quick_part, tag_part};
 use elements::Element;
 use refusals::Refusal;
 use texts::Range;
-
-/// What was noted under four names: for each, 1 + the position of the raw value's first byte, or 0
-/// if there is no such attribute, and the value's length.
-///
-/// Eight plain words, since they are copied for each attribute: padding beside an enum's tag, or a
-/// pair that is loaded whole right after its halves were stored, would defeat store forwarding.
-#[derive(Clone, Copy)]
-pub struct Notes {
-    pub first: usize,
-    pub len1: usize,
-    pub second: usize,
-    pub len2: usize,
-    pub third: usize,
-    pub len3: usize,
-    pub fourth: usize,
-    pub len4: usize,
-}
-
-/// The ranges of the raw values found under four names; `None` without such an attribute.
-#[derive(Clone, Copy)]
-pub struct Noted {
-    pub first: Option<Range>,
-    pub second: Option<Range>,
-    pub third: Option<Range>,
-    pub fourth: Option<Range>,
-}
 
 /// A tag read to its end: how it ends, and what was noted of it.
 #[derive(Clone, Copy)]
@@ -51,53 +24,15 @@ pub struct Whole {
     pub noted: Notes,
 }
 
-/// No value under any name.
-pub fn nothing() -> Notes
-    ensures { result ≡ no_notes }
-{
-    Notes {
-        first: 0,
-        len1: 0,
-        second: 0,
-        len2: 0,
-        third: 0,
-        len3: 0,
-        fourth: 0,
-        len4: 0,
-    }
-}
-
-/// The range that a note stands for; `None` if it is 0.
-fn found_of(at: usize, len: usize) -> Option<Range>
-    ensures { result ≡ found_at at len }
-{
-    if at == 0 {
-        return None;
-    }
-    Some(Range { from: at - 1, len })
-}
-
-/// The ranges that four notes stand for.
-pub fn noted_of(notes: Notes) -> Noted
-    ensures { result ≡ noted_of notes }
-{
-    Noted {
-        first: found_of(notes.first, notes.len1),
-        second: found_of(notes.second, notes.len2),
-        third: found_of(notes.third, notes.len3),
-        fourth: found_of(notes.fourth, notes.len4),
-    }
-}
-
-/// Reads the tag whose attributes begin at `at`: how it ends, and the last raw value under each of
-/// the four names that the element looks up. One namespace declaration is likely followed by others, which are
+/// Reads the tag whose attributes begin at `at`: how it ends, and the last raw value under each name
+/// that the element looks up. One namespace declaration is likely followed by others, which are
 /// skipped in a loop of their own.
 pub fn tag_noting(doc: &[u8], at: usize, place: usize, element: Element) -> Whole
     ensures { (result.ending ≡ (tag_at doc.now at place).ending) × NotedBy (keys_of element) doc.now at result.noted }
 {
     let codes = codes_of(element);
     let mut i = at;
-    let mut noted = nothing();
+    let mut noted = Notes::none();
     // `loop`: the part that ends the tag returns.
     loop {
         let Quick { code, part } = quick_part(doc, i, place);
@@ -150,7 +85,7 @@ pub fn attribute(doc: &[u8], at: usize, name: &[u8]) -> Option<Range>
     ensures { result ≡ attribute_at doc.now at name.now }
 {
     let mut i = at;
-    let mut noted = nothing();
+    let mut noted = Notes::none();
     // `loop`: the part that ends the tag returns.
     loop {
         // Only refusals hold the place, and none leaves this function.
@@ -177,8 +112,8 @@ pub fn attribute(doc: &[u8], at: usize, name: &[u8]) -> Option<Range>
                 noted = noted_one(doc, a, name, noted);
                 i = next;
             }
-            Ok(TagPart::TagEnd(_)) => return found_of(noted.first, noted.len1),
-            Err(_) => return found_of(noted.first, noted.len1),
+            Ok(TagPart::TagEnd(_)) => return noted.number(),
+            Err(_) => return noted.number(),
         }
     }
 }

@@ -5,8 +5,9 @@ use Rattle.texts.specs.declared.Range.{Range}
 use Rattle.tags.specs.Attributes.{raw_length}
 use Rattle.saxlite.specs.Event.{Attributes, value_in, attributes_in}
 use Rattle.elements.specs.Keys.{Keys}
-use Rattle.tags.specs.internal.Noting.{NotedBy, noted_of}
-use Rattle.tags.specs.declared.tag.Noted.{Noted}
+use Rattle.tags.specs.internal.Noting.{number_in, name_in, second_in, encoding_in, NotedBy}
+use Rattle.tags.specs.declared.noting.Notes.{Notes}
+use Rattle.builder.specs.declared.work.Found.{Found}
 use Rattle.refusals.specs.declared.Refusal.{Refusal}
 use Rattle.refusals.specs.declared.Refusal.TheVariants.{BadNumber}
 use Rattle.model.specs.Schema.{Item}
@@ -89,9 +90,13 @@ MadeOf d doc high text e text' = Made (drafted_item d doc) (draft_length d) high
 
 -- ---- with the document and the buffers
 
--- f has the ranges of what was noted of a tag
-pub record Finds (tag : Tag) (f : Noted) : Type 0 where
-  pub is : f ≡ noted_of tag.noted
+-- the ranges of the values that are noted
+abbrev pub found_in : Notes → Found
+found_in n = record { number = number_in n; name = name_in n; second = second_in n; encoding = encoding_in n }
+
+-- f has those of a tag
+pub record Finds (tag : Tag) (f : Found) : Type 0 where
+  pub is : f ≡ found_in tag.noted
 
 -- what reading a number asks: the state is sound, and the tag has room for the text
 unfoldable pub Reads : Work → State → Tag → Option Range → Type 0

@@ -3,7 +3,7 @@ use Rattle.std.specs.Prelude.{◌≡◌, Bool, List, ℕ, ◌+◌, ◌*◌, ◌-
 use Rattle.texts.specs.Choice.{pick}
 use Rattle.texts.specs.Text.{piece}
 use Rattle.refusals.specs.declared.Refusal.{Refusal}
-use Rattle.tags.specs.declared.tag.Notes.{Notes}
+use Rattle.tags.specs.declared.noting.Notes.{Notes}
 use Rattle.tags.specs.declared.part.Ending.{Ending}
 use Rattle.tags.specs.Attributes.{tag_at}
 use Rattle.elements.specs.Elements.{element_of}

@@ -1,6 +1,6 @@
 -- Attributes with well-known names, which have codes from 1 on.
-use Rattle.std.specs.Prelude.{◌≡◌, Bool, true, false, List, [], ◌∷◌, ◌++◌, ℕ, zero, suc, ◌+◌, ◌<◌, T, eqb, leb, length, drop, Option, Some, None, Result, Ok, Err}
-use Rattle.texts.specs.Choice.{pick, ◌and◌}
+use Rattle.std.specs.Prelude.{◌≡◌, Bool, true, false, not, List, [], ◌∷◌, ◌++◌, ℕ, zero, suc, ◌+◌, ◌<◌, T, eqb, leb, length, drop, Option, Some, None, Result, Ok, Err}
+use Rattle.texts.specs.Choice.{pick, ◌and◌, ◌or◌}
 use Rattle.texts.specs.Text.{ascii, piece, same, starts_with}
 use Rattle.refusals.specs.declared.Refusal.{Refusal}
 use Rattle.swar.specs.internal.Standing.{ShortText, LongText}
@@ -10,10 +10,8 @@ use Rattle.tags.specs.declared.known.Codes.{Codes}
 use Rattle.tags.specs.declared.part.TagPart.{TagPart}
 use Rattle.tags.specs.declared.part.TagPart.TheVariants.{Attribute as Part, TagEnd}
 use Rattle.tags.specs.declared.part.Quick.{Quick}
-use Rattle.tags.specs.declared.tag.Notes.{Notes}
 use Rattle.tags.specs.Names.{is_xmlns}
-use Rattle.tags.specs.Attributes.{tag_part_at, later}
-use Rattle.tags.specs.internal.Noting.{found_at, value_if_named}
+use Rattle.tags.specs.Attributes.{tag_part_at}
 
 -- the k-th of some texts, from 0 on
 abbrev pub nth : List (List ℕ) → ℕ → List ℕ
@@ -75,19 +73,23 @@ codes key c = leb c 9 and up_to 17 (λ k. pick (eqb k c) (same (known_name k) ke
 
 -- c holds the codes of the four names
 pub record CodesOf (k : Keys) (c : Codes) : Type 0 where
-  pub first : T (codes k.first c.first)
+  pub number : T (codes k.number c.number)
+  pub name : T (codes k.name c.name)
   pub second : T (codes k.second c.second)
-  pub third : T (codes k.third c.third)
-  pub fourth : T (codes k.fourth c.fourth)
+  pub encoding : T (codes k.encoding c.encoding)
 
--- the codes differ (third and fourth may both be 0): an attribute has at most one of the names
+-- two codes differ, or are 0
+abbrev pub differ : ℕ → ℕ → Bool
+differ c d = eqb c 0 or not (eqb c d)
+
+-- the codes differ: an attribute has at most one of the names
 pub record Apart (c : Codes) : Type 0 where
-  pub first-second : eqb c.first c.second ≡ false
-  pub first-third : eqb c.first c.third ≡ false
-  pub first-fourth : eqb c.first c.fourth ≡ false
-  pub second-third : eqb c.second c.third ≡ false
-  pub second-fourth : eqb c.second c.fourth ≡ false
-  pub third-fourth : 0 < c.third → eqb c.third c.fourth ≡ false
+  pub number-name : T (differ c.number c.name)
+  pub number-second : T (differ c.number c.second)
+  pub number-encoding : T (differ c.number c.encoding)
+  pub name-second : T (differ c.name c.second)
+  pub name-encoding : T (differ c.name c.encoding)
+  pub second-encoding : T (differ c.second c.encoding)
 
 -- ---- a part of a tag
 
@@ -110,10 +112,3 @@ pub record NamedAs (doc : List ℕ) (name n : ℕ) (code : Option ℕ) : Type 0 
 pub record Declares (doc : List ℕ) (name n : ℕ) (code : Option ℕ) (r : Bool) : Type 0 where
   pub yes : r ≡ true → is_xmlns (piece doc name n) ≡ true
   pub no : r ≡ false → code ≡ None → is_xmlns (piece doc name n) ≡ false
-
--- r are the notes `was` with one more attribute, of that raw name, under the four names
-pub record NotedMore (raw : List ℕ) (value len : ℕ) (k : Keys) (was r : Notes) : Type 0 where
-  pub first : found_at r.first r.len1 ≡ later (value_if_named raw value len k.first) (found_at was.first was.len1)
-  pub second : found_at r.second r.len2 ≡ later (value_if_named raw value len k.second) (found_at was.second was.len2)
-  pub third : found_at r.third r.len3 ≡ later (value_if_named raw value len k.third) (found_at was.third was.len3)
-  pub fourth : found_at r.fourth r.len4 ≡ later (value_if_named raw value len k.fourth) (found_at was.fourth was.len4)

@@ -1,44 +1,84 @@
--- What is noted of a tag as it is read: the last values of four names, by element.
-use Rattle.std.specs.Prelude.{◌≡◌, List, ℕ, zero, suc, Option, Some, None}
+-- What is noted of a tag as it is read: the last values of the four names that its element looks up.
+use Rattle.std.specs.Prelude.{◌≡◌, List, ℕ, zero, suc, ◌+◌, Option, Some, None}
 use Rattle.texts.specs.Choice.{pick}
 use Rattle.texts.specs.Text.{same}
 use Rattle.texts.specs.declared.Range.{Range}
 use Rattle.elements.specs.Keys.{Keys}
-use Rattle.tags.specs.declared.tag.Notes.{Notes}
-use Rattle.tags.specs.declared.tag.Noted.{Noted}
+use Rattle.tags.specs.declared.noting.Notes.{Notes}
+use Rattle.tags.specs.declared.noting.Named.{Named}
 use Rattle.tags.specs.Names.{local_name, is_xmlns}
 use Rattle.tags.specs.Attributes.{later, attribute_at}
 
--- the range of a note: 1 + where the value begins, or 0 for none, and its length
+-- ---- what notes hold
+
+-- a value: 1 + where it begins, or 0 for none, and its length
 unfoldable pub found_at : ℕ → ℕ → Option Range
 found_at zero len = None
 found_at (suc from) len = Some (record { from = from; len = len })
 
--- the ranges of four notes
-abbrev pub noted_of : Notes → Noted
-noted_of n = record { first = found_at n.first n.len1; second = found_at n.second n.len2; third = found_at n.third n.len3; fourth = found_at n.fourth n.len4 }
+-- the four values
+abbrev pub number_in : Notes → Option Range
+number_in n = found_at n.number n.number_len
 
--- nothing noted
+abbrev pub name_in : Notes → Option Range
+name_in n = found_at n.name n.name_len
+
+abbrev pub second_in : Notes → Option Range
+second_in n = found_at n.second n.second_len
+
+abbrev pub encoding_in : Notes → Option Range
+encoding_in n = found_at n.encoding n.encoding_len
+
+-- none
 abbrev pub no_notes : Notes
-no_notes = record { first = 0; len1 = 0; second = 0; len2 = 0; third = 0; len3 = 0; fourth = 0; len4 = 0 }
+no_notes =
+    record {
+      number = 0;
+      number_len = 0;
+      name = 0;
+      name_len = 0;
+      second = 0;
+      second_len = 0;
+      encoding = 0;
+      encoding_len = 0;
+    }
 
--- the notes hold what a look-up of the four names finds in the tag whose attributes begin at `at`
+-- they are what a look-up of the four names finds in the tag whose attributes begin at `at`
 pub record NotedBy (k : Keys) (doc : List ℕ) (at : ℕ) (noted : Notes) : Type 0 where
-  pub first : found_at noted.first noted.len1 ≡ attribute_at doc at k.first
-  pub second : found_at noted.second noted.len2 ≡ attribute_at doc at k.second
-  pub third : found_at noted.third noted.len3 ≡ attribute_at doc at k.third
-  pub fourth : found_at noted.fourth noted.len4 ≡ attribute_at doc at k.fourth
+  pub number : number_in noted ≡ attribute_at doc at k.number
+  pub name : name_in noted ≡ attribute_at doc at k.name
+  pub second : second_in noted ≡ attribute_at doc at k.second
+  pub encoding : encoding_in noted ≡ attribute_at doc at k.encoding
 
 -- ---- what one attribute adds
 
--- an attribute's value, if its local name is `name` and its raw name declares no namespace
+-- an attribute's value, if its local name is `key` and its raw name declares no namespace
 abbrev pub value_if_named : List ℕ → ℕ → ℕ → List ℕ → Option Range
-value_if_named raw value len name = pick (is_xmlns raw) None (pick (same (local_name raw) name) (Some (record { from = value; len = len })) None)
+value_if_named raw value len key =
+    pick (is_xmlns raw) None
+    (pick (same (local_name raw) key) (Some (record { from = value; len = len })) None)
 
--- r are the notes `was` with this attribute, under four names
-abbrev pub NotedWith : List ℕ → ℕ → ℕ → List ℕ → List ℕ → List ℕ → List ℕ → Notes → Notes → Type 0
-NotedWith raw value len first second third fourth was r =
-    (found_at r.first r.len1 ≡ later (value_if_named raw value len first) (found_at was.first was.len1))
-    × (found_at r.second r.len2 ≡ later (value_if_named raw value len second) (found_at was.second was.len2))
-    × (found_at r.third r.len3 ≡ later (value_if_named raw value len third) (found_at was.third was.len3))
-    × (found_at r.fourth r.len4 ≡ later (value_if_named raw value len fourth) (found_at was.fourth was.len4))
+-- with that value, if it counts, what was found is r
+abbrev pub Adds : List ℕ → ℕ → ℕ → List ℕ → Option Range → Option Range → Type 0
+Adds raw value len key was r = r ≡ later (value_if_named raw value len key) was
+
+-- r are the notes `was` with one more attribute, of that raw name, under the four names
+pub record NotedMore (raw : List ℕ) (value len : ℕ) (k : Keys) (was r : Notes) : Type 0 where
+  pub number : Adds raw value len k.number (number_in was) (number_in r)
+  pub name : Adds raw value len k.name (name_in was) (name_in r)
+  pub second : Adds raw value len k.second (second_in was) (second_in r)
+  pub encoding : Adds raw value len k.encoding (encoding_in was) (encoding_in r)
+
+-- the notes with a value under each name that an attribute has
+abbrev pub with_value : Named → Range → Notes → Notes
+with_value n value was =
+    record {
+      number = pick n.number (value.from + 1) was.number;
+      number_len = pick n.number value.len was.number_len;
+      name = pick n.name (value.from + 1) was.name;
+      name_len = pick n.name value.len was.name_len;
+      second = pick n.second (value.from + 1) was.second;
+      second_len = pick n.second value.len was.second_len;
+      encoding = pick n.encoding (value.from + 1) was.encoding;
+      encoding_len = pick n.encoding value.len was.encoding_len;
+    }
