@@ -7,7 +7,7 @@ use Rattle.refusals.specs.declared.Refusal.{Refusal}
 use Rattle.refusals.specs.declared.Refusal.TheVariants.{BadNumber, MisplacedField}
 use Rattle.builder.specs.declared.work.Found.{Found}
 use Rattle.tags.specs.Attributes.{attribute_at}
-use Rattle.elements.specs.Keys.{Keys, field_keys, type_keys, enum_keys, schema_keys}
+use Rattle.elements.specs.Keys.{Keys, field_keys, type_keys, enum_keys}
 use Rattle.saxlite.specs.Event.{value_in}
 use Rattle.model.specs.Schema.{Item, item_at, a_type, a_member, a_message, a_group, a_field, a_ref, a_composite, an_enum, a_value, Schema}
 use Rattle.builder.specs.Builder.{Builder, Outcome, on, refused, added, open_type, open_message, open_group, open_field, now_message, now_group, and_then, plain_item, type_item, text_in, open_ref, open_composite, open_enum, open_value, Attributes, number_in, now_composite, now_enum, with_text, next_position, if_current, with_number, with_schema, with_items, field_in, field_under}
@@ -127,14 +127,14 @@ number-err place (Some m) e = absurd (let z : ◌≡◌ {A = ℕ} 0 1 = cc in om
 
 -- the first value that was noted of a tag, as a number
 module _ {k : Keys} {w : Work} {s : State} {tag : Tag} (o : ReadyToOpen k w s tag) {f : Found} (ef : Finds tag f) {n : ℕ} {w₁ : Work} {x : Result ℕ Refusal} (m : NumberRead tag.place n f.number w s w₁ x) where
-  pub is_number : {v : ℕ} → x ≡ Ok v → number_of (value_in w.doc.now (attribute_at w.doc.now tag.attributes k.first)) ≡ Some v
+  pub is_number : {v : ℕ} → x ≡ Ok v → number_of (value_in w.doc.now (attribute_at w.doc.now tag.attributes k.number)) ≡ Some v
   is_number e = ap (λ (y : Option Range). number_of (value_in w.doc.now y)) (sym (number-said o ef)) ∙ number-ok tag.place _ (sym e ∙ m.is)
 
-  pub no-number : {q : Refusal} → x ≡ Err q → number_of (value_in w.doc.now (attribute_at w.doc.now tag.attributes k.first)) ≡ None
+  pub no-number : {q : Refusal} → x ≡ Err q → number_of (value_in w.doc.now (attribute_at w.doc.now tag.attributes k.number)) ≡ None
   no-number e = ap (λ (y : Option Range). number_of (value_in w.doc.now y)) (sym (number-said o ef)) ∙ (number-err tag.place _ (sym e ∙ m.is)).0
 
   -- 32, where it is none
-  pub refused-by : {q : Refusal} → x ≡ Err q → {r : Result State Refusal} → IsErrAnd r (λ y. y ≡ q) → (g : ℕ → Outcome) → After (with_number tag.place (number_of (value_in w.doc.now (attribute_at w.doc.now tag.attributes k.first))) g) w s (room tag) w₁ r
+  pub refused-by : {q : Refusal} → x ≡ Err q → {r : Result State Refusal} → IsErrAnd r (λ y. y ≡ q) → (g : ℕ → Outcome) → After (with_number tag.place (number_of (value_in w.doc.now (attribute_at w.doc.now tag.attributes k.number))) g) w s (room tag) w₁ r
   refused-by e {r} h g =
       let p = err_from_is_err_and r h in
       let z : r ≡ Err (BadNumber tag.place) = p.1 ∙ ap (λ y. Err y) (p.2 ∙ (number-err tag.place _ (sym e ∙ m.is)).1) in

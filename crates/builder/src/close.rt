@@ -21,7 +21,7 @@ use texts::{Range, trim_range};
 impl<'d, 'a> Work<'d, 'a> {
     /// The position of an enum's last value; `None` if it has none.
     fn last_value(&self, s: State, owner: u32) -> Option<u32>
-        requires { Kept self.now s }
+        requires { Sound self.now s }
         ensures { result ≡ last_under a_value owner (builder_in self.now s).schema.items }
     {
         View::new(s.model(), self.records, self.text).last_under(VALUE, owner)
