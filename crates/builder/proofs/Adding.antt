@@ -37,8 +37,12 @@ if-ok (Err e) f p = p
 pub after-refused : {o : Outcome} {w : Work} {s : State} {n : ℕ} {q : Refusal} → refused q ≡ o → After o w s n w (Err q)
 after-refused f = record { is = f; sound = tt; used = tt; same = same_self }
 
+-- another state over the same buffers
+pub after_turned : {o : Outcome} {w : Work} {s t : State} {n : ℕ} → on (builder_in w t) ≡ o → Sound w t → used_by t ≤ used_by s + n → After o w s n w (Ok t)
+after_turned f k u = record { is = f; sound = k; used = u; same = same_self }
+
 pub after_same : {o : Outcome} {w : Work} {s : State} {n : ℕ} → on (builder_in w s) ≡ o → Sound w s → After o w s n w (Ok s)
-after_same f k = record { is = f; sound = k; used = omega arith; same = same_self }
+after_same f k = after_turned f k (omega arith)
 
 -- of another form of the same outcome, of a state that uses as much text, and of more space
 pub after-as : {o p : Outcome} {w : Work} (s : State) {t : State} {n m : ℕ} {w' : Work} {r : Result State Refusal} → o ≡ p → used_by t ≡ used_by s → n ≤ m → After o w t n w' r → After p w s m w' r

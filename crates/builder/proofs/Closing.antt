@@ -23,7 +23,7 @@ use Rattle.model.proofs.Records.{items-set, get_or-items}
 use Rattle.model.proofs.Searching.{owned_so, last_in}
 use Rattle.builder.proofs.Alikes.{alike_self, alike-sets, alike-trans, alike-lower}
 use Rattle.builder.proofs.Stacking.{stack-put, pop-builder}
-use Rattle.builder.proofs.Adding.{same_self, after-as, after-refused, after_same}
+use Rattle.builder.proofs.Adding.{after_turned, after-as, after-refused, after_same}
 use Rattle.builder.proofs.Takes.{decoded-most}
 use Rattle.builder.proofs.Finding.{currently, emptied, sound-emptied}
 
@@ -119,7 +119,7 @@ module _ {w : Work} {s : State} (k : Sound w s) where
   pub value-lost : s.current.enumeration ≡ None → After (on (close_value (builder_in w s))) w s 0 w (Ok (emptied s (idle s)))
   value-lost e =
       let o : s.usage.collected_to - s.usage.collected_to ≡ 0 = omega arith in
-      record { is = ap on (rw o (value_none (builder_in w s) e)); sound = sound-emptied k; used = omega arith; same = same_self }
+      after_turned (ap on (rw o (value_none (builder_in w s) e))) (sound-emptied k) (omega arith)
 
   pub value-closed : {owner : ℕ} → s.current.enumeration ≡ Some owner → {v : Range} → TrimmedTo w.text.now s.usage.collected_from (s.usage.collected_to - s.usage.collected_from) v → {w' : Work}
       → w' ≡ over w (valued_at (last_under a_value owner (builder_in w s).schema.items) v w.records.now) → After (on (close_value (builder_in w s))) w s 0 w' (Ok (emptied s (idle s)))
@@ -141,13 +141,7 @@ module _ {w : Work} {s : State} (k : Sound w s) where
   closed-same = after_same refl k
 
   pub closed-current : (c : Current) → After (on (builder_in w (currently s c))) w s 0 w (Ok (currently s c))
-  closed-current c =
-      record {
-        is = refl;
-        sound = record { within = k.within; lent = k.lent; stable = k.stable };
-        used = omega arith;
-        same = same_self;
-      }
+  closed-current c = after_turned refl (record { within = k.within; lent = k.lent; stable = k.stable }) (omega arith)
 
 -- ---- a whole close
 

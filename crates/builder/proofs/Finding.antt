@@ -8,7 +8,7 @@ use Rattle.tags.specs.Attributes.{attribute_at, raw_length}
 use Rattle.elements.specs.Keys.{Keys, schema_keys, field_keys, type_keys, enum_keys}
 use Rattle.builder.specs.Builder.{plain_item, type_item, text_in}
 use Rattle.builder.specs.internal.Layout.{room, Sound, Ready}
-use Rattle.builder.specs.internal.Taking.{attributes_of, NumberRead, ReadyToOpen, Finds, Reads, Adds, drafted, drafted_item, draft_length}
+use Rattle.builder.specs.internal.Taking.{attributes_of, NumberRead, ReadyToOpen, Finds, Reads, Adds, drafted, drafted_item}
 use Rattle.builder.specs.declared.state.Current.{Current}
 use Rattle.builder.specs.declared.state.State.{State}
 use Rattle.builder.specs.declared.take.Draft.{Draft}
@@ -82,6 +82,7 @@ module _ {k : Keys} {w : Work} {s : State} {tag : Tag} (o : ReadyToOpen k w s ta
   pub second-room : raw_length f.second ≤ room tag
   second-room = rw second-said (tag_one w.doc.now tag.attributes tag.next o.tagged k.second)
 
+-- by element: `search` finds these by the names
 module _ {w : Work} {s : State} {tag : Tag} {f : Found} where
   pub type-reads : ReadyToOpen type_keys w s tag → Finds tag f → Reads w s tag f.number
   type-reads o e = number-room o e
@@ -92,54 +93,42 @@ module _ {w : Work} {s : State} {tag : Tag} {f : Found} where
   pub id-reads : ReadyToOpen schema_keys w s tag → Finds tag f → Reads w s tag f.number
   id-reads o e = number-room o e
 
-  pub version-reads : ReadyToOpen schema_keys w s tag → Finds tag f → {place : ℕ} {found : Option Range} {w₁ : Work} {x : Result ℕ Refusal} → NumberRead place (room tag) found w s w₁ x → Reads w₁ s tag f.second
+  pub version-reads : ReadyToOpen schema_keys w s tag → Finds tag f → {w₁ : Work} → Ready w₁ s (room tag) → Reads w₁ s tag f.second
   unfolding Reads
-  version-reads o e m = (m.ready, second-room o e)
+  version-reads o e r = (r, second-room o e)
+
+-- what is ready once a number was read
+pub number-ready : {place n : ℕ} {found : Option Range} {w w₁ : Work} {s : State} {x : Result ℕ Refusal} → NumberRead place n found w s w₁ x → Ready w₁ s n
+number-ready m = m.ready
+
+pub open-ready : {k : Keys} {w : Work} {s : State} {tag : Tag} → ReadyToOpen k w s tag → Ready w s (room tag)
+open-ready o = o.ready
 
 -- a type or a member, of what was found
 abbrev pub typed : Found → ℕ → ℕ → ℕ → Draft
 typed f kind owner n = record { kind = kind; owner = owner; number = n; given = f.number; name = f.name; second = f.second; encoding = f.encoding }
 
 module _ {w : Work} {s : State} {tag : Tag} {f : Found} (o : ReadyToOpen type_keys w s tag) (e : Finds tag f) where
-  pub type-adds : {place : ℕ} {found : Option Range} {w₁ : Work} {x : Result ℕ Refusal} → NumberRead place (room tag) found w s w₁ x → (kind owner v : ℕ) → Adds w₁ s tag (typed f kind owner v)
+  pub type-adds : {w₁ : Work} → Ready w₁ s (room tag) → (kind owner v : ℕ) → Adds w₁ s tag (typed f kind owner v)
   unfolding same Adds
-  type-adds m kind owner v = (m.ready, rw (name-said o e, second-said o e, encoding-said o e) (omega (arith, tag-room w.doc.now tag.attributes tag.next o.tagged (ascii "name" ∷ ascii "primitiveType" ∷ ascii "characterEncoding" ∷ []) tt)))
+  type-adds r kind owner v = (r, rw (name-said o e, second-said o e, encoding-said o e) (omega (arith, tag-room w.doc.now tag.attributes tag.next o.tagged (ascii "name" ∷ ascii "primitiveType" ∷ ascii "characterEncoding" ∷ []) tt)))
 
   pub type-drafted : (kind owner n : ℕ) → drafted_item (typed f kind owner n) w.doc.now ≡ type_item kind owner (attributes_of w tag) n
   type-drafted kind owner n = simp (number-said o e, name-said o e, second-said o e, encoding-said o e)
 
 module _ {w : Work} {s : State} {tag : Tag} {f : Found} (o : ReadyToOpen field_keys w s tag) (e : Finds tag f) (kind owner id : ℕ) where
-  pub named-room : draft_length (drafted kind owner id f.name None) ≤ room tag
-  named-room = omega (arith, name-room o e)
-
-  pub named-adds : (c : Current) → Adds w (currently s c) tag (drafted kind owner id f.name None)
+  pub named-adds : {w₁ : Work} {t : State} → Ready w₁ t (room tag) → Adds w₁ t tag (drafted kind owner id f.name None)
   unfolding Adds
-  named-adds c = (ready-current o.ready, named-room)
+  named-adds r = (r, omega (arith, name-room o e))
 
-  pub value-adds : (c : Current) → Adds w (emptied s c) tag (drafted kind owner id f.name None)
-  unfolding Adds
-  value-adds c = (ready-emptied o.ready, named-room)
-
-  pub named-then : {place : ℕ} {found : Option Range} {w₁ : Work} {x : Result ℕ Refusal} → NumberRead place (room tag) found w s w₁ x → (c : Current) → Adds w₁ (currently s c) tag (drafted kind owner id f.name None)
-  unfolding Adds
-  named-then m c = (ready-current m.ready, named-room)
-
-  pub field-room : draft_length (drafted kind owner id f.name f.second) ≤ room tag
-  unfolding same
-  field-room = rw (name-said o e, second-said o e) (omega (arith, tag-room w.doc.now tag.attributes tag.next o.tagged (ascii "name" ∷ ascii "type" ∷ []) tt))
-
-  pub ref-adds : Adds w s tag (drafted kind owner id f.name f.second)
-  unfolding Adds
-  ref-adds = (o.ready, field-room)
-
-  pub field-adds : {place : ℕ} {found : Option Range} {w₁ : Work} {x : Result ℕ Refusal} → NumberRead place (room tag) found w s w₁ x → Adds w₁ s tag (drafted kind owner id f.name f.second)
-  unfolding Adds
-  field-adds m = (m.ready, field-room)
+  pub field-adds : {w₁ : Work} {t : State} → Ready w₁ t (room tag) → Adds w₁ t tag (drafted kind owner id f.name f.second)
+  unfolding same Adds
+  field-adds r = (r, rw (name-said o e, second-said o e) (omega (arith, tag-room w.doc.now tag.attributes tag.next o.tagged (ascii "name" ∷ ascii "type" ∷ []) tt)))
 
 module _ {w : Work} {s : State} {tag : Tag} {f : Found} (o : ReadyToOpen enum_keys w s tag) (e : Finds tag f) (kind owner id : ℕ) where
-  pub enum-adds : (c : Current) → Adds w (currently s c) tag (drafted kind owner id f.name f.second)
+  pub enum-adds : {w₁ : Work} {t : State} → Ready w₁ t (room tag) → Adds w₁ t tag (drafted kind owner id f.name f.second)
   unfolding same Adds
-  enum-adds c = (ready-current o.ready, rw (name-said o e, second-said o e) (omega (arith, tag-room w.doc.now tag.attributes tag.next o.tagged (ascii "name" ∷ ascii "encodingType" ∷ []) tt)))
+  enum-adds r = (r, rw (name-said o e, second-said o e) (omega (arith, tag-room w.doc.now tag.attributes tag.next o.tagged (ascii "name" ∷ ascii "encodingType" ∷ []) tt)))
 
 module _ {w : Work} {s : State} {tag : Tag} {f : Found} {d : Draft} {kind owner id : ℕ} where
   pub named-drafted : ReadyToOpen field_keys w s tag → Finds tag f → d ≡ drafted kind owner id f.name None → drafted_item d w.doc.now ≡ plain_item kind owner (text_in (attributes_of w tag) "name") [] id

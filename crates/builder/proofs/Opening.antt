@@ -19,7 +19,7 @@ use Rattle.builder.specs.declared.state.State.{State}
 use Rattle.builder.specs.declared.take.Draft.{Draft}
 use Rattle.builder.specs.declared.work.Tag.{Tag}
 use Rattle.builder.specs.declared.work.Work.{Work}
-use Rattle.builder.proofs.Adding.{after_same, after-as, after-then, same_self, counted-items}
+use Rattle.builder.proofs.Adding.{after_turned, after_same, after-as, after-then, counted-items}
 use Rattle.builder.proofs.Finding.{currently, message-now, group-now, number-said, typed, type-drafted, named-drafted, field-drafted, composite-now, enum-now, value-now, emptied, sound-emptied, enum-drafted}
 use Rattle.texts.specs.Choice.{pick}
 
@@ -82,7 +82,7 @@ module _ {w : Work} {s : State} {tag : Tag} where
     pub value-lost : s.current.enumeration ≡ None → Gives (open_value w.limits tag.place (attributes_of w tag) (builder_in w s)) w s tag w (Ok (emptied s s.current))
     value-lost e =
         let z : s.usage.collected_to - s.usage.collected_to ≡ 0 = omega arith in
-        record { is = rw z (value-by w.limits tag.place (attributes_of w tag) (builder_in w s) None e); sound = sound-emptied o.ready.sound; used = omega arith; same = same_self }
+        after_turned (rw z (value-by w.limits tag.place (attributes_of w tag) (builder_in w s) None e)) (sound-emptied o.ready.sound) (omega arith)
 
     module _ {f : Found} (ef : Finds tag f) {d : Draft} {w' : Work} {r : Result State Refusal} where
       pub ref-on : {c : ℕ} → s.current.composite ≡ Some c → d ≡ drafted a_ref c 0 f.name f.second → Added w tag s d w' r → Gives (open_ref w.limits tag.place (attributes_of w tag) (builder_in w s)) w s tag w' r

@@ -4,10 +4,7 @@
 -- and a validValue is open above the nearest open enum, the items hold a value of the current enum.
 -- It holds of the empty builder (`track-empty`), every event keeps it (`track`), and so it holds
 -- wherever events lead (`reached-tracked`).
-use Rattle.std.proofs.Common.{◌≡◌, refl, sym, ap, ◌∙◌, Bool, true, false, List, [], ◌∷◌, ◌++◌, Option, Some, None, ℕ, zero, suc, ◌+◌, ◌<◌, arith, leb, eqb, length, get_or, set, length-set, length-append, get_or-set_same, get_or-set_other, eq-eqb, eqb-true}
-use lib.ListN.{get_or-append}
-use lib.Seq.{get_or_at}
-use borrow.Author.Tests.{eqb-false}
+use Rattle.std.proofs.Common.{append-nil, ◌≡◌, refl, sym, ap, ◌∙◌, Bool, true, false, List, [], ◌∷◌, ◌++◌, Option, Some, None, ℕ, zero, suc, ◌+◌, arith, leb, eqb, length, get_or, set, eq-eqb}
 use Rattle.texts.specs.Choice.{pick, ◌and◌}
 use Rattle.texts.specs.Text.{ascii, same}
 use Rattle.texts.proofs.Choosing.{by-test}
@@ -15,6 +12,7 @@ use Rattle.texts.proofs.Comparing.{same-equal}
 use Rattle.saxlite.specs.Event.{Event, Events, text, opens, closes, next}
 use Rattle.model.specs.Schema.{Item, Schema, no_item, item_at, positions_from, under, last, a_value}
 use Rattle.builder.specs.Builder.{if_current, Builder, Outcome, on, refused, Attributes, text_in, number_in, with_stack, with_text, with_schema, with_items, with_second, now_composite, now_enum, now_message, now_group, next_position, added, and_then, with_number, plain_item, open_schema, open_type, open_ref, open_composite, open_enum, open_value, open_message, open_group, field_in, open_field, open_by, opened, top, rest, with_second_at, value_of_enum, close_value, close_by, closed, collect}
+use Rattle.model.proofs.Searching.{last_snoc, positions-snoc}
 use Rattle.xmlschema.specs.Whole.{step, empty}
 use Rattle.xmlschema.specs.Tracking.{Reached, start, further, HasValue, ValuesFound}
 use Rattle.builder.specs.Limits.{Limits}
@@ -30,78 +28,28 @@ never e = let z : ◌≡◌ {A = ℕ} 0 1 = cc in omega arith
 abbrev pub value_of : ℕ → Item → Bool
 value_of e it = eqb it.kind a_value and eqb it.owner e
 
--- a value of e is among the items
-record Has (e : ℕ) (xs : List Item) : Type 0 where
-  pub at : ℕ
-  pub within : at < length xs
-  pub is : value_of e (get_or xs at no_item) ≡ true
-
-record HasLast (ks : List ℕ) : Type 0 where
-  at : ℕ
-  is : last ks ≡ Some at
-
-last_cons : (i : ℕ) (is : List ℕ) → HasLast (i ∷ is)
-unfolding last
-last_cons i [] = record { at = i; is = refl }
-last_cons i (j ∷ is) = let h = last_cons j is in record { at = h.at; is = h.is }
-
-positions-yes : (k : ℕ) (p : Item → Bool) (x : Item) (xs : List Item) → p x ≡ true → positions_from k p (x ∷ xs) ≡ k ∷ positions_from (k + 1) p xs
-unfolding positions_from
-positions-yes k p x xs t = rw t
-
-positions-no : (k : ℕ) (p : Item → Bool) (x : Item) (xs : List Item) → p x ≡ false → positions_from k p (x ∷ xs) ≡ positions_from (k + 1) p xs
-unfolding positions_from
-positions-no k p x xs t = rw t
-
-some_at : (k i : ℕ) (p : Item → Bool) (xs : List Item) → i < length xs → p (get_or xs i no_item) ≡ true → HasLast (positions_from k p xs)
-some_at k i p [] h t = absurd (omega arith)
-some_at k zero p (x ∷ xs) h t = rw (positions-yes k p x xs t) (last_cons k (positions_from (k + 1) p xs))
-some_at k (suc i) p (x ∷ xs) h t =
-    by-test (p x)
-    (λ y. rw (positions-yes k p x xs y) (last_cons k (positions_from (k + 1) p xs)))
-    (λ f. rw (positions-no k p x xs f) (some_at (k + 1) i p xs (omega arith) t))
-
--- the search finds it
-has-found : (e : ℕ) (s : Schema) → Has e s.items → HasValue e s
+-- one more item leaves the value that is found, or is the one that is found
+value-new : (e : ℕ) (s : Schema) (x : Item) → value_of e x ≡ true → HasValue e (with_items (s.items ++ (x ∷ [])) s)
 unfolding under
-has-found e s h = let f = some_at 0 h.at (value_of e) s.items h.within h.is in record { at = f.at; is = f.is }
+value-new e s x t = record { at = 0 + length s.items; is = rw (positions-snoc (value_of e) 0 s.items x, t) (last_snoc (positions_from 0 (value_of e) s.items) (0 + length s.items)) }
 
--- more items leave it
-has_more : (e : ℕ) (xs ys : List Item) → Has e xs → Has e (xs ++ ys)
-has_more e xs ys h =
-    record {
-      at = h.at;
-      within = rw length-append (omega (arith, h.within));
-      is = ap (value_of e) (get_or-append xs ys no_item h.at h.within) ∙ h.is;
-    }
-
--- a value just added is there
-has_new : (e : ℕ) (xs : List Item) (x : Item) → value_of e x ≡ true → Has e (xs ++ (x ∷ []))
-has_new e xs x t =
-    record {
-      at = length xs;
-      within = rw length-append (omega arith);
-      is = ap (value_of e) (get_or_at xs x [] no_item (length xs) refl) ∙ t;
-    }
+value-more : (e : ℕ) (s : Schema) (x : Item) → HasValue e s → HasValue e (with_items (s.items ++ (x ∷ [])) s)
+unfolding under
+value-more e s x h =
+    by-test (value_of e x) (value-new e s x)
+    (λ f. record { at = h.at; is = rw (positions-snoc (value_of e) 0 s.items x, f, append-nil) h.is })
 
 -- a text given to an item changes neither kind nor owner
-has-set : (e i : ℕ) (v : List ℕ) (xs : List Item) → Has e xs → Has e (set xs i (with_second v (get_or xs i no_item)))
-has-set e i v xs h =
-    record {
-      at = h.at;
-      within = rw length-set h.within;
-      is =
-          by-test (eqb h.at i)
-          (λ t. let q : h.at ≡ i = eqb-true h.at i t in
-          ap (λ k. value_of e (get_or (set xs i (with_second v (get_or xs i no_item))) k no_item)) q
-          ∙ ap (value_of e) (get_or-set_same xs i (with_second v (get_or xs i no_item)) no_item (omega (arith, h.within)))
-          ∙ ap (λ k. value_of e (get_or xs k no_item)) (sym q) ∙ h.is)
-          (λ u. ap (value_of e) (get_or-set_other xs i h.at (with_second v (get_or xs i no_item)) no_item (eqb-false h.at i u)) ∙ h.is);
-    }
+positions-set : (e k i : ℕ) (v : List ℕ) (xs : List Item) → positions_from k (value_of e) (set xs i (with_second v (get_or xs i no_item))) ≡ positions_from k (value_of e) xs
+unfolding positions_from
+positions-set e k i v [] = refl
+positions-set e k zero v (x ∷ xs) = refl
+positions-set e k (suc i) v (x ∷ xs) = ap (λ ps. pick (value_of e x) (k ∷ ps) ps) (positions-set e (k + 1) i v xs)
 
-has-second : (e : ℕ) (o : Option ℕ) (v : List ℕ) (s : Schema) → Has e s.items → Has e (with_second_at o v s).items
+has-second : (e : ℕ) (o : Option ℕ) (v : List ℕ) (s : Schema) → HasValue e s → HasValue e (with_second_at o v s)
+unfolding under
 has-second e None v s h = h
-has-second e (Some i) v s h = has-set e i v s.items h
+has-second e (Some i) v s h = record { at = h.at; is = rw (positions-set e 0 i v s.items) h.is }
 
 -- ---- what holds of every builder that is reached
 
@@ -123,7 +71,7 @@ owed [] = false
 owed (n ∷ ns) = tell (element_of n) (owed ns)
 
 record Tracked (b : Builder) : Type 0 where
-  pub has : (e : ℕ) → b.current.enum ≡ Some e → owed b.stack ≡ true → Has e b.schema.items
+  pub has : (e : ℕ) → b.current.enum ≡ Some e → owed b.stack ≡ true → HasValue e b.schema
 
 -- what holds of an outcome's builder, if there is one
 abbrev pub Holds : (Builder → Type 0) → Outcome → Type 0
@@ -156,7 +104,7 @@ module _ (P : Builder → Type 0) where
 module _ (l : Limits) (place : ℕ) (a : Attributes) (b : Builder) where
   -- one more item keeps it
   track-added : (it : Item) → Tracked b → Holds Tracked (added l place it b)
-  track-added it T = holds-added Tracked l place it b (record { has = λ e q o. has_more e b.schema.items (it ∷ []) (T.has e q o) })
+  track-added it T = holds-added Tracked l place it b (record { has = λ e q o. value-more e b.schema it (T.has e q o) })
 
   -- and so does what follows, where it changes neither enum, stack nor schema
   track-then : (f : Builder → Builder) → ((c : Builder) → Tracked c → Tracked (f c)) → (it : Item) → Tracked b → Holds Tracked (and_then f (added l place it b))
@@ -181,14 +129,14 @@ module _ (l : Limits) (place : ℕ) (a : Attributes) (b : Builder) where
       let it : Item = plain_item a_value e (text_in a "name") [] 0 in
       holds_then Tracked Tracked (with_text true []) (added l place it b)
       (λ c t. record { has = t.has })
-      (holds-added Tracked l place it b (record { has = λ d r o. has_new d b.schema.items it (let z : e ≡ d = cc in eq-eqb e d z) }))
+      (holds-added Tracked l place it b (record { has = λ d r o. value-new d b.schema it (let z : e ≡ d = cc in eq-eqb e d z) }))
 
 module _ (l : Limits) (place : ℕ) (name : List ℕ) (a : Attributes) (b : Builder) (T : Tracked b) where
   abbrev inner : Builder
   inner = with_stack (name ∷ b.stack) b
 
   track-open : Holds Tracked (opened l place name a b)
-  unfolding opened owed tell open_schema open_type open_ref open_composite open_value open_message open_group open_field
+  unfolding under opened owed tell open_schema open_type open_ref open_composite open_value open_message open_group open_field
   track-open = holds-pick Tracked (leb l.depth (length b.stack)) _ _ tt (go (element_of name) refl (same (top b.stack) (ascii "composite")))
     where
       -- an element that is neither an enum nor a validValue
@@ -198,7 +146,7 @@ module _ (l : Limits) (place : ℕ) (name : List ℕ) (a : Attributes) (b : Buil
       go : (x : Element) → element_of name ≡ x → (inside : Bool) → Holds Tracked (open_by x l place inside a inner)
       go element.MessageSchema q inside =
           let t : Tracked inner = plain (λ o. rw q) in
-          holds-number Tracked place (number_in a "id") _ (λ id. holds-number Tracked place (number_in a "version") _ (λ version. record { has = t.has }))
+          holds-number Tracked place (number_in a "id") _ (λ id. holds-number Tracked place (number_in a "version") _ (λ version. record { has = λ e r o. let h = t.has e r o in record { at = h.at; is = h.is } }))
       go element.Type q inside =
           let t : Tracked inner = plain (λ o. rw q) in
           holds-number Tracked place (number_in a "length") _ (λ n. holds-pick Tracked inside _ _ (holds-current Tracked b.current.composite inner _ t (λ c. track-added l place a inner _ t)) (track-added l place a inner _ t))
@@ -223,7 +171,7 @@ unfolding element_of other_element_of same
 nameless = refl
 
 -- the value is given: the items keep their kinds and owners
-track-valued : (b : Builder) (o : Option ℕ) → ((e : ℕ) → b.current.enum ≡ Some e → Has e b.schema.items) → Tracked (with_text false [] (value_of_enum o b))
+track-valued : (b : Builder) (o : Option ℕ) → ((e : ℕ) → b.current.enum ≡ Some e → HasValue e b.schema) → Tracked (with_text false [] (value_of_enum o b))
 track-valued b None h = record { has = λ e q o. h e q }
 track-valued b (Some d) h = record { has = λ e q o. has-second e (last (under a_value d b.schema)) _ b.schema (h e q) }
 
@@ -273,7 +221,7 @@ track-empty = record { has = λ e q o. absurd (never o) }
 -- so a closing validValue finds its value
 value_found : (b : Builder) (n : List ℕ) (ns : List (List ℕ)) (e : ℕ) → Tracked b → b.stack ≡ n ∷ ns → element_of n ≡ element.ValidValue → b.current.enum ≡ Some e → HasValue e b.schema
 unfolding owed tell
-value_found b n ns e T q v c = has-found e b.schema (T.has e c (ap owed q ∙ ap (λ x. tell x (owed ns)) v))
+value_found b n ns e T q v c = T.has e c (ap owed q ∙ ap (λ x. tell x (owed ns)) v)
 
 -- ---- over all documents
 
