@@ -1,5 +1,5 @@
 -- Laws of the elements' names: a, b, .. are what the comparisons say, in their order.
-use Rattle.std.proofs.Common.{◌≡◌, refl, sym, ap, ◌∙◌, Bool, true, false, not, List, [], ◌∷◌, ◌++◌, ℕ, ◌+◌, ◌≤◌, arith, T, ltb, leb→le, ltb→lt, length, drop, length-take, length-drop, take-append-drop, eq-eqb}
+use Rattle.std.proofs.Common.{◌≡◌, refl, sym, ap, ◌∙◌, Bool, true, false, not, List, [], ◌∷◌, ◌++◌, ℕ, ◌+◌, ◌≤◌, arith, T, ltb, lit<, ltb→lt, length, drop, length-take, length-drop, take-append-drop, eq-eqb}
 use Rattle.texts.specs.Text.{ascii, piece, same, starts_with}
 use Rattle.texts.proofs.Choosing.{by-test}
 use Rattle.texts.proofs.Comparing.{same-lengths, same-equal, starts-yes, front-is}
@@ -73,31 +73,31 @@ module _ (doc : List ℕ) (at : ℕ) {len : ℕ} {b : Bool} where
 
   pub at_field : StandsShort doc at 1099511627776 431315315046 b → b ≡ true → len ≡ 5 → Field ≡ element_of (piece doc at len)
   unfolding word_of element_of other_element_of same
-  at_field s e l = sym (by-short (ascii "field") (record { few = leb→le 5 8 tt; power = refl; number = refl; bytes = tt }) s e l)
+  at_field s e l = sym (by-short (ascii "field") (record { few = lit< tt; power = refl; number = refl; bytes = tt }) s e l)
 
   pub at-group : StandsShort doc at 1099511627776 483006575207 b → b ≡ true → len ≡ 5 → Group ≡ element_of (piece doc at len)
   unfolding word_of element_of other_element_of same
-  at-group s e l = sym (by-short (ascii "group") (record { few = leb→le 5 8 tt; power = refl; number = refl; bytes = tt }) s e l)
+  at-group s e l = sym (by-short (ascii "group") (record { few = lit< tt; power = refl; number = refl; bytes = tt }) s e l)
 
   pub at-type : StandsShort doc at 4294967296 1701869940 b → b ≡ true → len ≡ 4 → «Type» ≡ element_of (piece doc at len)
   unfolding word_of element_of other_element_of same
-  at-type s e l = sym (by-short (ascii "type") (record { few = leb→le 4 8 tt; power = refl; number = refl; bytes = tt }) s e l)
+  at-type s e l = sym (by-short (ascii "type") (record { few = lit< tt; power = refl; number = refl; bytes = tt }) s e l)
 
   pub at_enum : StandsShort doc at 4294967296 1836412517 b → b ≡ true → len ≡ 4 → Enum ≡ element_of (piece doc at len)
   unfolding word_of element_of other_element_of same
-  at_enum s e l = sym (by-short (ascii "enum") (record { few = leb→le 4 8 tt; power = refl; number = refl; bytes = tt }) s e l)
+  at_enum s e l = sym (by-short (ascii "enum") (record { few = lit< tt; power = refl; number = refl; bytes = tt }) s e l)
 
   pub at-message : StandsShort doc at 72057594037927936 28542640894207341 b → b ≡ true → len ≡ 7 → Message ≡ element_of (piece doc at len)
   unfolding word_of element_of other_element_of same
-  at-message s e l = sym (by-short (ascii "message") (record { few = leb→le 7 8 tt; power = refl; number = refl; bytes = tt }) s e l)
+  at-message s e l = sym (by-short (ascii "message") (record { few = lit< tt; power = refl; number = refl; bytes = tt }) s e l)
 
   pub at_value : StandsLong doc at 7809618218102579574 65536 25973 b → b ≡ true → len ≡ 10 → ValidValue ≡ element_of (piece doc at len)
   unfolding word_of element_of other_element_of same
-  at_value s e l = sym (by-long (ascii "validValue") (record { eight = refl; number = refl; bytes = tt; rest = record { few = leb→le 2 8 tt; power = refl; number = refl; bytes = tt } }) s e l)
+  at_value s e l = sym (by-long (ascii "validValue") (record { eight = refl; number = refl; bytes = tt; rest = record { few = lit< tt; power = refl; number = refl; bytes = tt } }) s e l)
 
   pub at-composite : StandsLong doc at 8388362703419043683 256 101 b → b ≡ true → len ≡ 9 → Composite ≡ element_of (piece doc at len)
   unfolding word_of element_of other_element_of same
-  at-composite s e l = sym (by-long (ascii "composite") (record { eight = refl; number = refl; bytes = tt; rest = record { few = leb→le 1 8 tt; power = refl; number = refl; bytes = tt } }) s e l)
+  at-composite s e l = sym (by-long (ascii "composite") (record { eight = refl; number = refl; bytes = tt; rest = record { few = lit< tt; power = refl; number = refl; bytes = tt } }) s e l)
 
 -- any name
 pub at-any : (doc : List ℕ) (at len : ℕ) {w : List ℕ} → w ≡ piece doc at len → {r : Element} → r ≡ element_of w → r ≡ element_of (piece doc at len)
@@ -134,8 +134,8 @@ unlike doc at len name {b = b} t s e =
 module _ (doc : List ℕ) (at : ℕ) {len : ℕ} (h : at + 16 ≤ length doc) {a b : Bool} where
   pub other-four : StandsShort doc at 4294967296 1701869940 a → a ≡ false → StandsShort doc at 4294967296 1836412517 b → b ≡ false → len ≡ 4 → Other ≡ element_of (piece doc at len)
   unfolding element_of other_element_of word_of
-  other-four s e t f l = rw (differs doc at {len = len} h (ascii "messageSchema") tt (λ x. omega arith), unlike doc at len (ascii "type") (record { few = leb→le 4 8 tt; power = refl; number = refl; bytes = tt }) s (ap not e), differs doc at {len = len} h (ascii "ref") tt (λ x. omega arith), differs doc at {len = len} h (ascii "composite") tt (λ x. omega arith), unlike doc at len (ascii "enum") (record { few = leb→le 4 8 tt; power = refl; number = refl; bytes = tt }) t (ap not f), differs doc at {len = len} h (ascii "validValue") tt (λ x. omega arith), differs doc at {len = len} h (ascii "message") tt (λ x. omega arith), differs doc at {len = len} h (ascii "group") tt (λ x. omega arith), differs doc at {len = len} h (ascii "field") tt (λ x. omega arith))
+  other-four s e t f l = rw (differs doc at {len = len} h (ascii "messageSchema") tt (λ x. omega arith), unlike doc at len (ascii "type") (record { few = lit< tt; power = refl; number = refl; bytes = tt }) s (ap not e), differs doc at {len = len} h (ascii "ref") tt (λ x. omega arith), differs doc at {len = len} h (ascii "composite") tt (λ x. omega arith), unlike doc at len (ascii "enum") (record { few = lit< tt; power = refl; number = refl; bytes = tt }) t (ap not f), differs doc at {len = len} h (ascii "validValue") tt (λ x. omega arith), differs doc at {len = len} h (ascii "message") tt (λ x. omega arith), differs doc at {len = len} h (ascii "group") tt (λ x. omega arith), differs doc at {len = len} h (ascii "field") tt (λ x. omega arith))
 
   pub other-five : StandsShort doc at 1099511627776 431315315046 a → a ≡ false → StandsShort doc at 1099511627776 483006575207 b → b ≡ false → len ≡ 5 → Other ≡ element_of (piece doc at len)
   unfolding element_of other_element_of word_of
-  other-five s e t f l = rw (differs doc at {len = len} h (ascii "messageSchema") tt (λ x. omega arith), differs doc at {len = len} h (ascii "type") tt (λ x. omega arith), differs doc at {len = len} h (ascii "ref") tt (λ x. omega arith), differs doc at {len = len} h (ascii "composite") tt (λ x. omega arith), differs doc at {len = len} h (ascii "enum") tt (λ x. omega arith), differs doc at {len = len} h (ascii "validValue") tt (λ x. omega arith), differs doc at {len = len} h (ascii "message") tt (λ x. omega arith), unlike doc at len (ascii "group") (record { few = leb→le 5 8 tt; power = refl; number = refl; bytes = tt }) t (ap not f), unlike doc at len (ascii "field") (record { few = leb→le 5 8 tt; power = refl; number = refl; bytes = tt }) s (ap not e))
+  other-five s e t f l = rw (differs doc at {len = len} h (ascii "messageSchema") tt (λ x. omega arith), differs doc at {len = len} h (ascii "type") tt (λ x. omega arith), differs doc at {len = len} h (ascii "ref") tt (λ x. omega arith), differs doc at {len = len} h (ascii "composite") tt (λ x. omega arith), differs doc at {len = len} h (ascii "enum") tt (λ x. omega arith), differs doc at {len = len} h (ascii "validValue") tt (λ x. omega arith), differs doc at {len = len} h (ascii "message") tt (λ x. omega arith), unlike doc at len (ascii "group") (record { few = lit< tt; power = refl; number = refl; bytes = tt }) t (ap not f), unlike doc at len (ascii "field") (record { few = lit< tt; power = refl; number = refl; bytes = tt }) s (ap not e))
