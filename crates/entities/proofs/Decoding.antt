@@ -115,15 +115,8 @@ module _ {s d₀ d : List ℕ} {from to i o : ℕ} (inv : Decoding s from d₀ t
       let e : drop i s ≡ [] = drop_of_length-le s h in
       record { left = rw e at inv.out; ends = omega (arith, rw e at inv.past) }
 
-pub decoding-not : (s d : List ℕ) (at : ℕ) → length d < at → DecodedInto s d at None d
-decoding-not s d at h = let t = lt-leb (at + length s) (length d) (omega arith) in record { says = rw t; left = rw t }
-
-pub decoding-short : (s d : List ℕ) (at : ℕ) → length d - at < length s → DecodedInto s d at None d
-decoding-short s d at h = let t = lt-leb (at + length s) (length d) (omega arith) in record { says = rw t; left = rw t }
-
--- the text as another list that equals it
-pub decoding-same : {w raw d e : List ℕ} {at : ℕ} {r : Option ℕ} → w ≡ raw → DecodedInto w d at r e → DecodedInto raw d at r e
-decoding-same p q = rw (← p) q
+pub decoding-none : (s d : List ℕ) (at : ℕ) → length d < at + length s → DecodedInto s d at None d
+decoding-none s d at h = let t = lt-leb (at + length s) (length d) h in record { says = rw t; left = rw t }
 
 -- ---- the answer: whether the raw text fits
 

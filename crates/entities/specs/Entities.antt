@@ -32,9 +32,13 @@ decoded_past (suc k) (x ∷ xs) = decoded_past k xs
 abbrev pub decoded : List ℕ → List ℕ
 decoded s = decoded_past 0 s
 
+-- n bytes are written into dst from `at` on, the text raw decoded, which makes it `after`
+abbrev pub Decodes : List ℕ → List ℕ → ℕ → ℕ → List ℕ → Type 0
+Decodes raw dst at n after = (n ≡ length (decoded raw)) × (after ≡ sets dst at (decoded raw))
+
 -- what decoding promises of the text raw, the slice dst and the place `at`: where the raw bytes
--- fit, the answer is the decoded length, and the decoded bytes lie in dst from `at` on; else None,
+-- fit, the answer r is the decoded length, and the decoded bytes lie in dst from `at` on; else None,
 -- and dst is as it was
-pub record DecodedInto (raw dst : List ℕ) (at : ℕ) (answer : Option ℕ) (after : List ℕ) : Type 0 where
-  pub says : answer ≡ pick (leb (at + length raw) (length dst)) (Some (length (decoded raw))) None
+pub record DecodedInto (raw dst : List ℕ) (at : ℕ) (r : Option ℕ) (after : List ℕ) : Type 0 where
+  pub says : r ≡ pick (leb (at + length raw) (length dst)) (Some (length (decoded raw))) None
   pub left : after ≡ pick (leb (at + length raw) (length dst)) (sets dst at (decoded raw)) dst

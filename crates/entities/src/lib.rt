@@ -10,9 +10,8 @@
 #![tactic(auto, using(crate::proofs::Laws::laws, crate::proofs::Copying::plain))]
 
 ghost use Rattle.std.specs.Prelude.{◌≡◌, ◌+◌, ◌-◌, ◌≤◌, ◌<◌, length, drop};
-ghost use Rattle.std.proofs.lemmas.List.Edits.{sets};
 ghost use Rattle.texts.specs.Text.{piece};
-ghost use Rattle.entities.specs.Entities.{front, decoded, DecodedInto};
+ghost use Rattle.entities.specs.Entities.{front, Decodes, DecodedInto};
 ghost use Rattle.entities.specs.internal.Copying.{PlainTo, RestInto};
 
 use swar::{both_lack, copy_few, lacks};
@@ -161,7 +160,7 @@ fn decode_all(raw: &[u8], dst: &mut [u8], at: usize) -> usize
 /// many bytes it wrote. The caller has room for the raw bytes.
 pub fn decode_room(doc: &[u8], from: usize, len: usize, dst: &mut [u8], at: usize) -> usize
     requires { at + len ≤ length dst.old }
-    ensures { (result ≡ length (decoded (piece doc.now from len))) × (dst.new ≡ sets dst.old at (decoded (piece doc.now from len))) }
+    ensures { Decodes (piece doc.now from len) dst.old at result dst.new }
 {
     decode_all(texts::part(doc, from, len), dst, at)
 }

@@ -1,5 +1,5 @@
 -- Laws of finding where markup ends: searches, positions one by one, and scans for one byte.
-use Rattle.std.proofs.Common.{Option, Some, None, ◌≡◌, refl, sym, ap, ◌∙◌, Bool, true, false, not, List, [], ◌∷◌, ◌++◌, ℕ, zero, suc, ◌+◌, ◌-◌, ◌%◌, ◌≤◌, ◌<◌, arith, add-zero, T, eqb, ltb, leb→le, length, take, drop, get_or, drop_of_length-le, length-drop, drop-cons, drop-drop, rules, eq-eqb, ne_eqb, ltb-true, ltb-false}
+use Rattle.std.proofs.Common.{Option, Some, None, ◌≡◌, refl, sym, ap, ◌∙◌, Bool, true, false, not, List, [], ◌∷◌, ◌++◌, ℕ, zero, suc, ◌+◌, ◌-◌, ◌%◌, ◌≤◌, ◌<◌, arith, add-zero, T, eqb, ltb, lit<, length, take, drop, get_or, drop_of_length-le, length-drop, drop-cons, drop-drop, rules, eq-eqb, ne_eqb, ltb-true, ltb-false}
 use Rattle.texts.specs.Choice.{◌and◌}
 use Rattle.texts.specs.Text.{ascii, piece, starts_with}
 use Rattle.texts.specs.Scan.{count_while, scan, until, is}
@@ -314,14 +314,14 @@ Nearby doc at stop i = Scanning (until (is 62)) doc at i × ((stop - i) % 4 ≡ 
 
 pub short-comment-end : ShortText (ascii "-->") 16777216 4074797
 unfolding word_of
-short-comment-end = record { few = leb→le 3 8 tt; power = refl; number = refl; bytes = tt }
+short-comment-end = record { few = lit< tt; power = refl; number = refl; bytes = tt }
 
 pub short-instruction-end : ShortText (ascii "?>") 65536 15935
 unfolding word_of
-short-instruction-end = record { few = leb→le 2 8 tt; power = refl; number = refl; bytes = tt }
+short-instruction-end = record { few = lit< tt; power = refl; number = refl; bytes = tt }
 
 pub short-declaration-end : ShortText (ascii ">") 256 62
 unfolding word_of
-short-declaration-end = record { few = leb→le 1 8 tt; power = refl; number = refl; bytes = tt }
+short-declaration-end = record { few = lit< tt; power = refl; number = refl; bytes = tt }
 
 pub ruleset finding = (ends-here, ends-later, dashes-stand, dashes-not, comment-begins, scan-start, byte-on, byte-stop, first-some, first-none, first-rest, ends-none, lacks-start, lacks-here, comment-ends, comment-later, instruction-ends, instruction-later, pair-yes, pair-no, lacks-one, lacks-two, lacks-three, lacks-four, lacks-found, occurs-found, nowhere-found, short-stands, scan-found, short-comment-end, short-instruction-end, short-declaration-end, power-some, rules)

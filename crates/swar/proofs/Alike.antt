@@ -1,8 +1,8 @@
 -- Laws of comparing two names by numbers: from the front on, and last by one that ends with them.
-use Rattle.std.proofs.Common.{◌≡◌, sym, ap, ap₂, ◌∙◌, true, false, List, ◌++◌, ℕ, ◌+◌, ◌-◌, ◌≤◌, ◌<◌, arith, eqb, length, take, drop, length-drop, take-append-drop, take_all, take-take, take-add, eq-eqb, ne_eqb}
+use Rattle.std.proofs.Common.{◌≡◌, sym, ap, ap₂, ◌∙◌, true, false, List, ◌++◌, ℕ, ◌+◌, ◌-◌, ◌≤◌, ◌<◌, arith, eqb, length, take, drop, length-drop, take-append-drop, take_all, take-take, take-add, eq-eqb, eqb-true}
 use Rattle.texts.specs.Lists.{Every}
 use Rattle.texts.specs.Text.{piece, same}
-use Rattle.texts.proofs.Choosing.{by-test}
+use Rattle.texts.proofs.Choosing.{by-test, by-both}
 use Rattle.texts.proofs.Comparing.{same-equal, equal-same}
 use Rattle.swar.specs.Word.{word_of, IsWord, IsHalf}
 use Rattle.swar.proofs.Digits.{word-tells}
@@ -23,9 +23,7 @@ module _ (a b : List ℕ) (i n : ℕ) {x y : ℕ} (u : x ≡ word_of (piece a i 
     -- the last number decides, if all bytes before it are the same
     decide : length a ≡ i + n → length b ≡ i + n → (m : ℕ) → i ≤ m → take m a ≡ take m b → eqb x y ≡ same a b
     decide ea eb m w front =
-        by-test (same a b)
-        (λ t. eq-eqb x y (one_name t) ∙ sym t)
-        (λ f. ne_eqb x y (λ e. let z : ◌≡◌ {A = ℕ} 0 1 = cc (equal-same (whole e)) in omega arith) ∙ sym f)
+        by-both (eqb x y) (same a b) (λ t. equal-same (whole (eqb-true x y t))) (λ t. eq-eqb x y (one_name t))
       where
         ends : (s : List ℕ) → length s ≡ i + n → piece s i n ≡ drop i s
         ends s e = take_all n (drop i s) (let d = length-drop i s in omega arith)

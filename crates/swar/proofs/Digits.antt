@@ -1,12 +1,12 @@
 -- Laws of the number of a run of bytes: it determines the bytes.
-use Rattle.std.proofs.Common.{◌≡◌, refl, sym, ap, ap₂, ◌∙◌, List, [], ◌∷◌, ℕ, zero, suc, ◌+◌, ◌*◌, ◌%◌, ◌^◌, ◌≤◌, ◌<◌, zero-lt-suc, pow-suc, add-zero, arith, T, eqb, ltb, lit<, length, take, drop, get_or, drop-cons, length-take-le, take_all, take-take, eq-eqb, ne_eqb}
+use Rattle.std.proofs.Common.{◌≡◌, refl, sym, ap, ap₂, ◌∙◌, List, [], ◌∷◌, ℕ, zero, suc, ◌+◌, ◌*◌, ◌%◌, ◌^◌, ◌≤◌, ◌<◌, zero-lt-suc, pow-suc, add-zero, arith, T, eqb, ltb, lit<, length, take, drop, get_or, drop-cons, length-take-le, take_all, take-take, eq-eqb, eqb-true}
 use native.Mathlib.Nat.{one-le-pow, mod-one, zero-mod}
 use lib.Arith.{digits_div, digits_mod, mod-mul}
-use lib.Ieee.Fits.{and_l, and_r}
 use lib.Pow.{are_bytes}
+use Rattle.std.proofs.lemmas.Simd.{Each1-chunk}
 use Rattle.texts.specs.Lists.{Every}
 use Rattle.texts.specs.Text.{piece, starts_with}
-use Rattle.texts.proofs.Choosing.{by-test}
+use Rattle.texts.proofs.Choosing.{by-both, and_left, and_right}
 use Rattle.texts.proofs.Comparing.{front-is, is_front}
 use Rattle.swar.specs.Word.{word_of, IsWord, IsHalf}
 
@@ -33,37 +33,26 @@ word-take (suc n) (b ∷ s) h =
     ∙ ap₂ (λ (m r : ℕ). m % 256 ^ n * 256 + r) (digits_div (word_of s) h.0) (digits_mod (word_of s) h.0)
     ∙ ap (λ (m : ℕ). m * 256 + b) (word-take n s h.1)
 
-every_take : (P : ℕ → Type 0) (n : ℕ) (s : List ℕ) → Every P s → Every P (take n s)
-unfolding Every
-every_take P zero s h = tt
-every_take P (suc n) [] h = tt
-every_take P (suc n) (b ∷ s) h = (h.0, every_take P n s h.1)
-
-pub word-tells-front : (n : ℕ) (s t : List ℕ) → n ≤ length s → length t ≡ n → Every (λ b. b < 256) s → Every (λ b. b < 256) t → word_of s % 256 ^ n ≡ word_of t → take n s ≡ t
-word-tells-front n s t g l h k e =
-    word-tells (take n s) t (length-take-le n s g ∙ sym l) (every_take (λ b. b < 256) n s h) k (sym (word-take n s h) ∙ e)
-
 -- literal bytes are below 256, by computation
 pub bytes-are : (s : List ℕ) → T (are_bytes s) → Every (λ b. b < 256) s
 unfolding Every
 bytes-are [] t = tt
-bytes-are (b ∷ s) t = (lit< (and_l (ltb b 256) (are_bytes s) t), bytes-are s (and_r (ltb b 256) (are_bytes s) t))
+bytes-are (b ∷ s) t = (lit< (and_left (ltb b 256) (are_bytes s) t), bytes-are s (and_right (ltb b 256) (are_bytes s) t))
 
 -- ---- a text of at most eight bytes stands where the low bytes of the word there are its number
 
 module _ (s : List ℕ) (i : ℕ) {w : ℕ} (q : IsWord (piece s i 8) w) (t : List ℕ) (b : T (are_bytes t)) where
   pub word-starts : length t ≤ 8 → eqb (w % 256 ^ length t) (word_of t) ≡ starts_with t (drop i s)
+  unfolding Every
   word-starts l =
       let n = length t in
-      let front : take n (piece s i 8) ≡ take n (drop i s) = take-take n 8 (drop i s) l in
-      by-test (starts_with t (drop i s))
-      (λ y. eq-eqb (w % 256 ^ n) (word_of t)
-      (ap (λ (m : ℕ). m % 256 ^ n) q.is ∙ word-take n (piece s i 8) q.bytes ∙ ap word_of (front ∙ front-is t (drop i s) y))
-      ∙ sym y)
-      (λ f. ne_eqb (w % 256 ^ n) (word_of t) (λ e.
-      let same = word-tells-front n (piece s i 8) t (omega (arith, q.eight)) refl q.bytes (bytes-are t b) (sym (ap (λ (m : ℕ). m % 256 ^ n) q.is) ∙ e) in
-      let z : ◌≡◌ {A = ℕ} 0 1 = cc (is_front t (drop i s) (sym front ∙ same)) in omega arith)
-      ∙ sym f)
+      let p = piece s i 8 in
+      let front : take n p ≡ take n (drop i s) = take-take n 8 (drop i s) l in
+      let low : w % 256 ^ n ≡ word_of (take n p) = ap (λ (m : ℕ). m % 256 ^ n) q.is ∙ word-take n p q.bytes in
+      let long : length (take n p) ≡ n = length-take-le n p (omega (arith, q.eight)) in
+      by-both (eqb (w % 256 ^ n) (word_of t)) (starts_with t (drop i s))
+      (λ e. is_front t (drop i s) (sym front ∙ word-tells (take n p) t long (Each1-chunk (λ b. b < 256) 0 n p q.bytes) (bytes-are t b) (sym low ∙ eqb-true _ _ e)))
+      (λ y. eq-eqb (w % 256 ^ n) (word_of t) (low ∙ ap word_of (front ∙ front-is t (drop i s) y)))
 
   pub word-starts-whole : length t ≡ 8 → eqb w (word_of t) ≡ starts_with t (drop i s)
   word-starts-whole l =

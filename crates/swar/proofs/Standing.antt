@@ -1,5 +1,5 @@
 -- Laws of comparing with a literal that is given by its numbers.
-use Rattle.std.proofs.Common.{◌≡◌, sym, ap, ◌∙◌, Bool, false, List, ℕ, ◌+◌, ◌<◌, ◌%◌, zero-lt-suc, eqb, length, take, drop, take-append-drop, drop-drop, eq-eqb, ne_eqb}
+use Rattle.std.proofs.Common.{◌≡◌, sym, ap, ◌∙◌, Bool, false, List, ℕ, ◌+◌, ◌<◌, ◌%◌, zero-lt-suc, arith, eqb, length, take, drop, take-append-drop, drop-drop, eq-eqb, ne_eqb}
 use native.Mathlib.Nat.{one-le-pow}
 use Rattle.texts.specs.Choice.{◌and◌}
 use Rattle.texts.specs.Text.{piece, starts_with}
@@ -14,7 +14,7 @@ power-some {text} t = rw t.power (one-le-pow (length text) 256 (zero-lt-suc 255)
 
 module _ (s : List ℕ) (i : ℕ) {w : ℕ} (q : IsWord (piece s i 8) w) where
   pub stands-short : (modulus front : ℕ) → StandsShort s i modulus front (eqb (w % modulus) front)
-  stands-short modulus front = record { is = λ text t. rw (t.power, t.number) (word-starts s i q text t.bytes t.few) }
+  stands-short modulus front = record { is = λ text t. rw (t.power, t.number) (word-starts s i q text t.bytes (omega (arith, t.few))) }
 
   -- a longer text, by whether its first eight bytes stand there
   module _ (front modulus back : ℕ) where

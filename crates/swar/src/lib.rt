@@ -1,22 +1,27 @@
-//! SWAR: eight bytes of a slice as one little-endian `u64`.
+//! SWAR: eight bytes of a slice as one little-endian `u64`, for speed alone. Each public function
+//! promises what a plain loop over bytes gives, so that the plain loop could take its place and no
+//! caller would change.
 //!
-//! `byte_from` searches for a byte, as memchr does, and `text_from` for a short text. `lacks` and
-//! `both_lack` test a few bytes without a branch for each, and `copy_few` copies a few.
-//! `stands_short` and `stands_long` compare with a literal that is given as numbers, and
-//! `same_name` compares two names. A word is eight bytes, a half is four.
+//! `byte_from` searches for a byte, as memchr does: its answer is that of a scan by `scan_each` of
+//! texts. `text_from` passes places where a short text does not stand, as a caller's own loop may
+//! do one by one.
+//! `lacks` and `both_lack` test a few bytes without a branch for each, and `copy_few` copies a few.
+//! `stands_short` and `stands_long` are `texts::starts_with` for a literal that is given as numbers,
+//! and `same_name` is `texts::equal`. `word_at` and `half_at` give the number of eight bytes and of
+//! four: a word and a half.
 //!
 //! Functions take a slice and an offset, not a sub-slice, since what they find is an offset into
 //! the whole slice. Those that load a word require its bytes to be there: a caller tests that once
 //! for its loop, where a sub-slice would be tested again.
 #![tactic(auto, using(crate::proofs::Laws::laws))]
 
-ghost use Rattle.std.specs.Prelude.{◌≡◌, true, false, [], ◌∷◌, ◌+◌, ◌≤◌, ◌<◌, length};
+ghost use Rattle.std.specs.Prelude.{◌≡◌, ◌+◌, ◌≤◌, ◌<◌, length};
 ghost use Rattle.std.proofs.lemmas.List.Edits.{sets};
 ghost use Rattle.texts.specs.Text.{piece, same};
 ghost use Rattle.texts.specs.Scan.{scan, until, is};
 ghost use Rattle.swar.specs.Word.{IsWord, IsHalf};
 ghost use Rattle.swar.specs.internal.Marks.{Marked, Flagged};
-ghost use Rattle.swar.specs.internal.Standing.{StandsShort, StandsLong, Lacks};
+ghost use Rattle.swar.specs.internal.Standing.{StandsShort, StandsLong, LacksByte, Lacks};
 
 /// 1 in each of the eight bytes.
 const ONES: u64 = 0x0101_0101_0101_0101;
@@ -88,7 +93,7 @@ fn quick_marks(s: &[u8], i: usize, x: u8) -> u64
 /// Whether none of the `N` bytes from `i` on is `x`. Branch-free, and compiles to vector code.
 pub fn lacks<const N: usize>(s: &[u8], i: usize, x: u8) -> bool
     requires { i + N ≤ length s.now }
-    ensures { result ≡ true → scan (until (is x)) s.now (i + N) ≡ scan (until (is x)) s.now i }
+    ensures { LacksByte x s.now i N result }
 {
     let mut lacks = true;
     for k in 0..N {
@@ -102,8 +107,8 @@ pub fn lacks<const N: usize>(s: &[u8], i: usize, x: u8) -> bool
 pub fn both_lack<const N: usize>(s: &[u8], i: usize, j: usize, x: u8) -> bool
     requires first { i + N ≤ length s.now }
     requires second { j + N ≤ length s.now }
-    ensures first { result ≡ true → scan (until (is x)) s.now (i + N) ≡ scan (until (is x)) s.now i }
-    ensures second { result ≡ true → scan (until (is x)) s.now (j + N) ≡ scan (until (is x)) s.now j }
+    ensures first { LacksByte x s.now i N result }
+    ensures second { LacksByte x s.now j N result }
 {
     lacks::<N>(s, i, x) & lacks::<N>(s, j, x)
 }

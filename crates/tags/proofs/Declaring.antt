@@ -1,5 +1,5 @@
 -- Laws of raw names that declare a namespace, compared as one word.
-use Rattle.std.proofs.Common.{◌≡◌, refl, sym, ap, ◌∙◌, Bool, true, false, List, [], ◌∷◌, ◌++◌, ℕ, zero, suc, ◌+◌, ◌-◌, ◌≤◌, ◌<◌, arith, rules, eqb, leb→le, length, take, drop, get_or, length-take, drop-cons, drop-drop}
+use Rattle.std.proofs.Common.{◌≡◌, refl, sym, ap, ◌∙◌, Bool, true, false, List, [], ◌∷◌, ◌++◌, ℕ, zero, suc, ◌+◌, ◌-◌, ◌≤◌, ◌<◌, arith, rules, eqb, lit<, length, take, drop, get_or, length-take, drop-cons, drop-drop}
 use Rattle.texts.specs.Text.{ascii, piece, same, starts_with}
 use Rattle.texts.specs.Scan.{count_while, scan, until}
 use Rattle.texts.proofs.Scanning.{scan-stop}
@@ -32,7 +32,7 @@ starts-itself = refl
 
 text-xmlns : ShortText (ascii "xmlns") 1099511627776 495773838712
 unfolding word_of
-text-xmlns = record { few = leb→le 5 8 tt; power = refl; number = refl; bytes = tt }
+text-xmlns = record { few = lit< tt; power = refl; number = refl; bytes = tt }
 
 -- ---- a raw name of n bytes
 

@@ -1,5 +1,5 @@
 -- Laws of comparing the document with a known name, eight bytes at once.
-use Rattle.std.proofs.Common.{◌≡◌, refl, sym, ◌∙◌, Bool, true, List, ℕ, ◌<◌, ◌+◌, ◌^◌, arith, T, eqb, eqb-true, leb, length, lit<, leb→le, take, drop}
+use Rattle.std.proofs.Common.{◌≡◌, refl, sym, ◌∙◌, Bool, true, List, ℕ, ◌<◌, ◌+◌, ◌^◌, arith, T, eqb, eqb-true, ltb, leb, length, lit<, leb→le, take, drop}
 use Rattle.std.proofs.Math.Pow.{are_bytes}
 use Rattle.texts.specs.Choice.{◌and◌}
 use Rattle.texts.proofs.Choosing.{is_true, and_left, and_right}
@@ -31,20 +31,20 @@ told-semanticversion = record { above = lit< tt; below = lit< tt; ahead = refl; 
 
 -- the numbers are those of the text
 abbrev pub short-fits : List ℕ → ℕ → ℕ → Bool
-short-fits text modulus front = leb (length text) 8 and eqb modulus (256 ^ length text) and eqb front (word_of text) and are_bytes text
+short-fits text modulus front = ltb (length text) 8 and eqb modulus (256 ^ length text) and eqb front (word_of text) and are_bytes text
 
 abbrev pub long-fits : List ℕ → ℕ → ℕ → ℕ → Bool
 long-fits text front modulus back = eqb (length (take 8 text)) 8 and eqb front (word_of (take 8 text)) and are_bytes (take 8 text) and short-fits (drop 8 text) modulus back
 
 pub short-text : (text : List ℕ) (modulus front : ℕ) → T (short-fits text modulus front) → ShortText text modulus front
 short-text text modulus front t =
-    let few = leb (length text) 8 in
+    let few = ltb (length text) 8 in
     let power = eqb modulus (256 ^ length text) in
     let number = eqb front (word_of text) in
     let u = and_right few _ t in
     let v = and_right power _ u in
     record {
-      few = leb→le (length text) 8 (and_left few _ t);
+      few = lit< (and_left few _ t);
       power = eqb-true modulus _ (is_true power (and_left power _ u));
       number = eqb-true front _ (is_true number (and_left number _ v));
       bytes = and_right number _ v;

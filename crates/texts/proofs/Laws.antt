@@ -1,5 +1,5 @@
 -- The laws of trimming, as one set for proofs to cite.
 use borrow.Author.Rules.{rules}
-use Rattle.texts.proofs.Trimming.{blank-below, blank-among, blank-above, shrink-start, shrink-on, shrink-stop, shrink-end}
+use Rattle.texts.proofs.Trimming.{shrink-start, shrink-on, shrink-stop, shrink-end}
 
-pub ruleset laws = (blank-below, blank-among, blank-above, shrink-start, shrink-on, shrink-stop, shrink-end, rules)
+pub ruleset laws = (shrink-start, shrink-on, shrink-stop, shrink-end, rules)

@@ -1,18 +1,17 @@
 -- Laws of scans. A loop's invariant is that the scan from `i` ends where the scan from `at` does. A
 -- byte that passes keeps it; at a byte that fails, or at the end, `i` is the answer.
-use Rattle.std.proofs.Common.{◌≡◌, refl, sym, ap, ◌∙◌, Bool, true, false, not, List, ◌∷◌, ℕ, suc, ◌+◌, zero, min, [], take, drop, ◌≤◌, ◌<◌, arith, length, get_or, eq-eqb, ne_eqb, lt-ltb}
+use Rattle.std.proofs.Common.{◌≡◌, refl, sym, ap, ◌∙◌, Bool, true, false, not, List, ◌∷◌, ℕ, suc, ◌+◌, zero, min, [], take, drop, ◌≤◌, ◌<◌, arith, length, get_or, bit_or, eq-eqb, ne_eqb, lt-ltb}
 use mir.Val.{bool_byte}
 use Rattle.std.proofs.lemmas.Nat.{le_or_l, le_or_r}
-use lib.Bits.{bit_or}
 use Rattle.std.proofs.lemmas.List.Sums.{prefix_len-drop_all, prefix_len-drop_yes, prefix_len-drop_no}
 use Rattle.std.specs.List.{prefix_len}
 use Rattle.texts.proofs.Choosing.{by-test}
-use Rattle.texts.specs.Scan.{count_while, scan, until, is, is_ascii}
+use Rattle.texts.specs.Scan.{scan, until, is, is_ascii}
 
-pub count_yes : (p : ℕ → Bool) (x : ℕ) (xs : List ℕ) → p x ≡ true → count_while p (x ∷ xs) ≡ suc (count_while p xs)
+pub count_yes : (p : ℕ → Bool) (x : ℕ) (xs : List ℕ) → p x ≡ true → prefix_len p (x ∷ xs) ≡ suc (prefix_len p xs)
 count_yes p x xs t = rw t (omega arith)
 
-pub count_no : (p : ℕ → Bool) (x : ℕ) (xs : List ℕ) → p x ≡ false → count_while p (x ∷ xs) ≡ 0
+pub count_no : (p : ℕ → Bool) (x : ℕ) (xs : List ℕ) → p x ≡ false → prefix_len p (x ∷ xs) ≡ 0
 count_no p x xs t = rw t
 
 -- the count in the first n bytes, and the count of what is passed and of the rest

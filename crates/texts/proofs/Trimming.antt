@@ -1,33 +1,16 @@
 -- Laws of trimming: the loop over the back, and how front and back make the whole.
-use Rattle.std.proofs.Common.{◌≡◌, refl, sym, ap, ◌∙◌, Bool, true, false, List, [], ◌∷◌, ◌++◌, ℕ, suc, ◌+◌, ◌-◌, ◌≤◌, ◌<◌, zero-add, arith, eqb, length, take, drop, get_or, length-take, length-drop, take-suc, take_all, take-take, drop-drop, le-leb, ne_eqb}
+use Rattle.std.proofs.Common.{◌≡◌, refl, sym, ap, ◌∙◌, Bool, true, false, List, [], ◌∷◌, ◌++◌, ℕ, suc, ◌+◌, ◌-◌, ◌≤◌, ◌<◌, zero-add, arith, length, take, drop, get_or, length-take, length-drop, take-suc, take_all, take-take, drop-drop}
 use lib.Seq.{take-length}
-use borrow.Author.Tests.{lt-leb}
+use Rattle.std.proofs.lemmas.Bool.{and_right}
 use Rattle.std.proofs.lemmas.List.Sums.{prefix_len-le-length}
 use Rattle.texts.specs.Choice.{pick, ◌and◌}
 use Rattle.texts.specs.Text.{piece, same}
-use Rattle.texts.specs.Scan.{count_while, scan}
+use Rattle.std.specs.List.{prefix_len}
+use Rattle.texts.specs.Scan.{scan}
 use Rattle.texts.specs.Trim.{is_blank, trimmed_front, trimmed_back, trimmed, TrimmedTo, KeptTo}
 use Rattle.texts.proofs.Stores.{piece-below}
 
--- ---- a byte
-
-pub blank-below : (b : ℕ) → b < 9 → false ≡ is_blank b
-unfolding is_blank
-blank-below b h = sym (rw (lt-leb 9 b h, ne_eqb b 32 (λ e. omega arith)))
-
-pub blank-among : (b : ℕ) → 9 ≤ b → b ≤ 13 → true ≡ is_blank b
-unfolding is_blank
-blank-among b h k = sym (rw (le-leb 9 b h, le-leb b 13 k))
-
-pub blank-above : (b : ℕ) → 9 ≤ b → 13 < b → eqb b 32 ≡ is_blank b
-unfolding is_blank
-blank-above b h k = sym (rw (le-leb 9 b h, lt-leb b 13 k))
-
 -- ---- the back
-
-and_no : (a : Bool) → (a and false) ≡ false
-and_no true = refl
-and_no false = refl
 
 not-empty : (s : List ℕ) (b : ℕ) → same (s ++ (b ∷ [])) [] ≡ false
 unfolding same
@@ -42,7 +25,7 @@ back-blank (x ∷ s) b t = ap (λ rest. pick (is_blank x and same rest []) [] (x
 back-kept : (s : List ℕ) (b : ℕ) → is_blank b ≡ false → trimmed_back (s ++ (b ∷ [])) ≡ s ++ (b ∷ [])
 unfolding trimmed_back
 back-kept [] b t = rw t
-back-kept (x ∷ s) b t = ap (λ rest. pick (is_blank x and same rest []) [] (x ∷ rest)) (back-kept s b t) ∙ rw (not-empty s b, and_no (is_blank x))
+back-kept (x ∷ s) b t = ap (λ rest. pick (is_blank x and same rest []) [] (x ∷ rest)) (back-kept s b t) ∙ rw (and_right (is_blank x) _ (not-empty s b))
 
 -- a loop that shortens s from its back has n bytes left
 pub record Shrinking (s : List ℕ) (n : ℕ) : Type 0 where
@@ -89,7 +72,7 @@ module _ (s : List ℕ) (a n : ℕ) (rest : List ℕ) (ea : a ≡ scan is_blank 
 
   pub trim-is : {r : List ℕ} → r ≡ piece rest 0 n → r ≡ trimmed s
   unfolding trimmed trimmed_front
-  trim-is e = e ∙ k.is ∙ ap trimmed_back (front ∙ ap (λ j. drop j s) (ea ∙ zero-add (count_while is_blank s)))
+  trim-is e = e ∙ k.is ∙ ap trimmed_back (front ∙ ap (λ j. drop j s) (ea ∙ zero-add (prefix_len is_blank s)))
 
 module _ (s : List ℕ) (from len a : ℕ) (whole : List ℕ) (ew : whole ≡ piece s from len) (ea : a ≡ scan is_blank whole 0) where
   within : a ≤ length whole

@@ -2,13 +2,13 @@
 use Rattle.std.specs.Prelude.{Bool, not, List, ℕ, ◌+◌, eqb, ltb, drop}
 use Rattle.std.specs.List.{prefix_len}
 
--- how many bytes at the front pass the test
+-- how many bytes at the front pass the test: the library's word, under another name
 abbrev pub count_while : (ℕ → Bool) → List ℕ → ℕ
 count_while p s = prefix_len p s
 
 -- the first place from `at` on whose byte fails the test, or the end; `at` if it is past the end
 abbrev pub scan : (ℕ → Bool) → List ℕ → ℕ → ℕ
-scan p s at = at + count_while p (drop at s)
+scan p s at = at + prefix_len p (drop at s)
 
 -- the test that passes what fails q
 abbrev pub until : (ℕ → Bool) → ℕ → Bool

@@ -2,7 +2,7 @@
 use Rattle.std.specs.Prelude.{◌≡◌, Bool, List, [], ◌∷◌, ℕ, ◌+◌, ◌≤◌, eqb, leb, length, take, drop}
 use Rattle.texts.specs.Choice.{pick, ◌or◌, ◌and◌}
 use Rattle.texts.specs.Text.{piece, same}
-use Rattle.texts.specs.Scan.{count_while}
+use Rattle.std.specs.List.{prefix_len}
 use Rattle.texts.specs.declared.Range.{Range}
 
 -- what is trimmed: bytes 9 to 13 and 32
@@ -11,7 +11,7 @@ is_blank b = leb 9 b and leb b 13 or eqb b 32
 
 -- without the blanks at the front
 unfoldable pub trimmed_front : List ℕ → List ℕ
-trimmed_front s = drop (count_while is_blank s) s
+trimmed_front s = drop (prefix_len is_blank s) s
 
 -- without the blanks at the back: a blank is dropped where nothing is left behind it
 unfoldable pub trimmed_back : List ℕ → List ℕ

@@ -81,6 +81,7 @@ pub fn starts_with(s: &[u8], at: usize, needle: &[u8]) -> bool
 /// The test for a byte below 128.
 struct Ascii;
 
+#[tactic(auto, unfolding(crate::specs::Scan::is_ascii))]
 impl ByteTest for Ascii {
     ghost test = { is_ascii };
 
@@ -135,7 +136,7 @@ pub fn ascii_end(s: &[u8]) -> usize
 // ---- trimming
 
 /// Whether trimming drops `b`: bytes 9 to 13 and 32.
-#[tactic(auto, using(crate::proofs::Laws::laws))]
+#[tactic(auto, unfolding(crate::specs::Trim::is_blank))]
 fn is_blank(b: u8) -> bool
     ensures { result ≡ is_blank b }
 {
