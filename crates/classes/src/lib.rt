@@ -6,7 +6,8 @@
 #![tactic(auto)]
 
 ghost use Rattle.std.specs.Prelude.{◌≡◌};
-ghost use Rattle.classes.specs.Class.{is_space, is_tag_name_end, is_attribute_name_end, is_upper, is_lower};
+ghost use Rattle.classes.specs.Class.{is_space, is_tag_name_end, is_attribute_name_end};
+ghost use Rattle.classes.specs.Class.{is_upper, is_lower};
 ghost use Rattle.classes.specs.Table.{is_name_stop, ClassOf};
 ghost use Rattle.classes.specs.Letters.{lowered, raised};
 

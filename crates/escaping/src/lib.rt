@@ -4,12 +4,13 @@
 //! a long text the lengths of the escapes are noted in a lookup table first.
 #![tactic(auto)]
 
-ghost use Rattle.std.specs.Prelude.{◌≡◌, Bool, true, false, [], ◌∷◌, ◌++◌, ℕ, ◌+◌, ◌-◌, ◌≤◌, ◌<◌, length, slice_index_or};
+ghost use Rattle.std.specs.Prelude.{◌≡◌, Bool, true, false, [], ◌∷◌, ◌++◌, ℕ};
+ghost use Rattle.std.specs.Prelude.{◌+◌, ◌-◌, ◌≤◌, ◌<◌, length, slice_index_or};
 ghost use Rattle.texts.specs.Text.{ascii};
 ghost use Rattle.texts.specs.Lists.{each};
 ghost use Rattle.printing.specs.Written.{Wrote};
 ghost use Rattle.escaping.specs.Escape.{hex_digit, hex, escaped, quoted};
-ghost use Rattle.escaping.specs.internal.Escaping.{shown_as, stands};
+ghost use Rattle.escaping.specs.internal.Escaping.{shown_as, stands, NotesLengths};
 
 use printing::Output;
 use texts::part;
@@ -51,7 +52,8 @@ fn escape_of(b: u8) -> (Kind, u8)
 
 // ---- writing
 
-fn hex_digit(d: u8) -> u8
+/// The hexadecimal digit of a number below 16, in lower case.
+pub fn hex_digit(d: u8) -> u8
     requires { d < 16 }
     ensures { result ≡ hex_digit d }
 {
@@ -102,7 +104,7 @@ fn write_escaped(out: &mut Output<'_>, b: u8)
 #[derive(Clone, Copy)]
 struct Lengths<'a> {
     noted: &'a [u8],
-    ghost right: { (b : ℕ) → b < length noted.now → slice_index_or noted.now b 0 ≡ length (escaped b) },
+    ghost right: { NotesLengths noted.now },
 }
 
 #[tactic(auto, unfolding(crate::specs::internal::Escaping::stands))]
@@ -121,7 +123,7 @@ impl ByteTest for Lengths<'_> {
 
 /// The table of all ASCII bytes; a document has no others.
 fn note() -> [u8; 128]
-    ensures { (b : ℕ) → b < 128 → slice_index_or result b 0 ≡ length (escaped b) }
+    ensures { NotesLengths result }
 {
     let mut noted = [0; 128];
     for i in 0..128 {

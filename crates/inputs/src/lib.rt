@@ -13,8 +13,10 @@ use std::io::{self, Read};
 /// Fails with the reader's first error; what was read before it stands in `buf`.
 pub fn read_full<R: Read>(input: &mut R, buf: &mut [u8]) -> io::Result<usize>
     ensures within { IfOk result (λ n. n ≤ length buf.new) }
-    ensures taken { IfOk result (λ n. Taken (R.remaining input.old) (R.remaining input.new) (length buf.new) (take n buf.new)) }
-    ensures before { OnErr result (TakenBefore (R.remaining input.old) (R.remaining input.new) buf.new) }
+    ensures taken { IfOk result (λ n. Taken (R.remaining input.old) (R.remaining input.new)
+        (length buf.new) (take n buf.new)) }
+    ensures before { OnErr result
+        (TakenBefore (R.remaining input.old) (R.remaining input.new) buf.new) }
 {
     let mut done = 0;
     // `while`: a read may give fewer bytes than asked, so the step is not 1.

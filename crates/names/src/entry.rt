@@ -8,7 +8,9 @@
 #![tactic(auto, unfolding(crate::specs::Converted::converted))]
 
 ghost use Rattle.std.specs.Prelude.{ℕ, ◌≡◌, length};
-ghost use Rattle.names.specs.Conversions.{camel_to_snake, snake_to_camel, camel_to_screaming_snake, screaming_snake_to_pascal, strip_enum_prefix, singular_pascal};
+ghost use Rattle.names.specs.Conversions.{camel_to_snake, snake_to_camel, singular_pascal};
+ghost use Rattle.names.specs.Conversions.{camel_to_screaming_snake, screaming_snake_to_pascal};
+ghost use Rattle.names.specs.Conversions.{strip_enum_prefix};
 ghost use Rattle.printing.specs.Written.{Wrote};
 ghost use Rattle.names.specs.Entry.{tested, tested_two, Answers};
 ghost use Rattle.names.specs.Converted.{converted};
@@ -61,7 +63,8 @@ fn test_two(value: &[u8], enum_name: &[u8]) -> Result<(), Refusal>
     Ok(())
 }
 
-/// The conversions of a single name.
+/// The conversions of a single name. Each has its entry below, written out: no macro may write a
+/// function.
 #[derive(Clone, Copy)]
 enum Conversion {
     Snake,
@@ -133,7 +136,8 @@ pub fn camel_to_screaming_snake(name: &[u8], out: &mut [u8]) -> Result<usize, Re
 
 /// Converts to Pascal case: `ORDER_ID` becomes `OrderId`.
 pub fn screaming_snake_to_pascal(name: &[u8], out: &mut [u8]) -> Result<usize, Refusal>
-    ensures { Answers (tested name.now) (screaming_snake_to_pascal name.now) out.old out.new result }
+    ensures { Answers (tested name.now) (screaming_snake_to_pascal name.now)
+        out.old out.new result }
 {
     Conversion::Pascal.convert(name, out)
 }
@@ -163,7 +167,8 @@ impl Print for Stripped<'_> {
 /// Cuts the enum's prefix, and converts what remains to Pascal case: `SIDE_BUY` of `Side` becomes
 /// `Buy`. A name without the prefix is converted whole.
 pub fn strip_enum_prefix(value: &[u8], enum_name: &[u8], out: &mut [u8]) -> Result<usize, Refusal>
-    ensures { Answers (tested_two value.now enum_name.now) (strip_enum_prefix value.now enum_name.now) out.old out.new result }
+    ensures { Answers (tested_two value.now enum_name.now)
+        (strip_enum_prefix value.now enum_name.now) out.old out.new result }
 {
     answer(
         test_two(value, enum_name),

@@ -2,7 +2,8 @@
 //! goes unless it follows another `s`.
 ghost use Rattle.std.specs.Prelude.{◌≡◌};
 ghost use Rattle.printing.specs.Written.{Wrote};
-ghost use Rattle.names.specs.Conversions.{ends_with, ends_in_ies, ends_in_s, capitalized, singular_pascal};
+ghost use Rattle.names.specs.Conversions.{ends_with, ends_in_ies, ends_in_s};
+ghost use Rattle.names.specs.Conversions.{capitalized, singular_pascal};
 
 use classes::raise;
 use printing::Output;

@@ -152,8 +152,8 @@ fn store<C: Case>(out: &mut [u8], at: usize, case: &C, name: &[u8]) -> usize
     p
 }
 
-/// As `store`, of a name that may not fit: what does not is counted. Cold and out of line, since such
-/// names are rare; a slice and a position, so that the caller keeps both in registers.
+/// As `store`, of a name that may not fit: what does not is counted. Cold and out of line, since
+/// such names are rare; a slice and a position, so that the caller keeps both in registers.
 #[cold]
 #[inline(never)]
 #[tactic(auto, unfolding(crate::specs::Conversions::cased_at), using(printing::proofs::Writing::writing))]

@@ -7,8 +7,7 @@ use Rattle.texts.proofs.Stores.{get_or-sets-below, take-sets, piece-stored, piec
 use Rattle.printing.specs.Printed.{last, past, skipped, laid, Printed}
 use Rattle.printing.specs.internal.Standing.{Standing}
 use Rattle.printing.proofs.Sequencing.{first_part, second-part, length-printed}
-use Rattle.printing.proofs.Finishing.{past-below, laid-sets}
-use Rattle.printing.proofs.Passing.{past-skipped, Copying, copying-start, copying-length, copying-within, copying-on, copying-end}
+use Rattle.printing.proofs.Passing.{past-below, laid-sets, past-skipped, Copying, copying-start, copying-length, copying-within, copying-on, copying-end}
 
 -- ---- the loop: i of the n bytes at `from` are copied
 

@@ -1,27 +1,10 @@
 -- Laws of measuring, then writing: where a measured text fits, printing it writes all of it.
-use Rattle.std.proofs.Common.{◌≡◌, refl, ◌∙◌, List, [], ◌∷◌, ◌++◌, ℕ, suc, ◌+◌, ◌≤◌, ◌<◌, arith, length, take, drop, set, lt-ltb, le-ltb, Ok, Err}
+use Rattle.std.proofs.Common.{◌≡◌, ◌∙◌, List, ◌++◌, ℕ, ◌+◌, ◌≤◌, ◌<◌, arith, length, take, drop, lt-ltb, le-ltb, Ok, Err}
 use lib.Seq.{sets, sets-eq}
 use Rattle.refusals.specs.declared.Refusal.TheVariants.{NoRoom}
-use Rattle.printing.specs.Printed.{last, next, past, laid, Printed}
+use Rattle.printing.specs.Printed.{last, past, Printed}
 use Rattle.printing.specs.Output.{finished, output_after}
-
--- the next position is at most the sum, and is the sum if it is below `last`
-past-le : (at : ℕ) (t : List ℕ) → past at t ≤ at + length t
-unfolding past
-past-le at [] = omega arith
-past-le at (b ∷ t) = omega (arith, past-le (next at) t)
-
-pub past-below : (at : ℕ) (t : List ℕ) → past at t < last → past at t ≡ at + length t
-unfolding past
-past-below at [] h = omega arith
-past-below at (b ∷ t) h = omega (arith, past-below (next at) t h)
-
-pub laid-sets : (out : List ℕ) (at : ℕ) (t : List ℕ) → at + length t ≤ last → laid out at t ≡ sets out at t
-unfolding laid
-laid-sets out at [] h = refl
-laid-sets out at (b ∷ t) h =
-    let n : next at ≡ suc at = omega arith in
-    rw n (laid-sets (set out at b) (suc at) t (omega arith))
+use Rattle.printing.proofs.Passing.{past-le, past-below, laid-sets}
 
 -- the text measured n, and the output is shorter: nothing is written
 module _ (out : List ℕ) {e e' : List ℕ} {n : ℕ} {t : List ℕ} (m : Printed e 0 e' n t) (h : length out < n) where

@@ -6,6 +6,27 @@ use Rattle.swar.proofs.Copying.{sets-append}
 use Rattle.printing.specs.Printed.{last, next, past, skipped, laid, Printed}
 use Rattle.printing.proofs.Sequencing.{blank, ◌▸◌, length-printed}
 
+-- the next position is at most the sum, and is the sum if it is below `last`
+pub past-le : (at : ℕ) (t : List ℕ) → past at t ≤ at + length t
+unfolding past
+past-le at [] = omega arith
+past-le at (b ∷ t) = omega (arith, past-le (next at) t)
+
+pub past-below : (at : ℕ) (t : List ℕ) → past at t < last → past at t ≡ at + length t
+unfolding past
+past-below at [] h = omega arith
+past-below at (b ∷ t) h = omega (arith, past-below (next at) t h)
+
+past-fits : (at : ℕ) (t : List ℕ) → at + length t < last → past at t ≡ at + length t
+past-fits at t h = past-below at t (omega (arith, past-le at t))
+
+pub laid-sets : (out : List ℕ) (at : ℕ) (t : List ℕ) → at + length t ≤ last → laid out at t ≡ sets out at t
+unfolding laid
+laid-sets out at [] h = refl
+laid-sets out at (b ∷ t) h =
+    let n : next at ≡ suc at = omega arith in
+    rw n (laid-sets (set out at b) (suc at) t (omega arith))
+
 -- ---- counted
 
 skipped-none : (at n : ℕ) → n ≡ 0 → at ≡ skipped at n
@@ -114,19 +135,6 @@ sets-again s d at i j h l =
     ∙ sets-over (i - j) (drop j s) (sets d at (take j s)) (at + j)
     ∙ sym (split (drop j s)) ∙ ap (sets d at) (take-append-drop j s)
 
-laid-sets : (t out : List ℕ) (at : ℕ) → at + length t ≤ last → laid out at t ≡ sets out at t
-unfolding laid
-laid-sets [] out at h = refl
-laid-sets (b ∷ t) out at h =
-    let e : next at ≡ suc at = omega arith in rw e (laid-sets t (set out at b) (suc at) (omega arith))
-
-pub past-fits : (t : List ℕ) (at : ℕ) → at + length t ≤ last → past at t ≡ at + length t
-unfolding past
-past-fits [] at h = omega arith
-past-fits (b ∷ t) at h =
-    let e : next at ≡ suc at = omega arith in
-    let p = past-fits t (suc at) (omega arith) in rw e (omega (arith, p))
-
 module _ (n : ℕ) (s out : List ℕ) (at : ℕ) where
   pub two-printed : at + length s ≤ length out → length out < last → n ≤ length s → length s ≤ n + n → {o₁ o₂ : List ℕ}
       → o₁ ≡ sets out at (piece s 0 n) → o₂ ≡ sets o₁ (at + (length s - n)) (piece s (length s - n) n) → Printed out at o₂ (at + length s) s
@@ -135,12 +143,12 @@ module _ (n : ℕ) (s out : List ℕ) (at : ℕ) where
       let rest : piece s j n ≡ drop j s = take_all n (drop j s) (omega (arith, length-drop j s)) in
       let e = q ∙ ap (λ m. sets m (at + j) (piece s j n)) p ∙ ap (sets (sets out at (take n s)) (at + j)) rest
       ∙ sets-again s out at n j (omega arith) (omega arith) in
-      record { is = e ∙ sym (laid-sets s out at (omega arith)); to = sym (past-fits s at (omega arith)) }
+      record { is = e ∙ sym (laid-sets out at s (omega arith)); to = sym (past-fits at s (omega arith)) }
 
 -- a text that fits, and one more byte
 module _ {out : List ℕ} {at : ℕ} {out' : List ℕ} {p : ℕ} (s : List ℕ) (f : Printed out at out' p s) (h : at + length s < length out) (l : length out < last) where
   then-place : p ≡ at + length s
-  then-place = f.to ∙ past-fits s at (omega arith)
+  then-place = f.to ∙ past-fits at s (omega arith)
 
   pub then-within : p < length out'
   then-within = omega (arith, then-place, length-printed f)

@@ -217,19 +217,8 @@ fn copy(out: &mut [u8], at: usize, s: &[u8]) -> usize
     copy_each(out, at, s)
 }
 
-/// Prints `s` byte by byte, as far as it fits.
-fn put_each(out: &mut [u8], at: usize, s: &[u8]) -> usize
-    ensures { Printed out.old at out.new result s.now }
-{
-    let mut p = at;
-    for b in s {
-        p = put_byte(out, p, *b);
-    }
-    p
-}
-
-/// Prints `s` where not all of it fits: a part of it, or nothing, as when measuring. Rare, and so
-/// kept out of line.
+/// Prints `s` where not all of it fits: a part of it byte by byte, or nothing, as when measuring.
+/// Rare, and so kept out of line.
 #[cold]
 #[inline(never)]
 fn put_cut(out: &mut [u8], at: usize, s: &[u8]) -> usize
@@ -238,7 +227,11 @@ fn put_cut(out: &mut [u8], at: usize, s: &[u8]) -> usize
     if out.len() <= at {
         return skip(at, s.len());
     }
-    put_each(out, at, s)
+    let mut p = at;
+    for b in s {
+        p = put_byte(out, p, *b);
+    }
+    p
 }
 
 /// Prints `s`.
@@ -251,16 +244,6 @@ fn put_bytes(out: &mut [u8], at: usize, s: &[u8]) -> usize
     put_cut(out, at, s)
 }
 
-/// Prints `s`, then `b`, where they do not both fit.
-#[cold]
-#[inline(never)]
-fn put_then_cut(out: &mut [u8], at: usize, s: &[u8], b: u8) -> usize
-    ensures { Printed out.old at out.new result (s.now ++ b ∷ []) }
-{
-    let p = put_bytes(out, at, s);
-    put_byte(out, p, b)
-}
-
 /// Prints `s`, then `b`.
 fn put_then(out: &mut [u8], at: usize, s: &[u8], b: u8) -> usize
     ensures { Printed out.old at out.new result (s.now ++ b ∷ []) }
@@ -270,7 +253,8 @@ fn put_then(out: &mut [u8], at: usize, s: &[u8], b: u8) -> usize
         out[p] = b;
         return p + 1;
     }
-    put_then_cut(out, at, s, b)
+    let p = put_cut(out, at, s);
+    put_byte(out, p, b)
 }
 
 /// Prints once more the `n` bytes at `from`, which lie before `at`. All have to fit.

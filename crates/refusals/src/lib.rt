@@ -1,12 +1,14 @@
 //! Refusals: one enum case for each number of docs/REFUSALS.md.
 //!
 //! An entry answers `Result<usize, Refusal>`: the length of the finished text, or why there is
-//! none. `number`, `offset` and `place` give a case's figures to callers that want plain numbers,
-//! as C does. When a case applies is decided by the crates that answer it.
+//! none. `number`, `offset` and `place` give a case's figures, and `report` those of an answer, to
+//! callers that want plain numbers, as C does. When a case applies is decided by the crates that
+//! answer it.
 #![tactic(auto)]
 
 ghost use Rattle.std.specs.Prelude.{◌≡◌};
 ghost use Rattle.refusals.specs.Figures.{number_of, offset_of, place_of};
+ghost use Rattle.refusals.specs.Reported.{Reports};
 
 /// Why there is no text.
 ///
@@ -136,6 +138,31 @@ impl Refusal {
             | Refusal::TooManyItems { place }
             | Refusal::ArrayInComposite { place }
             | Refusal::ArrayInMessage { place } => place,
+        }
+    }
+}
+
+/// Sets offset, place and n of an answer, and returns its number, 0 for accepted.
+pub fn report(
+    answer: Result<usize, Refusal>,
+    offset: &mut usize,
+    place: &mut usize,
+    n: &mut usize,
+) -> u32
+    ensures { Reports answer result offset.new place.new n.new }
+{
+    match answer {
+        Ok(k) => {
+            *offset = 0;
+            *place = 0;
+            *n = k;
+            0
+        }
+        Err(r) => {
+            *offset = r.offset();
+            *place = r.place();
+            *n = 0;
+            r.number()
         }
     }
 }

@@ -4,40 +4,23 @@
 //! and `n`. Its contract gives these four numbers and every byte of the output, on all inputs
 //! (specs/Report.antt). The header says what C must hand over; a null pointer with the length 0
 //! comes in as an empty slice. Loose parameters, not structs: they are those of the C declarations.
+//! The name conversions are written out one by one, as no macro may write a function.
 #![tactic(auto, using(crate::proofs::Reporting::laws))]
 
 ghost use Rattle.std.specs.Prelude.{◌≡◌, length};
-ghost use Rattle.names.specs.Conversions.{camel_to_snake, snake_to_camel, camel_to_screaming_snake, screaming_snake_to_pascal, strip_enum_prefix, singular_pascal};
+ghost use Rattle.names.specs.Conversions.{camel_to_snake, snake_to_camel, singular_pascal};
+ghost use Rattle.names.specs.Conversions.{camel_to_screaming_snake, screaming_snake_to_pascal};
+ghost use Rattle.names.specs.Conversions.{strip_enum_prefix};
 ghost use Rattle.names.specs.Entry.{tested, tested_two};
 ghost use Rattle.xmlschema.specs.Whole.{answer_of};
-ghost use Rattle.sbe.specs.Report.{Reports, NameReports, ConversionReports};
+ghost use Rattle.sbe.specs.Report.{NameReports, ConversionReports};
 
-use refusals::Refusal;
-
-/// Sets offset, place and n of an answer, and returns its number, 0 for accepted.
-fn report(
-    answer: Result<usize, Refusal>,
-    offset: &mut usize,
-    place: &mut usize,
-    n: &mut usize,
-) -> u32
-    ensures { Reports answer result offset.new place.new n.new }
-{
-    match answer {
-        Ok(k) => {
-            *offset = 0;
-            *place = 0;
-            *n = k;
-            0
-        }
-        Err(r) => {
-            *offset = r.offset();
-            *place = r.place();
-            *n = 0;
-            r.number()
-        }
-    }
-}
+use names::entry::{
+    camel_to_screaming_snake, camel_to_snake, screaming_snake_to_pascal, singular_pascal,
+    snake_to_camel, strip_enum_prefix,
+};
+use refusals::report;
+use xmltoproto::xml_to_proto;
 
 /// Converts a document: its proto3 source, or its refusal. `records` and `text` are work buffers.
 #[unsafe(no_mangle)]
@@ -50,9 +33,10 @@ pub extern "C" fn sbe_xml_to_proto(
     place: &mut usize,
     n: &mut usize,
 ) -> u32
-    ensures { ConversionReports (answer_of document.now (length records.old) (length text.old)) output.old output.new result offset.new place.new n.new }
+    ensures { ConversionReports (answer_of document.now (length records.old) (length text.old))
+        output.old output.new result offset.new place.new n.new }
 {
-    let converted = xmltoproto::xml_to_proto(document, records, text, output);
+    let converted = xml_to_proto(document, records, text, output);
     report(converted, offset, place, n)
 }
 
@@ -65,10 +49,10 @@ pub extern "C" fn sbe_camel_to_snake(
     place: &mut usize,
     n: &mut usize,
 ) -> u32
-    ensures { NameReports (tested name.now) (camel_to_snake name.now) output.old output.new result offset.new place.new n.new }
+    ensures { NameReports (tested name.now) (camel_to_snake name.now) output.old
+        output.new result offset.new place.new n.new }
 {
-    let answer = names::entry::camel_to_snake(name, output);
-    report(answer, offset, place, n)
+    report(camel_to_snake(name, output), offset, place, n)
 }
 
 /// `names::entry::snake_to_camel` for C.
@@ -80,10 +64,10 @@ pub extern "C" fn sbe_snake_to_camel(
     place: &mut usize,
     n: &mut usize,
 ) -> u32
-    ensures { NameReports (tested name.now) (snake_to_camel name.now) output.old output.new result offset.new place.new n.new }
+    ensures { NameReports (tested name.now) (snake_to_camel name.now) output.old
+        output.new result offset.new place.new n.new }
 {
-    let answer = names::entry::snake_to_camel(name, output);
-    report(answer, offset, place, n)
+    report(snake_to_camel(name, output), offset, place, n)
 }
 
 /// `names::entry::camel_to_screaming_snake` for C.
@@ -95,10 +79,10 @@ pub extern "C" fn sbe_camel_to_screaming_snake(
     place: &mut usize,
     n: &mut usize,
 ) -> u32
-    ensures { NameReports (tested name.now) (camel_to_screaming_snake name.now) output.old output.new result offset.new place.new n.new }
+    ensures { NameReports (tested name.now) (camel_to_screaming_snake name.now) output.old
+        output.new result offset.new place.new n.new }
 {
-    let answer = names::entry::camel_to_screaming_snake(name, output);
-    report(answer, offset, place, n)
+    report(camel_to_screaming_snake(name, output), offset, place, n)
 }
 
 /// `names::entry::screaming_snake_to_pascal` for C.
@@ -110,10 +94,10 @@ pub extern "C" fn sbe_screaming_snake_to_pascal(
     place: &mut usize,
     n: &mut usize,
 ) -> u32
-    ensures { NameReports (tested name.now) (screaming_snake_to_pascal name.now) output.old output.new result offset.new place.new n.new }
+    ensures { NameReports (tested name.now) (screaming_snake_to_pascal name.now) output.old
+        output.new result offset.new place.new n.new }
 {
-    let answer = names::entry::screaming_snake_to_pascal(name, output);
-    report(answer, offset, place, n)
+    report(screaming_snake_to_pascal(name, output), offset, place, n)
 }
 
 /// `names::entry::singular_pascal` for C.
@@ -125,10 +109,10 @@ pub extern "C" fn sbe_singular_pascal(
     place: &mut usize,
     n: &mut usize,
 ) -> u32
-    ensures { NameReports (tested name.now) (singular_pascal name.now) output.old output.new result offset.new place.new n.new }
+    ensures { NameReports (tested name.now) (singular_pascal name.now) output.old
+        output.new result offset.new place.new n.new }
 {
-    let answer = names::entry::singular_pascal(name, output);
-    report(answer, offset, place, n)
+    report(singular_pascal(name, output), offset, place, n)
 }
 
 /// `names::entry::strip_enum_prefix` for C.
@@ -141,8 +125,14 @@ pub extern "C" fn sbe_strip_enum_prefix(
     place: &mut usize,
     n: &mut usize,
 ) -> u32
-    ensures { NameReports (tested_two value.now enum_name.now) (strip_enum_prefix value.now enum_name.now) output.old output.new result offset.new place.new n.new }
+    ensures { NameReports (tested_two value.now enum_name.now)
+        (strip_enum_prefix value.now enum_name.now) output.old
+        output.new result offset.new place.new n.new }
 {
-    let answer = names::entry::strip_enum_prefix(value, enum_name, output);
-    report(answer, offset, place, n)
+    report(
+        strip_enum_prefix(value, enum_name, output),
+        offset,
+        place,
+        n,
+    )
 }

@@ -22,7 +22,8 @@ use std::io::{self, ErrorKind, Read, Write};
 use texts::part;
 use xmltoproto::xml_to_proto;
 
-/// Prints `n` in decimal. Offsets and places are `usize`; `Output::decimal` takes a `u32`.
+/// Prints `n` in decimal. `Output::decimal` takes a `u32`, whose digits take fewer instructions;
+/// offsets and places are `usize`.
 fn write_number(out: &mut Output<'_>, n: usize)
     ensures { Wrote out.old out.new (decimal n) }
 {
@@ -58,7 +59,7 @@ impl Print for Line {
 }
 
 /// The line of `refusal`, printed into `output`.
-fn refuse<'a>(refusal: Refusal, output: &'a mut [u8; 65536]) -> &'a [u8]
+pub fn refusal_line<'a>(refusal: Refusal, output: &'a mut [u8; 65536]) -> &'a [u8]
     ensures { result.now ≡ refusal_line refusal }
 {
     let number = refusal.number();
@@ -86,7 +87,7 @@ pub fn reply<'a>(
 {
     match xml_to_proto(document, records, text, output) {
         Ok(n) => part(output, 0, n),
-        Err(refusal) => refuse(refusal, output),
+        Err(refusal) => refusal_line(refusal, output),
     }
 }
 
@@ -94,7 +95,8 @@ pub fn reply<'a>(
 /// `WriteZero`.
 fn write_whole<W: Write>(output: &mut W, text: &[u8]) -> io::Result<()>
     ensures all { OnOk result (Appends (W.contents output.old) (W.contents output.new) text.now) }
-    ensures front { OnErr result ((n : ℕ) × Front (W.contents output.old) (W.contents output.new) text.now n) }
+    ensures front { OnErr result
+        ((n : ℕ) × Front (W.contents output.old) (W.contents output.new) text.now n) }
 {
     let mut done = 0;
     // `while`: a write may take fewer bytes than given, so the step is not 1.
@@ -111,8 +113,10 @@ fn write_whole<W: Write>(output: &mut W, text: &[u8]) -> io::Result<()>
 /// Reads a document from `input`, and writes the reply to `output`. Fails with their first error:
 /// after one of `input` nothing is written, after one of `output` a prefix of the reply.
 pub fn serve<R: Read, W: Write>(input: &mut R, output: &mut W) -> io::Result<()>
-    ensures served { OnOk result (Served (R.remaining input.old) (R.remaining input.new) (W.contents output.old) (W.contents output.new)) }
-    ensures cut { OnErr result (CutOff (R.remaining input.old) (R.remaining input.new) (W.contents output.old) (W.contents output.new)) }
+    ensures served { OnOk result (Served (R.remaining input.old) (R.remaining input.new)
+        (W.contents output.old) (W.contents output.new)) }
+    ensures cut { OnErr result (CutOff (R.remaining input.old) (R.remaining input.new)
+        (W.contents output.old) (W.contents output.new)) }
 {
     let mut document = [0u8; 32769];
     let mut records = [0u32; 16384];

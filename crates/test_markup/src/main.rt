@@ -3,13 +3,13 @@
 //! tests/compare makes the sample with the Rust reference alone, without the code under test;
 //! `tests/run record` makes it again (tests/README.md). A line of input is the length of a document
 //! in four hex digits, a space, and the document in hex. A line of the answer is number, offset,
-//! place and n in decimal, then the n bytes of the events, in the form of the crate `test_probe`, in
-//! hex: all events, or those before the refusal.
+//! place and n in decimal, then the n bytes of the events in hex, in the form of the crate
+//! `test_probe`: all events, or those before the refusal.
 #![tactic(auto)]
 
 use printing::Output;
-use test_replaying::{print_answer, replay_lines, write_document, written};
 use std::io;
+use test_replaying::{print_answer, replay_lines, write_document, written};
 use texts::part;
 
 fn replay(rt: &HostRuntime, line: &[u8]) -> io::Result<()> {

@@ -21,8 +21,8 @@ use names::entry::{
 };
 use printing::Output;
 use refusals::Refusal;
-use test_replaying::{hex_number, print_answer, replay_lines, write_unhexed, written};
 use std::io;
+use test_replaying::{hex_number, print_answer, replay_lines, write_unhexed, written};
 use texts::{byte_at, part};
 
 /// Where the four numbers and the names begin in a line.

@@ -1,24 +1,8 @@
-//! The crate `test_probe` for C, a static library for tests alone: each function calls the one of its
-//! name there. The contracts promise safety and termination, and no more.
+//! The crate `test_probe` for C, a static library for tests alone: each function calls the one of
+//! its name there. The contracts promise safety and termination, and no more.
 #![tactic(auto)]
 
-use refusals::Refusal;
-
-/// Sets offset and place of a refusal, and returns its number; all are 0 where there is none.
-fn report(refusal: Option<Refusal>, offset: &mut usize, place: &mut usize) -> u32 {
-    match refusal {
-        Some(r) => {
-            *offset = r.offset();
-            *place = r.place();
-            r.number()
-        }
-        None => {
-            *offset = 0;
-            *place = 0;
-            0
-        }
-    }
-}
+use refusals::report;
 
 /// The events of a document, up to the end or a refusal (`test_probe::events`).
 #[unsafe(no_mangle)]
@@ -30,8 +14,13 @@ pub extern "C" fn probe_events(
     n: &mut usize,
 ) -> u32 {
     let reading = test_probe::events(document, output);
+    let answer = match reading.refusal {
+        Some(r) => Err(r),
+        None => Ok(reading.n),
+    };
+    let number = report(answer, offset, place, n);
     *n = reading.n;
-    report(reading.refusal, offset, place)
+    number
 }
 
 /// The model of a document (`test_probe::dump::schema`).
@@ -46,6 +35,5 @@ pub extern "C" fn probe_schema(
     n: &mut usize,
 ) -> u32 {
     let answer = test_probe::dump::schema(document, records, text, output);
-    *n = answer.unwrap_or(0);
-    report(answer.err(), offset, place)
+    report(answer, offset, place, n)
 }

@@ -1,13 +1,13 @@
-//! What the programs share that replay recorded answers (tests/README.md): lines in, hex in and
-//! out.
+//! What the programs that replay recorded answers share (tests/README.md): reading lines, and hex.
 //!
-//! A line of input has numbers of four hex digits, and bytes in hex. A line of output has number,
-//! offset, place and n in decimal, then bytes in hex. The contracts promise safety and termination,
-//! and little more.
+//! A line of input has numbers of four hex digits, and bytes in hex. A line of output is an answer:
+//! number, offset, place and n in decimal, then bytes in hex. The contracts promise safety and
+//! termination, and little more.
 #![tactic(auto)]
 
 ghost use Rattle.std.specs.Prelude.{◌<◌};
 
+use escaping::hex_digit;
 use inputs::read_full;
 use printing::Output;
 use refusals::Refusal;
@@ -38,15 +38,6 @@ pub fn hex_number(s: &[u8]) -> usize
     usize::from(high) * 256 + usize::from(low)
 }
 
-/// The hex digit of a number below 16, in lower case.
-fn hex_digit(n: u8) -> u8 {
-    match n {
-        0..=9 => 48 + n,
-        10..=15 => 87 + n,
-        _ => b'?',
-    }
-}
-
 /// Writes the bytes that `hex` stands for, one for each two digits.
 pub fn write_unhexed(out: &mut Output<'_>, hex: &[u8]) {
     for pair in hex.chunks(2) {
@@ -75,8 +66,8 @@ fn print_hex(rt: &impl Print, s: &[u8]) -> io::Result<()> {
     rt.write_all(written(&out))
 }
 
-/// Prints the line of an answer: number, offset and place of the refusal, 0 where there is none,
-/// `n`, and `s` in hex.
+/// Prints an answer: number, offset and place of the refusal, 0 where there is none, `n`, and `s`
+/// in hex.
 pub fn print_answer(
     rt: &impl Print,
     refusal: Option<Refusal>,
@@ -91,7 +82,8 @@ pub fn print_answer(
     print_hex(rt, s)
 }
 
-fn ends_line(b: &u8) -> bool {
+/// Whether the byte ends a line.
+pub fn ends_line(b: &u8) -> bool {
     *b == b'\n'
 }
 
@@ -119,11 +111,12 @@ pub fn write_document(out: &mut Output<'_>, line: &[u8]) {
     write_unhexed(out, part(line, DOCUMENT, 2 * hex_number(line)));
 }
 
-/// Calls `read` on the document of such a line, and prints its answer and the bytes that it wrote.
-pub fn replay_read<F>(rt: &HostRuntime, line: &[u8], read: F) -> io::Result<()>
+/// Calls `convert` on the document of such a line, and prints the answer with the bytes that it
+/// wrote.
+pub fn replay_document<F>(rt: &HostRuntime, line: &[u8], convert: F) -> io::Result<()>
 where
     F: Fn(&[u8], &mut [u32], &mut [u8], &mut [u8]) -> Result<usize, Refusal>,
-    requires { F.IsAlwaysCallable read }
+    requires { F.IsAlwaysCallable convert }
 {
     let mut document = [0u8; 65536];
     let mut records = [0u32; 16384];
@@ -131,7 +124,7 @@ where
     let mut out = [0u8; 65536];
     let mut d = Output::new(&mut document);
     write_document(&mut d, line);
-    let answer = read(written(&d), &mut records, &mut text, &mut out);
+    let answer = convert(written(&d), &mut records, &mut text, &mut out);
     let n = answer.unwrap_or(0);
     print_answer(rt, answer.err(), n, part(&out, 0, n))
 }

@@ -3,16 +3,16 @@
 //! tests/compare makes the sample with the Rust reference alone, without the code under test;
 //! `tests/run record` makes it again (tests/README.md). A line of input is the length of a document
 //! in four hex digits, a space, and the document in hex. A line of the answer is number, offset,
-//! place and n in decimal, then the n bytes of the model, in the form of crates/test_probe/src/dump.rt,
-//! in hex: the whole model, or nothing after a refusal.
+//! place and n in decimal, then the n bytes of the model in hex, in the form of
+//! crates/test_probe/src/dump.rt: the whole model, or nothing after a refusal.
 #![tactic(auto)]
 
-use test_probe::dump::schema;
-use test_replaying::{replay_lines, replay_read};
 use std::io;
+use test_probe::dump::schema;
+use test_replaying::{replay_document, replay_lines};
 
 fn replay(rt: &HostRuntime, line: &[u8]) -> io::Result<()> {
-    replay_read(rt, line, schema)
+    replay_document(rt, line, schema)
 }
 
 fn main(rt: HostRuntime) -> io::Result<()> {

@@ -11,17 +11,17 @@
 use inputs::read_full;
 use numbers::number_of;
 use printing::Output;
-use test_replaying::written;
 use service::serve;
 use std::io::{self, Read, Write};
+use test_replaying::{ends_line, written};
 
 /// A reader over a document that gives at most 1,000 bytes at a time.
 #[derive(Clone, Copy)]
-struct Bits<'a> {
+struct SlowReader<'a> {
     rest: &'a [u8],
 }
 
-impl Read for Bits<'_> {
+impl Read for SlowReader<'_> {
     fn read(&mut self, buf: &mut [u8]) -> io::Result<usize> {
         let most = buf.len().min(1000);
         self.rest.read(&mut buf[..most])
@@ -30,11 +30,11 @@ impl Read for Bits<'_> {
 
 /// A writer that takes at most 100 bytes at a time.
 #[derive(Drop)]
-struct Sips<W: Write + Drop> {
+struct SlowWriter<W: Write + Drop> {
     output: W,
 }
 
-impl<W: Write + Drop> Write for Sips<W> {
+impl<W: Write + Drop> Write for SlowWriter<W> {
     fn write(&mut self, buf: &[u8]) -> io::Result<usize> {
         let most = buf.len().min(100);
         self.output.write(&buf[..most])
@@ -49,12 +49,8 @@ fn is_tab(b: &u8) -> bool {
     *b == b'\t'
 }
 
-fn ends_line(b: &u8) -> bool {
-    *b == b'\n'
-}
-
 /// Writes the document of a line, and returns its name.
-fn write_told<'a>(out: &mut Output<'_>, line: &'a [u8]) -> &'a [u8] {
+fn write_document<'a>(out: &mut Output<'_>, line: &'a [u8]) -> &'a [u8] {
     let mut parts = line.split(is_tab);
     let name = parts.next().unwrap_or(b"");
     let count = number_of(parts.next().unwrap_or(b"")).unwrap_or(0);
@@ -68,15 +64,15 @@ fn write_told<'a>(out: &mut Output<'_>, line: &'a [u8]) -> &'a [u8] {
 }
 
 fn replay(rt: &HostRuntime, line: &[u8]) -> io::Result<()> {
-    let mut document = [0u8; 65536];
-    let mut out = Output::new(&mut document);
-    let name = write_told(&mut out, line);
-    let told = written(&out);
+    let mut buffer = [0u8; 65536];
+    let mut out = Output::new(&mut buffer);
+    let name = write_document(&mut out, line);
+    let document = written(&out);
     rt.write_all(name)?;
-    let length = told.len();
+    let length = document.len();
     println!(rt; ": {length} bytes")?;
-    let mut input = Bits { rest: told };
-    let mut output = Sips {
+    let mut input = SlowReader { rest: document };
+    let mut output = SlowWriter {
         output: rt.stdout(),
     };
     serve(&mut input, &mut output)?;

@@ -2,24 +2,23 @@
 //! standard output gets the lines of their sheets, one sheet after the other.
 //!
 //! `stdout` is written by hand from `stdin`, so that the printer is held to what a reader finds. A
-//! sheet begins with its `schema` line. A document that is refused gets one line instead:
-//! `refused`, number, offset and place, tab-separated.
+//! sheet begins with its `schema` line. A document that is refused gets the line of its refusal
+//! instead.
 #![tactic(auto)]
 
 use inputs::read_full;
 use model::view::View;
 use printing::Output;
 use refusals::Refusal;
-use test_replaying::written;
+use service::refusal_line;
 use std::io;
+use test_replaying::written;
 use wiresheet::sheet::write_sheet;
 use xmlschema::build::read_schema;
 
 fn print_refusal(rt: &impl Print, r: Refusal) -> io::Result<()> {
-    let number = r.number();
-    let offset = r.offset();
-    let place = r.place();
-    println!(rt; "refused\t{number}\t{offset}\t{place}")
+    let mut line = [0u8; 65536];
+    rt.write_all(refusal_line(r, &mut line))
 }
 
 fn print_sheet(rt: &impl Print, schema: View<'_>) -> io::Result<()> {
@@ -29,8 +28,8 @@ fn print_sheet(rt: &impl Print, schema: View<'_>) -> io::Result<()> {
     rt.write_all(written(&out))
 }
 
-/// Prints the sheet of a document, or its refusal.
-fn show(rt: &impl Print, document: &[u8]) -> io::Result<()> {
+/// Prints the sheet of a document, or the line of its refusal.
+fn print_document(rt: &impl Print, document: &[u8]) -> io::Result<()> {
     let mut records = [0u32; 16384];
     let mut text = [0u8; 65536];
     match read_schema(document, &mut records, &mut text) {
@@ -40,15 +39,15 @@ fn show(rt: &impl Print, document: &[u8]) -> io::Result<()> {
 }
 
 /// Whether the byte separates two documents; none of them has it.
-fn parts_documents(b: &u8) -> bool {
+fn ends_document(b: &u8) -> bool {
     *b == b'%'
 }
 
 fn main(rt: HostRuntime) -> io::Result<()> {
     let mut input = [0u8; 65536];
     let n = read_full(&mut rt.stdin(), &mut input)?;
-    for document in input[..n].split(parts_documents) {
-        show(&rt, document)?;
+    for document in input[..n].split(ends_document) {
+        print_document(&rt, document)?;
     }
     Ok(())
 }

@@ -8,12 +8,12 @@
 //! after a refusal.
 #![tactic(auto)]
 
-use test_replaying::{replay_lines, replay_read};
 use std::io;
+use test_replaying::{replay_document, replay_lines};
 use xmltoproto::xml_to_proto;
 
 fn replay(rt: &HostRuntime, line: &[u8]) -> io::Result<()> {
-    replay_read(rt, line, xml_to_proto)
+    replay_document(rt, line, xml_to_proto)
 }
 
 fn main(rt: HostRuntime) -> io::Result<()> {

@@ -8,6 +8,7 @@
 
 use names::entry::{camel_to_screaming_snake, camel_to_snake, singular_pascal};
 use refusals::Refusal;
+use service::refusal_line;
 use std::io;
 use texts::part;
 use xmltoproto::xml_to_proto;
@@ -18,10 +19,9 @@ fn print_answer(rt: &impl Print, input: &[u8], answer: Result<usize, Refusal>) -
     match answer {
         Ok(n) => println!(rt; "\taccepted\t{n}"),
         Err(r) => {
-            let number = r.number();
-            let offset = r.offset();
-            let place = r.place();
-            println!(rt; "\trefused\t{number}\t{offset}\t{place}")
+            let mut line = [0u8; 65536];
+            rt.write_all(b"\t")?;
+            rt.write_all(refusal_line(r, &mut line))
         }
     }
 }

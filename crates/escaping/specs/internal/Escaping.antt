@@ -1,5 +1,5 @@
--- The kinds of escapes, and the bytes of a run.
-use Rattle.std.specs.Prelude.{Bool, List, [], ◌∷◌, ◌++◌, ℕ, eqb, length}
+-- The kinds of escapes, the bytes of a run, and the table of the escapes' lengths.
+use Rattle.std.specs.Prelude.{◌≡◌, Bool, List, [], ◌∷◌, ◌++◌, ℕ, ◌<◌, eqb, length, slice_index_or}
 use Rattle.texts.specs.Text.{ascii}
 use Rattle.escaping.specs.Escape.{hex, escaped}
 use Rattle.escaping.specs.declared.Kind.{Kind}
@@ -14,3 +14,7 @@ shown_as Hex b = ascii "\\u{" ++ hex b ++ ascii "}"
 -- a byte stands for itself: its escape has one byte
 unfoldable pub stands : ℕ → Bool
 stands b = eqb (length (escaped b)) 1
+
+-- a lookup table has the length of the escape of each byte that it has an entry for
+abbrev pub NotesLengths : List ℕ → Type 0
+NotesLengths noted = (b : ℕ) → b < length noted → slice_index_or noted b 0 ≡ length (escaped b)

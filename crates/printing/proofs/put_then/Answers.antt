@@ -1,4 +1,5 @@
 use native.Mathlib.Omega.{arith}
+use Rattle.printing.proofs.Sequencing.{◌▸◌}
 use Rattle.printing.proofs.Passing.{then-within, then-printed}
 use Rattle.printing.proofs.put_then.Goals as goal
 
@@ -10,3 +11,6 @@ overflow_add-result c = omega (arith, then-within c.args.s.now c.copy-p.ensures 
 
 pub returns-then-s-out : goal.returns-then-s-out
 returns-then-s-out c = then-printed c.args.s.now c.copy-p.ensures (omega arith) (omega arith) c.args.b
+
+pub returns : goal.returns
+returns c = c.put_cut-p.ensures ▸ c.put_byte.ensures

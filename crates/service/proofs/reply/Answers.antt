@@ -8,4 +8,4 @@ returns-in-Ok c =
 
 pub returns-in-Err : goal.returns-in-Err
 returns-in-Err c =
-    replied-line c.args.document.now c.args.records.now c.args.text.now c.args.output.now (search rules) (search rules) (search rules) c.xml_to_proto.ensures c.in-Err.is c.refuse.ensures
+    replied-line c.args.document.now c.args.records.now c.args.text.now c.args.output.now (search rules) (search rules) (search rules) c.xml_to_proto.ensures c.in-Err.is c.refusal_line.ensures

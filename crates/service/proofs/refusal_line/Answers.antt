@@ -1,6 +1,6 @@
 use Rattle.std.proofs.Common.{rules}
 use Rattle.service.proofs.Lines.{line-printed}
-use Rattle.service.proofs.refuse.Goals as goal
+use Rattle.service.proofs.refusal_line.Goals as goal
 
 pub returns : goal.returns
 returns c =
