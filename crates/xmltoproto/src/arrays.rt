@@ -23,6 +23,7 @@ trait ArrayTest {
 }
 
 /// Whether some item of a kind under an owner passes.
+#[tactic(auto, using(crate::proofs::Looping::asking))]
 fn any_child<T: ArrayTest>(s: &Index<'_>, kind: u32, owner: u32, by: &T) -> bool
     ensures { result ≡ any (T.test s.now) (under kind owner s.now) }
 {
@@ -35,6 +36,7 @@ fn any_child<T: ArrayTest>(s: &Index<'_>, kind: u32, owner: u32, by: &T) -> bool
 }
 
 /// The first item of a kind that passes, as its place among the items of that kind, from 0.
+#[tactic(auto, using(crate::proofs::Looping::seeking))]
 fn first_place<T: ArrayTest>(s: &Index<'_>, kind: u32, by: &T) -> Option<u32>
     ensures { result ≡ first_from 0 (T.test s.now) (all_of kind s.now) }
 {

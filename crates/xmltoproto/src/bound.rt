@@ -66,6 +66,7 @@ fn named_most(n: u32, word: u32) -> usize
 
 /// The most bytes of the comment on an encoding of `e` bytes, each of them six at most when quoted;
 /// no comment where it is absent.
+#[tactic(auto, unfolding(crate::specs::internal::Bound::note_most))]
 fn note_most(e: u32) -> usize
     ensures { (result ≡ note_most e) × (result < 2 ^ 36) }
 {
@@ -74,6 +75,7 @@ fn note_most(e: u32) -> usize
 
 /// The most bytes of the line of the type or member at `t`, under a name of `n` bytes, with its
 /// option and its comment.
+#[tactic(auto, unfolding(crate::specs::Types::form_of), using(crate::proofs::Covering::bounds))]
 fn typed_most(s: &Index<'_>, n: u32, t: u32) -> usize
     ensures { Covers result (typed_most n 10 (form_of (item_at s.now t))) }
 {
@@ -83,6 +85,7 @@ fn typed_most(s: &Index<'_>, n: u32, t: u32) -> usize
 
 /// The most bytes of the line of the field at `i`. It requires what `Index::field_declared`
 /// requires: by `declared`, which requires nothing, a conversion takes 2 % longer.
+#[tactic(auto, unfolding(crate::specs::internal::Bound::field_most, crate::specs::internal::Bound::note_most, crate::specs::Types::built_in), using(crate::proofs::Covering::bounds))]
 fn field_most(s: &Index<'_>, i: u32) -> usize
     requires { (length s.now.items ≤ 1024) × ((item_at s.now i).kind ≡ a_field) }
     ensures { Covers result (field_most s.now (item_at s.now i)) }
@@ -107,6 +110,7 @@ fn value_most(s: &Index<'_>, i: u32) -> usize
 }
 
 /// The most bytes that the item at `i` adds, without the items that it holds.
+#[tactic(auto, unfolding(crate::specs::internal::Bound::share), using(crate::proofs::Covering::bounds))]
 fn item_most(s: &Index<'_>, i: u32) -> usize
     requires { length s.now.items ≤ 1024 }
     ensures { Covers result (share s.now i) }
@@ -128,6 +132,7 @@ fn item_most(s: &Index<'_>, i: u32) -> usize
 }
 
 /// At least the length of the source. At most 1,024 items, so that the sum fits.
+#[tactic(auto, using(crate::proofs::Covering::bounds))]
 pub fn source_most(s: &Index<'_>) -> usize
     requires { length s.now.items ≤ 1024 }
     ensures { length (source s.now) ≤ result }
