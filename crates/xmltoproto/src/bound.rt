@@ -44,8 +44,8 @@ const COMPOSITE_FRAME: usize = 8 + 3 + 3;
 /// A composite's, and `  option (sbe.template_id) = ` with the end.
 const MESSAGE_FRAME: usize = COMPOSITE_FRAME + 29 + 2;
 
-/// `  message `, ` {` and the end of a line; `  }` and the end, `  repeated `, a space, ` = ` and the
-/// end.
+/// `  message `, ` {` and the end of a line; `  }` and the end; `  repeated `, a space, ` = ` and
+/// the end.
 const GROUP_FRAME: usize = 10 + 3 + 4 + 11 + 1 + 3 + 2;
 
 /// The header: `syntax = "proto3";`, `package ` with its end, the import, and the two options.
