@@ -9,7 +9,8 @@ use Rattle.xmlschema.specs.Whole.{Whole, accepted, refused_by, answer_of}
 use Rattle.xmltoproto.specs.Source.{source}
 use Rattle.xmltoproto.specs.Convert.{converted, source_in, Converts}
 use Rattle.xmltoproto.proofs.Converting.{converted-length}
-use Rattle.wiresheet.specs.SameSource.{SameBytes, SameSource, Decides}
+use Rattle.wiresheet.specs.SameSource.{SameBytes, SameSource, PrintedPlain}
+use Rattle.wiresheet.specs.Sheet.{sheet}
 use Rattle.wiresheet.proofs.Unique.{source-decides, sheet-decides}
 
 -- ---- what a call that printed left
@@ -43,16 +44,16 @@ module _ (docA : List ℕ) (RA BA : ℕ) (outA outA' : List ℕ) (docB : List �
   same-bytes ea eb e = (sym (left-length docA RA BA outA outA' ca ea) ∙ ap length e ∙ left-length docB RB BB outB outB' cb eb, e)
 
   -- of any documents, the bytes that were compared
-  pub same-told : {n m : ℕ} → a ≡ Ok n → b ≡ Ok m → {x y : List ℕ} → x ≡ piece outA' 0 n → y ≡ piece outB' 0 m → {v : Bool} → v ≡ same x y
+  pub same-printed : {n m : ℕ} → a ≡ Ok n → b ≡ Ok m → {x y : List ℕ} → x ≡ piece outA' 0 n → y ≡ piece outB' 0 m → {v : Bool} → v ≡ same x y
       → IsTrue v ↔ SameSource a outA' b outB'
-  same-told {n} {m} ea eb {x} {y} ex ey ev =
+  same-printed {n} {m} ea eb {x} {y} ex ey ev =
       rw (ea, eb) (
         (λ t. same-bytes ea eb (sym ex ∙ same-equal x y (sym ev ∙ t) ∙ ey)),
         (λ h. ev ∙ equal-same (ex ∙ h.1 ∙ sym ey)),
       )
 
   -- of plain ones, the sheets
-  pub decided : Decides (answer_of docA RA BA) a outA' (answer_of docB RB BB) b outB'
+  pub decided : (s t : Schema) (n m : ℕ) → PrintedPlain (answer_of docA RA BA) a s n → PrintedPlain (answer_of docB RB BB) b t m → SameBytes n outA' m outB' ↔ (sheet s ≡ sheet t)
   decided s t n m p q =
       let f : take n outA' ≡ source s = left-source docA RA BA outA outA' ca p.printed s p.is in
       let g : take m outB' ≡ source t = left-source docB RB BB outB outB' cb q.printed t q.is in (

@@ -54,15 +54,15 @@ unfolding pair
 escaped-unique a b =
     by-test (ltb a 128)
     (λ p. let la = ltb-true a 128 p in by-test (ltb b 128)
-    (λ q. told (eqb a b) refl (below_at (pair a) 128 (below_at (λ n. below (pair n) 128) 128 pairs a la) b (ltb-true b 128 q)))
+    (λ q. tested (eqb a b) refl (below_at (pair a) 128 (below_at (λ n. below (pair n) 128) 128 pairs a la) b (ltb-true b 128 q)))
     (λ q. let lb = ltb-false b 128 q in rw (large b lb) (beyond (escaped a) b (small a la) lb)))
     (λ p. let la = ltb-false a 128 p in by-test (ltb b 128)
     (λ q. rw (large a la) (flip (beyond (escaped b) a (small b (ltb-true b 128 q)) la)))
     (λ q. rw (large a la, large b (ltb-false b 128 q)) (byte a b λ e. done [] e)))
   where
-    told : (t : Bool) → eqb a b ≡ t → T (t or differs (escaped a) (escaped b)) → Splits (escaped a) (escaped b) (a ≡ b)
-    told true e h = subst (λ n. Splits (escaped a) (escaped n) (a ≡ n)) (eqb-true a b e) (done (escaped a) refl)
-    told false e h = apart h
+    tested : (t : Bool) → eqb a b ≡ t → T (t or differs (escaped a) (escaped b)) → Splits (escaped a) (escaped b) (a ≡ b)
+    tested true e h = subst (λ n. Splits (escaped a) (escaped n) (a ≡ n)) (eqb-true a b e) (done (escaped a) refl)
+    tested false e h = apart h
 
 -- no escape begins with a quote
 closes : (a : ℕ) → Splits (escaped a) (ascii "\"") ⊥

@@ -191,14 +191,14 @@ mark-unique (sized m) (sized n) g h =
 abbrev rest : List ℕ → Mark → List ℕ → ℕ → List ℕ
 rest w m x n = w ▹ ascii " " ▹ x ▹ ascii " = " ▹ decimal n ▹ tail m
 
-record Told (w w' : List ℕ) (m m' : Mark) (x x' : List ℕ) (n n' : ℕ) : Type 0 where
+record Agree (w w' : List ℕ) (m m' : Mark) (x x' : List ℕ) (n n' : ℕ) : Type 0 where
   word : w ≡ w'
   mark : m ≡ m'
   name : x ≡ x'
   number : n ≡ n'
 
 module _ (a b : View) (ha : OkView a) (hb : OkView b) (x y : List ℕ) (hx : Free 32 x) (hy : Free 32 y) (m n : ℕ) where
-  rest-unique : Splits (rest a.word a.mark x m) (rest b.word b.mark y n) (Told a.word b.word a.mark b.mark x y m n)
+  rest-unique : Splits (rest a.word a.mark x m) (rest b.word b.mark y n) (Agree a.word b.word a.mark b.mark x y m n)
   rest-unique =
       token (but 32) a.word b.word ha.word hb.word tt tt λ w.
       lit (ascii " ") (token (but 32) x y hx hy tt tt λ p.
@@ -249,10 +249,10 @@ line-unique indent k l x y m n hk hl hx hy = rw (line-is indent k x m, line-is i
     kb : Known l
     kb = known l hl
 
-    both : Splits (rest a.word a.mark x m) (rest b.word b.mark y n) (Told a.word b.word a.mark b.mark x y m n)
+    both : Splits (rest a.word a.mark x m) (rest b.word b.mark y n) (Agree a.word b.word a.mark b.mark x y m n)
     both = rest-unique a b ka.ok kb.ok x y hx hy m n
 
-    go : (d e : Option (List ℕ)) → Splits (above indent d (indent ▹ rest a.word a.mark x m)) (above indent e (indent ▹ rest b.word b.mark y n)) ((d ≡ e) × Told a.word b.word a.mark b.mark x y m n)
+    go : (d e : Option (List ℕ)) → Splits (above indent d (indent ▹ rest a.word a.mark x m)) (above indent e (indent ▹ rest b.word b.mark y n)) ((d ≡ e) × Agree a.word b.word a.mark b.mark x y m n)
     go none none = lit indent (gives both λ r. (refl, r))
     go none (some e) = lit indent (token (but 32) a.word (ascii "//") ka.ok.word tt tt tt λ q. absurd (opener a ka.ok (ascii "//") tt q))
     go (some d) none = lit indent (token (but 32) (ascii "//") b.word tt kb.ok.word tt tt λ q. absurd (opener b kb.ok (ascii "//") tt (sym q)))
@@ -260,7 +260,7 @@ line-unique indent k l x y m n hk hl hx hy = rw (line-is indent k x m, line-is i
         lit indent (lit (ascii "// SBE characterEncoding ") (seq (quoted-unique d e) λ q.
         lit (ascii " is not UTF-8 compatible, so this field is bytes.\n") (lit indent (gives both λ r. (ap some q, r)))))
 
-    finish : a.encoding ≡ b.encoding → Told a.word b.word a.mark b.mark x y m n → Same k l x y m n
+    finish : a.encoding ≡ b.encoding → Agree a.word b.word a.mark b.mark x y m n → Same k l x y m n
     finish e r = record { kind = sym ka.back ∙ (λ i. kind_in (e i) (r.word i) (r.mark i)) ∙ kb.back; name = r.name; number = r.number }
 
 -- it begins with its indent

@@ -37,12 +37,11 @@ pub record PrintedPlain (read : Whole) (answer : Answer) (s : Schema) (n : ℕ) 
   pub plain : Plain s
   pub printed : answer ≡ Ok n
 
--- two documents were read as `a` and `b`, the calls answered `x` and `y` and left the two outputs:
--- where both schemas are plain and printed, the sources are the same exactly when the sheets are
--- equal
-abbrev pub Decides : Whole → Answer → List ℕ → Whole → Answer → List ℕ → Type 0
+-- with what is lent as `a` and `b` the calls answered `x` and `y` and left the two outputs: where
+-- both schemas are plain and printed, the sources are the same exactly when the sheets are equal
+abbrev pub Decides : Lent → Answer → List ℕ → Lent → Answer → List ℕ → Type 0
 Decides a x out b y out' =
-    (s t : Schema) (n m : ℕ) → PrintedPlain a x s n → PrintedPlain b y t m
+    (s t : Schema) (n m : ℕ) → PrintedPlain (read_as a) x s n → PrintedPlain (read_as b) y t m
     → SameBytes n out m out' ↔ (sheet s ≡ sheet t)
 
 -- ---- of schemas alone

@@ -9,7 +9,7 @@
 pub mod sheet;
 
 ghost use Rattle.std.specs.Prelude.{◌↔◌, IsTrue};
-ghost use Rattle.wiresheet.specs.SameSource.{read_as, Called, SameSource, Decides, SourceTells, SheetTells};
+ghost use Rattle.wiresheet.specs.SameSource.{Called, SameSource, Decides, SourceTells, SheetTells};
 
 use refusals::Refusal;
 use texts::{equal, part};
@@ -34,20 +34,20 @@ pub struct Compared {
 /// refused. The buffers may hold anything.
 pub fn same_source(
     a: &mut Lent<'_>,
-    output_a: &mut [u8],
+    out_a: &mut [u8],
     b: &mut Lent<'_>,
-    output_b: &mut [u8],
+    out_b: &mut [u8],
 ) -> Compared
-    ensures first { Called a.old output_a.old output_a.new result.first }
-    ensures second { Called b.old output_b.old output_b.new result.second }
-    ensures same { IsTrue result.same ↔ SameSource result.first output_a.new result.second output_b.new }
-    ensures sheets { Decides (read_as a.old) result.first output_a.new (read_as b.old) result.second output_b.new }
+    ensures first { Called a.old out_a.old out_a.new result.first }
+    ensures second { Called b.old out_b.old out_b.new result.second }
+    ensures is { IsTrue result.same ↔ SameSource result.first out_a.new result.second out_b.new }
+    ensures sheets { Decides a.old result.first out_a.new b.old result.second out_b.new }
 {
-    let first = xml_to_proto(a.document, a.records, a.text, output_a);
-    let second = xml_to_proto(b.document, b.records, b.text, output_b);
+    let first = xml_to_proto(a.document, a.records, a.text, out_a);
+    let second = xml_to_proto(b.document, b.records, b.text, out_b);
     match (first, second) {
         (Ok(n), Ok(m)) => {
-            let same = equal(part(output_a, 0, n), part(output_b, 0, m));
+            let same = equal(part(out_a, 0, n), part(out_b, 0, m));
             Compared {
                 first,
                 second,

@@ -1,17 +1,15 @@
 //! Prints the wire sheet of a schema as lines (specs/Sheet.antt).
 #![tactic(auto, unfolding(crate::proofs::Sheets::on_lines), using(crate::proofs::Sheets::lines))]
 
-ghost use Rattle.std.specs.Prelude.{[]};
-ghost use Rattle.texts.specs.Choice.{pick};
 ghost use Rattle.printing.specs.Written.{Wrote};
 ghost use Rattle.model.specs.Schema.{item_at};
 ghost use Rattle.xmltoproto.specs.Types.{form, form_of, meaning};
-ghost use Rattle.xmltoproto.specs.Composites.{is_printed};
 ghost use Rattle.wiresheet.specs.Sheet.{named, kind_of, kind_by, value_of, enum_of, member_of, ref_of};
 ghost use Rattle.wiresheet.specs.Sheet.{composite_of, field_of, group_of, message_of, sheet};
 ghost use Rattle.wiresheet.specs.Sheet.{kind_shown, enum_shown, composite_shown, field_shown};
 ghost use Rattle.wiresheet.specs.Sheet.{group_shown, message_shown, sheet_lines};
-ghost use Rattle.wiresheet.specs.internal.SheetLines.{value_shown, part_shown, group_line, schema_line};
+ghost use Rattle.wiresheet.specs.internal.SheetLines.{value_shown, part_shown};
+ghost use Rattle.wiresheet.specs.internal.SheetLines.{composite_lines, group_line, schema_line};
 
 use charsets::is_compatible;
 use index::LINKS_1024;
@@ -165,7 +163,7 @@ fn write_composite(out: &mut Output<'_>, s: &Index<'_>, i: u32)
 struct CompositeLines;
 
 impl ItemText for CompositeLines {
-    ghost text = { λ t s i. pick (is_printed (item_at s i)) (composite_shown (composite_of s i)) [] };
+    ghost text = { λ t s i. composite_lines s i };
 
     fn write(&self, out: &mut Output<'_>, s: &Index<'_>, i: u32) {
         if is_printed(s.view(), i) {

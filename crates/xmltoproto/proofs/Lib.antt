@@ -14,3 +14,4 @@ pub mod Arrayless
 pub mod Generating
 pub mod Converting
 pub mod Digits
+pub mod Opened

@@ -141,6 +141,8 @@ module _ {t : ℕ → Bool} {l left : List ℕ} (inv : Asking t l left) where
   unfolding any
   asking-end e = sym (ap (any t) e) ∙ inv.rest
 
+pub ruleset asking = (asking-yes, asking-on, asking-end)
+
 -- ---- the place of the first position of l that passes a test: none of the k so far did
 
 pub record Seeking (t : ℕ → Bool) (l left : List ℕ) (k : ℕ) : Type 0 where
@@ -169,3 +171,5 @@ module _ {t : ℕ → Bool} {l left : List ℕ} {k : ℕ} (inv : Seeking t l lef
   pub seeking-end : left ≡ [] → None ≡ first_from 0 t l
   unfolding first_from
   seeking-end e = sym (ap (first_from k t) e) ∙ inv.rest
+
+pub ruleset seeking = (seeking-yes, seeking-on, seeking-end)

@@ -73,11 +73,11 @@ module _ (P Q : ℕ → Bool) (o : ℕ → ℕ) (N : ℕ) where
   pub by-owner : (a : ℕ → ℕ) (h : ℕ → ℕ → ℕ) (n : ℕ)
       → sum_to (λ e. pick (P e) (a e + sum_to (λ v. pick (Q v and eqb (o v) e) (h e v) 0) n) 0) N ≤ sum_to (λ e. pick (P e) (a e) 0) N + sum_to (λ v. pick (Q v and P (o v)) (h (o v) v) 0) n
   unfolding sum_to
-  by-owner a h zero = omega (arith, sum_less (λ e. pick (P e) (a e + 0) 0) (λ e. pick (P e) (a e) 0) (λ e. last (P e) (a e)) N)
+  by-owner a h zero = omega (arith, sum_less (λ e. pick (P e) (a e + 0) 0) (λ e. pick (P e) (a e) 0) (λ e. alone (P e) (a e)) N)
     where
-      last : (b : Bool) (x : ℕ) → pick b (x + 0) 0 ≤ pick b x 0
-      last true x = omega arith
-      last false x = omega arith
+      alone : (b : Bool) (x : ℕ) → pick b (x + 0) 0 ≤ pick b x 0
+      alone true x = omega arith
+      alone false x = omega arith
   by-owner a h (suc n) =
       omega
       (arith, sum-apart P a (λ e. sum_to (λ v. pick (Q v and eqb (o v) e) (h e v) 0) n) (λ e. pick (Q n and eqb (o n) e) (h e n) 0) N, by-owner a h n, one-owner h n)

@@ -1,10 +1,12 @@
 //! Refusals 40 and 41: arrays that no proto field represents, found before anything is written.
+#![tactic(auto, unfolding(crate::proofs::Opened::on_arrays))]
+
 ghost use Rattle.std.specs.Prelude.{◌≡◌, Bool, false, ℕ};
 ghost use Rattle.texts.specs.Lists.{any};
 ghost use Rattle.model.specs.Schema.{Schema, item_at, under, all_of};
 ghost use Rattle.xmltoproto.specs.Types.{form_of, is_array, meaning};
-ghost use Rattle.xmltoproto.specs.Arrays.{first_from, refused_composite, is_array_type, holds_array};
-ghost use Rattle.xmltoproto.specs.Arrays.{refused_message, array_refusal};
+ghost use Rattle.xmltoproto.specs.Arrays.{first_from, refused_composite, is_array_type};
+ghost use Rattle.xmltoproto.specs.Arrays.{holds_array, refused_message, array_refusal};
 ghost use Rattle.xmltoproto.specs.internal.Refusing.{refusing, Arrayless};
 
 use crate::composites::is_printed;
@@ -24,6 +26,7 @@ trait ArrayTest {
 }
 
 /// Whether some item of a kind under an owner passes.
+#[tactic(auto, using(crate::proofs::Looping::asking))]
 fn any_child<T: ArrayTest>(s: &Index<'_>, kind: u32, owner: u32, by: &T) -> bool
     ensures { result ≡ any (T.test s.now) (under kind owner s.now) }
 {
@@ -36,6 +39,7 @@ fn any_child<T: ArrayTest>(s: &Index<'_>, kind: u32, owner: u32, by: &T) -> bool
 }
 
 /// The first item of a kind that passes, as its place among the items of that kind, from 0.
+#[tactic(auto, using(crate::proofs::Looping::seeking))]
 fn first_place<T: ArrayTest>(s: &Index<'_>, kind: u32, by: &T) -> Option<u32>
     ensures { result ≡ first_from 0 (T.test s.now) (all_of kind s.now) }
 {
@@ -51,7 +55,6 @@ fn first_place<T: ArrayTest>(s: &Index<'_>, kind: u32, by: &T) -> Option<u32>
 
 /// Whether the type or member at `i` is such an array. Only where it has a length above 1 its
 /// primitive is looked at.
-#[tactic(auto, unfolding(crate::specs::Types::form_of, crate::specs::Types::is_array, crate::specs::Types::is_char, crate::specs::Types::is_byte))]
 fn is_array(s: &Index<'_>, i: u32) -> bool
     ensures { result ≡ is_array (form_of (item_at s.now i)) }
 {
@@ -75,7 +78,6 @@ impl ArrayTest for ArrayMember {
 /// Passes a printed composite that holds such a member.
 struct RefusedComposite;
 
-#[tactic(auto, unfolding(crate::specs::Arrays::refused_composite))]
 impl ArrayTest for RefusedComposite {
     ghost test = { refused_composite };
 
@@ -90,7 +92,7 @@ impl ArrayTest for RefusedComposite {
 /// Passes a field whose type is such an array.
 struct ArrayField;
 
-#[tactic(auto, unfolding(crate::specs::Types::is_array, crate::specs::Types::built_in), using(crate::proofs::Typing::meanings))]
+#[tactic(auto, unfolding(crate::proofs::Opened::on_arrays), using(crate::proofs::Typing::meanings))]
 impl ArrayTest for ArrayField {
     ghost test = { λ s i. is_array_type (meaning s (item_at s i).second) };
 
@@ -107,7 +109,6 @@ impl ArrayTest for ArrayField {
 /// Passes a message or group that holds such a field.
 struct ArrayHolder;
 
-#[tactic(auto, unfolding(crate::specs::Arrays::holds_array))]
 impl ArrayTest for ArrayHolder {
     ghost test = { holds_array };
 
@@ -119,7 +120,6 @@ impl ArrayTest for ArrayHolder {
 /// Passes a message that holds such a field, itself or in one of its groups.
 struct RefusedMessage;
 
-#[tactic(auto, unfolding(crate::specs::Arrays::refused_message))]
 impl ArrayTest for RefusedMessage {
     ghost test = { refused_message };
 
@@ -147,7 +147,6 @@ fn has_arrays(s: &Index<'_>) -> bool
 }
 
 /// Refuses by 40 for the first such composite, or else by 41 for the first such message.
-#[tactic(auto, unfolding(crate::specs::Arrays::array_refusal))]
 fn first_refusal(s: &Index<'_>) -> Result<(), Refusal>
     ensures { result ≡ refusing (array_refusal s.now) }
 {

@@ -45,8 +45,8 @@ const COMPOSITE_FRAME: usize = 8 + 3 + 3;
 /// A composite's, and `  option (sbe.template_id) = ` with the end.
 const MESSAGE_FRAME: usize = COMPOSITE_FRAME + 29 + 2;
 
-/// `  message `, ` {` and the end of a line; `  }` and the end, `  repeated `, a space, ` = ` and the
-/// end.
+/// `  message `, ` {` and the end of a line; `  }` and the end; `  repeated `, a space, ` = ` and
+/// the end.
 const GROUP_FRAME: usize = 10 + 3 + 4 + 11 + 1 + 3 + 2;
 
 /// The header: `syntax = "proto3";`, `package ` with its end, the import, and the two options.
@@ -67,6 +67,7 @@ fn named_most(n: u32, word: u32) -> usize
 
 /// The most bytes of the comment on an encoding of `e` bytes, each of them six at most when quoted;
 /// no comment where it is absent.
+#[tactic(auto, unfolding(crate::specs::internal::Bound::note_most))]
 fn note_most(e: u32) -> usize
     ensures { (result ≡ note_most e) × (result < 2 ^ 36) }
 {
@@ -75,6 +76,7 @@ fn note_most(e: u32) -> usize
 
 /// The most bytes of the line of the type or member at `t`, under a name of `n` bytes, with its
 /// option and its comment.
+#[tactic(auto, unfolding(crate::specs::Types::form_of), using(crate::proofs::Covering::bounds))]
 fn typed_most(s: &Index<'_>, n: u32, t: u32) -> usize
     ensures { Covers result (typed_most n 10 (form_of (item_at s.now t))) }
 {
@@ -84,6 +86,7 @@ fn typed_most(s: &Index<'_>, n: u32, t: u32) -> usize
 
 /// The most bytes of the line of the field at `i`. It requires what `Index::field_declared`
 /// requires: by `declared`, which requires nothing, a conversion takes 2 % longer.
+#[tactic(auto, unfolding(crate::specs::internal::Bound::field_most, crate::specs::internal::Bound::note_most, crate::specs::Types::built_in), using(crate::proofs::Covering::bounds))]
 fn field_most(s: &Index<'_>, i: u32) -> usize
     requires { (item_at s.now i).kind ≡ a_field }
     ensures { Covers result (field_most s.now (item_at s.now i)) }
@@ -108,6 +111,7 @@ fn value_most(s: &Index<'_>, i: u32) -> usize
 }
 
 /// The most bytes that the item at `i` adds, without the items that it holds.
+#[tactic(auto, unfolding(crate::specs::internal::Bound::share), using(crate::proofs::Covering::bounds))]
 fn item_most(s: &Index<'_>, i: u32) -> usize
     ensures { Covers result (share s.now i) }
 {
@@ -128,6 +132,7 @@ fn item_most(s: &Index<'_>, i: u32) -> usize
 }
 
 /// At least the length of the source. A model has at most 1,024 items, so the sum fits.
+#[tactic(auto, using(crate::proofs::Covering::bounds))]
 pub fn source_most(s: &Index<'_>) -> usize
     ensures { length (source s.now) ≤ result }
 {

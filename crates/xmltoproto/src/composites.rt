@@ -9,7 +9,7 @@ ghost use Rattle.xmltoproto.specs.Composites.{is_printed};
 ghost use Rattle.xmltoproto.specs.Source.{member_text, ref_text, part_texts, composite_text};
 ghost use Rattle.xmltoproto.specs.internal.Parts.{Members, member_texts, ref_texts};
 
-use crate::line::{write_line, write_typed};
+use crate::line::{write_formed, write_line};
 use crate::types::Shape;
 use crate::walk::ItemText;
 use index::seen::Index;
@@ -23,7 +23,7 @@ use texts::equal;
 fn write_member(out: &mut Output<'_>, s: &Index<'_>, i: u32, number: u32)
     ensures { Wrote out.old out.new (member_text number (item_at s.now i)) }
 {
-    write_typed(out, s, false, i, s.name(i), number);
+    write_formed(out, s, false, i, s.name(i), number);
 }
 
 /// Writes the line of the ref at `i`.

@@ -42,7 +42,7 @@ fn prefix_width(name: &[u8]) -> usize
 /// Writes a prefix of `width` bytes that stands in the output at `stood` already, or nowhere if
 /// that is past the output's end. It is copied, or skipped where the output is full; the name is
 /// converted again only for the first value and where the copy would not fit.
-fn write_known_prefix(out: &mut Output<'_>, name: &[u8], width: usize, stood: usize)
+fn write_prefix_again(out: &mut Output<'_>, name: &[u8], width: usize, stood: usize)
     requires { Prefixed name.now width stood out.old }
     ensures { Wrote out.old out.new (prefix_of name.now) }
 {
@@ -62,7 +62,7 @@ fn write_value(out: &mut Output<'_>, s: &Index<'_>, name: &[u8], width: usize, s
     ensures { Wrote out.old out.new (value_text name.now (item_at s.now i)) }
 {
     out.text(b"  ");
-    write_known_prefix(out, name, width, stood);
+    write_prefix_again(out, name, width, stood);
     write_screaming(out, s.name(i));
     out.text(b" = ");
     out.text(s.second(i));

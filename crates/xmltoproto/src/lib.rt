@@ -100,17 +100,17 @@ pub fn generate(schema: View<'_>, out: &mut [u8]) -> Result<usize, Refusal>
     generate_with::<LINKS_1024>(schema, out)
 }
 
-/// Converts a document and returns the length of its source in `output`, or a refusal that leaves
-/// `output` as it was. `records` needs 16,384 numbers and `text` 65,536 bytes (refusal 2); the
+/// Converts a document and returns the length of its source in `out`, or a refusal that leaves `out`
+/// as it was. `records` needs 16,384 numbers and `text` 65,536 bytes (refusal 2); the
 /// answer does not depend on what they hold, and what they hold afterwards is left open.
 pub fn xml_to_proto(
     document: &[u8],
     records: &mut [u32],
     text: &mut [u8],
-    output: &mut [u8],
+    out: &mut [u8],
 ) -> Result<usize, Refusal>
-    ensures { Converts document.now (length records.old) (length text.old) output.old output.new result }
+    ensures { Converts document.now (length records.old) (length text.old) out.old out.new result }
 {
     let m = read_schema(document, records, text)?;
-    generate(View::new(m, records, text), output)
+    generate(View::new(m, records, text), out)
 }

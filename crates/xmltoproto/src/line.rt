@@ -9,7 +9,7 @@ ghost use Rattle.printing.specs.Written.{Wrote};
 ghost use Rattle.model.specs.Schema.{item_at};
 ghost use Rattle.xmltoproto.specs.Types.{note_on};
 ghost use Rattle.xmltoproto.specs.Source.{note_line, bracketed};
-ghost use Rattle.xmltoproto.specs.internal.Parts.{indent_of, middle, shaped, typed};
+ghost use Rattle.xmltoproto.specs.internal.Parts.{indent_of, line_middle, shaped, formed};
 ghost use Rattle.xmltoproto.specs.internal.Shapes.{note_in, word_in, option_in};
 ghost use Rattle.xmltoproto.specs.internal.Shapes.{length_option, encoding_option};
 
@@ -19,11 +19,11 @@ use index::seen::Index;
 use names::snake::write_snake;
 use printing::Output;
 
-/// Writes the indent of a line: in a group if `deep`, otherwise in a message.
-fn write_indent(out: &mut Output<'_>, deep: bool)
-    ensures { Wrote out.old out.new (indent_of deep) }
+/// Writes the indent of a line, in a group or in a message.
+fn write_indent(out: &mut Output<'_>, in_group: bool)
+    ensures { Wrote out.old out.new (indent_of in_group) }
 {
-    if deep {
+    if in_group {
         out.text(b"    ");
     } else {
         out.text(b"  ");
@@ -61,10 +61,10 @@ fn write_number(out: &mut Output<'_>, n: u32)
 /// Writes the comment that names an encoding. Out of line: few lines have one.
 #[cold]
 #[inline(never)]
-fn write_foreign(out: &mut Output<'_>, deep: bool, encoding: &[u8])
-    ensures { Wrote out.old out.new (note_line (indent_of deep) (note_on encoding.now)) }
+fn write_foreign(out: &mut Output<'_>, in_group: bool, encoding: &[u8])
+    ensures { Wrote out.old out.new (note_line (indent_of in_group) (note_on encoding.now)) }
 {
-    write_indent(out, deep);
+    write_indent(out, in_group);
     out.text(b"// SBE characterEncoding ");
     write_quoted(out, encoding);
     out.text(b" is not UTF-8 compatible, so this field is bytes.\n");
@@ -72,11 +72,11 @@ fn write_foreign(out: &mut Output<'_>, deep: bool, encoding: &[u8])
 
 /// Writes the comment line of a shape, if it has one.
 #[tactic(auto, unfolding(crate::specs::Source::note_line), using(printing::proofs::Writing::writing))]
-fn write_note(out: &mut Output<'_>, deep: bool, shape: Shape, encoding: &[u8])
-    ensures { Wrote out.old out.new (note_line (indent_of deep) (note_in shape encoding.now)) }
+fn write_note(out: &mut Output<'_>, in_group: bool, shape: Shape, encoding: &[u8])
+    ensures { Wrote out.old out.new (note_line (indent_of in_group) (note_in shape encoding.now)) }
 {
     match shape {
-        Shape::Foreign(_) => write_foreign(out, deep, encoding),
+        Shape::Foreign(_) => write_foreign(out, in_group, encoding),
         Shape::Text(_) => (),
         Shape::Raw(_) => (),
         Shape::Signed => (),
@@ -98,17 +98,17 @@ fn write_either(out: &mut Output<'_>, first: bool, a: &[u8], b: &[u8])
 
 /// Writes the indent, the proto type and a space: as one text where the type is known, so that room
 /// is tested once.
-fn write_front(out: &mut Output<'_>, deep: bool, shape: Shape, primitive: &[u8])
-    ensures { Wrote out.old out.new (indent_of deep ++ word_in shape primitive.now ++ ascii " ") }
+fn write_front(out: &mut Output<'_>, in_group: bool, shape: Shape, primitive: &[u8])
+    ensures { Wrote out.old out.new (indent_of in_group ++ word_in shape primitive.now ++ ascii " ") }
 {
     match shape {
-        Shape::Text(_) => write_either(out, deep, b"    string ", b"  string "),
-        Shape::Foreign(_) => write_either(out, deep, b"    bytes ", b"  bytes "),
-        Shape::Raw(_) => write_either(out, deep, b"    bytes ", b"  bytes "),
-        Shape::Signed => write_either(out, deep, b"    int32 ", b"  int32 "),
-        Shape::Unsigned => write_either(out, deep, b"    uint32 ", b"  uint32 "),
+        Shape::Text(_) => write_either(out, in_group, b"    string ", b"  string "),
+        Shape::Foreign(_) => write_either(out, in_group, b"    bytes ", b"  bytes "),
+        Shape::Raw(_) => write_either(out, in_group, b"    bytes ", b"  bytes "),
+        Shape::Signed => write_either(out, in_group, b"    int32 ", b"  int32 "),
+        Shape::Unsigned => write_either(out, in_group, b"    uint32 ", b"  uint32 "),
         Shape::Plain => {
-            write_indent(out, deep);
+            write_indent(out, in_group);
             out.text_then(primitive, b' ');
         }
     }
@@ -164,19 +164,19 @@ fn write_end(out: &mut Output<'_>, shape: Shape, primitive: &[u8])
 #[tactic(auto, unfolding(printing::specs::Written::written), using(printing::proofs::Writing::writing))]
 fn write_middle(
     out: &mut Output<'_>,
-    deep: bool,
+    in_group: bool,
     shape: Shape,
     primitive: &[u8],
     name: &[u8],
     number: u32,
 )
-    ensures { Wrote out.old out.new (middle deep shape primitive.now name.now number) }
+    ensures { Wrote out.old out.new (line_middle in_group shape primitive.now name.now number) }
 {
     let mut o = Output {
         bytes: out.bytes,
         at: out.at,
     };
-    write_front(&mut o, deep, shape, primitive);
+    write_front(&mut o, in_group, shape, primitive);
     write_snake(&mut o, name);
     write_numbered(&mut o, number);
     out.at = o.at;
@@ -185,35 +185,35 @@ fn write_middle(
 /// Writes the whole line of a shape over a primitive and an encoding.
 pub fn write_line(
     out: &mut Output<'_>,
-    deep: bool,
+    in_group: bool,
     shape: Shape,
     primitive: &[u8],
     encoding: &[u8],
     name: &[u8],
     number: u32,
 )
-    ensures { Wrote out.old out.new (shaped deep shape primitive.now encoding.now name.now number) }
+    ensures { Wrote out.old out.new (shaped in_group shape primitive.now encoding.now name.now number) }
 {
-    write_note(out, deep, shape, encoding);
-    write_middle(out, deep, shape, primitive, name, number);
+    write_note(out, in_group, shape, encoding);
+    write_middle(out, in_group, shape, primitive, name, number);
     write_end(out, shape, primitive);
 }
 
 /// Writes the line of the type or member at `i`, under the given name and number.
 #[tactic(auto, unfolding(crate::specs::Types::form_of), using(printing::proofs::Writing::writing))]
 #[inline(always)]
-pub fn write_typed(
+pub fn write_formed(
     out: &mut Output<'_>,
     s: &Index<'_>,
-    deep: bool,
+    in_group: bool,
     i: u32,
     name: &[u8],
     number: u32,
 )
-    ensures { Wrote out.old out.new (typed deep (item_at s.now i) name.now number) }
+    ensures { Wrote out.old out.new (formed in_group (item_at s.now i) name.now number) }
 {
     let primitive = s.second(i);
     let encoding = s.encoding(i);
     let shape = shape_of(primitive, s.size(i), encoding);
-    write_line(out, deep, shape, primitive, encoding, name, number);
+    write_line(out, in_group, shape, primitive, encoding, name, number);
 }

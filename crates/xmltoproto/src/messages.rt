@@ -6,7 +6,7 @@ ghost use Rattle.model.specs.Schema.{item_at};
 ghost use Rattle.xmltoproto.specs.Source.{field_text, group_text, message_text};
 ghost use Rattle.xmltoproto.specs.internal.Parts.{indent_of, undeclared, group_head};
 
-use crate::line::{write_line, write_typed};
+use crate::line::{write_formed, write_line};
 use crate::types::{Shape, shape_of};
 use crate::walk::{ItemText, write_under};
 use index::declaration::Declaration;
@@ -19,11 +19,17 @@ use printing::Output;
 /// Writes the line of a field whose type name is declared nowhere: a built-in, or a name that is
 /// printed as it stands. `shape_of` covers both, since it leaves a name that is no built-in as it
 /// stands.
-fn write_undeclared(out: &mut Output<'_>, deep: bool, type_name: &[u8], name: &[u8], number: u32)
-    ensures { Wrote out.old out.new (undeclared deep type_name.now name.now number) }
+fn write_undeclared(
+    out: &mut Output<'_>,
+    in_group: bool,
+    type_name: &[u8],
+    name: &[u8],
+    number: u32,
+)
+    ensures { Wrote out.old out.new (undeclared in_group type_name.now name.now number) }
 {
     let shape = shape_of(type_name, 0, b"");
-    write_line(out, deep, shape, type_name, b"", name, number);
+    write_line(out, in_group, shape, type_name, b"", name, number);
 }
 
 /// Writes the line of the item at `i` by `Index::declared`. Out of line: this is only for an item
@@ -31,55 +37,55 @@ fn write_undeclared(out: &mut Output<'_>, deep: bool, type_name: &[u8], name: &[
 #[tactic(auto, unfolding(crate::specs::Source::field_text, crate::specs::Types::as_named), using(crate::proofs::Typing::meanings))]
 #[cold]
 #[inline(never)]
-fn write_unsettled(out: &mut Output<'_>, s: &Index<'_>, deep: bool, i: u32)
-    ensures { Wrote out.old out.new (field_text s.now (indent_of deep) (item_at s.now i)) }
+fn write_unsettled(out: &mut Output<'_>, s: &Index<'_>, in_group: bool, i: u32)
+    ensures { Wrote out.old out.new (field_text s.now (indent_of in_group) (item_at s.now i)) }
 {
     let type_name = s.second(i);
     let name = s.name(i);
     let number = s.number(i);
     match s.declared(i) {
         Some(Declaration::Named) => {
-            write_line(out, deep, Shape::Plain, type_name, b"", name, number)
+            write_line(out, in_group, Shape::Plain, type_name, b"", name, number)
         }
-        Some(Declaration::Typed(k)) => write_typed(out, s, deep, k, name, number),
-        None => write_undeclared(out, deep, type_name, name, number),
+        Some(Declaration::Typed(k)) => write_formed(out, s, in_group, k, name, number),
+        None => write_undeclared(out, in_group, type_name, name, number),
     }
 }
 
 /// Writes the line of the field at `i`.
 #[tactic(auto, unfolding(crate::specs::Source::field_text, crate::specs::Types::as_named), using(crate::proofs::Typing::meanings))]
-fn write_field(out: &mut Output<'_>, s: &Index<'_>, deep: bool, i: u32)
-    ensures { Wrote out.old out.new (field_text s.now (indent_of deep) (item_at s.now i)) }
+fn write_field(out: &mut Output<'_>, s: &Index<'_>, in_group: bool, i: u32)
+    ensures { Wrote out.old out.new (field_text s.now (indent_of in_group) (item_at s.now i)) }
 {
     let name = s.name(i);
     let number = s.number(i);
     if s.kind(i) == FIELD {
         // By the number: a `Declaration` would be stored and loaded again, and the branch would
         // wait for that (store forwarding).
-        let known = s.field_number(i);
-        if 1 < known {
-            let k = known - 2;
-            return write_typed(out, s, deep, k, name, number);
+        let declared = s.field_number(i);
+        if 1 < declared {
+            let k = declared - 2;
+            return write_formed(out, s, in_group, k, name, number);
         }
         let type_name = s.second(i);
-        if known == 1 {
-            return write_line(out, deep, Shape::Plain, type_name, b"", name, number);
+        if declared == 1 {
+            return write_line(out, in_group, Shape::Plain, type_name, b"", name, number);
         }
-        return write_undeclared(out, deep, type_name, name, number);
+        return write_undeclared(out, in_group, type_name, name, number);
     }
-    write_unsettled(out, s, deep, i);
+    write_unsettled(out, s, in_group, i);
 }
 
-/// The line of a field: in a group if `deep`, otherwise in a message.
+/// The line of a field: in a group or in a message.
 struct FieldLine {
-    deep: bool,
+    in_group: bool,
 }
 
 impl ItemText for FieldLine {
-    ghost text = { λ t s i. field_text s (indent_of t.deep) (item_at s i) };
+    ghost text = { λ t s i. field_text s (indent_of t.in_group) (item_at s i) };
 
     fn write(&self, out: &mut Output<'_>, s: &Index<'_>, i: u32) {
-        write_field(out, s, self.deep, i);
+        write_field(out, s, self.in_group, i);
     }
 }
 
@@ -91,7 +97,7 @@ fn write_group_head(out: &mut Output<'_>, s: &Index<'_>, g: u32)
     out.text(b"  message ");
     write_singular(out, s.name(g));
     out.text(b" {\n");
-    write_under(out, s, FIELD, g, &FieldLine { deep: true });
+    write_under(out, s, FIELD, g, &FieldLine { in_group: true });
 }
 
 /// The text of a group: its message, and the repeated field.
@@ -126,7 +132,7 @@ impl ItemText for MessageText {
         out.text(b" {\n  option (sbe.template_id) = ");
         out.decimal(s.number(i));
         out.text(b";\n");
-        write_under(out, s, FIELD, i, &FieldLine { deep: false });
+        write_under(out, s, FIELD, i, &FieldLine { in_group: false });
         write_under(out, s, GROUP, i, &GroupText);
         out.text(b"}\n\n");
     }

@@ -1,4 +1,5 @@
 //! How a type prints, and which names are built-ins.
+#![tactic(auto, unfolding(crate::proofs::Opened::on_types))]
 
 ghost use Rattle.std.specs.Prelude.{◌≡◌, List, [], ℕ, map};
 ghost use Rattle.texts.specs.Choice.{◌or◌};
@@ -28,7 +29,6 @@ pub enum Shape {
 }
 
 /// The length of a char: absent or 0 is 1.
-#[tactic(auto, unfolding(crate::specs::Types::chars))]
 pub fn chars_in(size: u32) -> u32
     ensures { result ≡ chars (form [] size []) }
 {
@@ -64,7 +64,6 @@ fn is_among(s: &[u8], texts: &[&[u8]]) -> bool
 }
 
 /// Whether the primitive is uint8 or int8.
-#[tactic(auto, unfolding(crate::specs::Types::is_byte))]
 fn is_byte(primitive: &[u8]) -> bool
     ensures { result ≡ is_byte (form primitive.now 0 []) }
 {
@@ -72,7 +71,6 @@ fn is_byte(primitive: &[u8]) -> bool
 }
 
 /// Whether this is uint8 or int8 of a length above 1.
-#[tactic(auto, unfolding(crate::specs::Types::is_raw, crate::specs::Types::is_byte))]
 pub fn is_raw(primitive: &[u8], size: u32) -> bool
     ensures { result ≡ is_raw (form primitive.now size []) }
 {
@@ -84,7 +82,6 @@ pub fn is_raw(primitive: &[u8], size: u32) -> bool
 
 /// Whether the primitive is char, uint8 or int8: those of which a proto field represents more than
 /// one.
-#[tactic(auto, unfolding(crate::specs::Types::is_char))]
 pub fn is_char_or_byte(primitive: &[u8]) -> bool
     ensures { result ≡ (is_char (form primitive.now 0 []) or is_byte (form primitive.now 0 [])) }
 {
@@ -95,7 +92,6 @@ pub fn is_char_or_byte(primitive: &[u8]) -> bool
 }
 
 /// The shape of a single primitive but char.
-#[tactic(auto, unfolding(crate::specs::Types::as_primitive, crate::specs::Types::narrow, crate::specs::Types::as_named))]
 fn primitive_shape(p: &[u8]) -> Shape
     ensures { (e : List ℕ) → proto_in result p.now e ≡ as_primitive p.now }
 {
@@ -109,7 +105,6 @@ fn primitive_shape(p: &[u8]) -> Shape
 }
 
 /// The shape of a primitive with a length, 0 if absent, and an encoding.
-#[tactic(auto, unfolding(crate::specs::Types::proto_of, crate::specs::Types::is_char, crate::specs::Types::chars, crate::specs::Types::is_raw, crate::specs::Types::is_byte, crate::specs::Types::of_length))]
 #[inline(always)]
 pub fn shape_of(primitive: &[u8], size: u32, encoding: &[u8]) -> Shape
     ensures { Prints result (form primitive.now size encoding.now) }

@@ -1,4 +1,4 @@
-use Rattle.wiresheet.proofs.Deciding.{same-told, decided}
+use Rattle.wiresheet.proofs.Deciding.{same-printed, decided}
 use Rattle.wiresheet.proofs.same_source.Goals as goal
 
 pub returns-in-Ok-Ok : goal.returns-in-Ok-Ok
@@ -6,6 +6,6 @@ returns-in-Ok-Ok c =
     record {
       first = c.xml_to_proto-first.ensures;
       second = c.xml_to_proto-second.ensures;
-      same = same-told _ _ _ _ _ _ _ _ _ _ c.xml_to_proto-first.ensures c.xml_to_proto-second.ensures c.in-Ok-Ok.is-0 c.in-Ok-Ok.is-1 c.part.ensures c.part-in-Ok-Ok.ensures c.equal-same.ensures;
+      is = same-printed _ _ _ _ _ _ _ _ _ _ c.xml_to_proto-first.ensures c.xml_to_proto-second.ensures c.in-Ok-Ok.is-0 c.in-Ok-Ok.is-1 c.part.ensures c.part-in-Ok-Ok.ensures c.equal-same.ensures;
       sheets = decided _ _ _ _ _ _ _ _ _ _ c.xml_to_proto-first.ensures c.xml_to_proto-second.ensures;
     }

@@ -1,4 +1,4 @@
-use native.Mathlib.Omega.{arith}
+use Rattle.std.proofs.Common.{arith}
 use Rattle.xmltoproto.proofs.Generating.{generated-refused, generated-no-room, generated-wrote}
 use Rattle.xmltoproto.proofs.generate_in.Goals as goal
 

@@ -27,26 +27,26 @@ value_texts s enum e = each (λ v. value_text enum (item_at s v)) (under a_value
 
 -- ---- a line, with a name as it stands in the document
 
--- its indent: in a group if `deep`, otherwise in a message
+-- its indent: in a group, or in a message
 abbrev pub indent_of : Bool → List ℕ
-indent_of deep = pick deep (ascii "    ") (ascii "  ")
+indent_of in_group = pick in_group (ascii "    ") (ascii "  ")
 
 -- from the indent to the number, in a shape over a primitive p
-abbrev pub middle : Bool → Shape → List ℕ → List ℕ → ℕ → List ℕ
-middle deep shape p name number = indent_of deep ++ word_in shape p ++ ascii " " ++ camel_to_snake name ++ (ascii " = " ++ decimal number)
+abbrev pub line_middle : Bool → Shape → List ℕ → List ℕ → ℕ → List ℕ
+line_middle in_group shape p name number = indent_of in_group ++ word_in shape p ++ ascii " " ++ camel_to_snake name ++ (ascii " = " ++ decimal number)
 
 -- in a shape over a primitive p and an encoding e
 abbrev pub shaped : Bool → Shape → List ℕ → List ℕ → List ℕ → ℕ → List ℕ
-shaped deep shape p e name number = line (indent_of deep) (proto_in shape p e) (camel_to_snake name) number
+shaped in_group shape p e name number = line (indent_of in_group) (proto_in shape p e) (camel_to_snake name) number
 
 -- of the type or member t
-abbrev pub typed : Bool → Item → List ℕ → ℕ → List ℕ
-typed deep t name number = line (indent_of deep) (proto_of (form_of t)) (camel_to_snake name) number
+abbrev pub formed : Bool → Item → List ℕ → ℕ → List ℕ
+formed in_group t name number = line (indent_of in_group) (proto_of (form_of t)) (camel_to_snake name) number
 
 -- of a type name that is declared nowhere: a built-in, or one that is printed as it stands
 abbrev pub undeclared : Bool → List ℕ → List ℕ → ℕ → List ℕ
-undeclared deep type_name name number =
-    line (indent_of deep) (pick (among type_name built_ins) (proto_of (built_in type_name)) (as_named type_name)) (camel_to_snake name) number
+undeclared in_group type_name name number =
+    line (indent_of in_group) (pick (among type_name built_ins) (proto_of (built_in type_name)) (as_named type_name)) (camel_to_snake name) number
 
 -- ---- composites
 

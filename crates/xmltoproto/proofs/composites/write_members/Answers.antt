@@ -1,4 +1,4 @@
-use native.Mathlib.Omega.{arith}
+use Rattle.std.proofs.Common.{arith}
 use Rattle.xmltoproto.proofs.Looping.{counting-start, counting-on, counting-end, numbering-start, numbering-room, numbering-on, numbering-end, under-most}
 use Rattle.model.specs.Schema.{a_member}
 use Rattle.xmltoproto.proofs.composites.write_members.Goals as goal

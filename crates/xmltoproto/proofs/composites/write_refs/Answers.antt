@@ -1,4 +1,4 @@
-use native.Mathlib.Omega.{arith}
+use Rattle.std.proofs.Common.{arith}
 use Rattle.xmltoproto.proofs.Looping.{numbering-start, numbering-room, numbering-on, numbering-end, members-most}
 use Rattle.xmltoproto.proofs.composites.write_refs.Goals as goal
 

@@ -1,4 +1,4 @@
-use native.Mathlib.Omega.{arith}
+use Rattle.std.proofs.Common.{arith}
 use Rattle.xmltoproto.proofs.Looping.{walking_on, walking-end, walking-length}
 use Rattle.xmltoproto.proofs.Sources.{value-standing}
 use Rattle.xmltoproto.proofs.enums.write_values.Goals as goal

@@ -1,7 +1,7 @@
-use native.Mathlib.Omega.{arith}
+use Rattle.std.proofs.Common.{arith}
 use Rattle.printing.proofs.Again.{again-before, again-printed}
 use Rattle.xmltoproto.proofs.Outputs.{printed-of, rewrote, passed}
-use Rattle.xmltoproto.proofs.enums.write_known_prefix.Goals as goal
+use Rattle.xmltoproto.proofs.enums.write_prefix_again.Goals as goal
 
 pub returns-then-out : goal.returns-then-out
 returns-then-out c = passed (omega arith) (omega arith) c.requires.0 c.skip.ensures
