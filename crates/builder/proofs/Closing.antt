@@ -20,7 +20,8 @@ use Rattle.builder.specs.declared.state.Current.{Current}
 use Rattle.builder.specs.declared.state.State.{State}
 use Rattle.builder.specs.declared.work.Work.{Work}
 use Rattle.model.proofs.Records.{items-set, get_or-items}
-use Rattle.model.proofs.Searching.{owned_so, last_in}
+use Rattle.model.proofs.Searching.{last_in}
+use Rattle.model.specs.Schema.{is_under}
 use Rattle.builder.proofs.Alikes.{alike_self, alike-sets, alike-trans, alike-lower}
 use Rattle.builder.proofs.Stacking.{stack-put, pop-builder}
 use Rattle.builder.proofs.Adding.{same_self, after-as, after-refused, after_same}
@@ -36,7 +37,7 @@ module _ (w : Work) (s : State) (owner : ℕ) (v : Range) {o : Option ℕ} (f : 
 
   pub give-fits : {i : ℕ} → o ≡ Some i → Kept w s → 15 * i + 10 ≤ length w.records.now
   unfolding last_under schema_of
-  give-fits {i} e k = omega (arith, k.many, k.records, last_in (owned_so a_value owner) s.place.count w.records.now w.text.now (sym f ∙ e))
+  give-fits {i} e k = omega (arith, k.many, k.records, last_in (is_under a_value owner) s.place.count w.records.now w.text.now (sym f ∙ e))
 
   pub give-some : {i : ℕ} → o ≡ Some i → {e : Entry} → e ≡ entry_at w.records.now i → {rec' : List ℕ} → rec' ≡ sets w.records.now (15 * i) (words_of (valued v e)) → over w rec' ≡ over w (given_at (last_under a_value owner (builder_in w s).schema.items) v w.records.now)
   give-some q ee er = ap (over w) (er ∙ rw (sym f ∙ q, ee))
@@ -67,17 +68,17 @@ module _ (w : Work) (s : State) (k : Kept w s) (v : Range) (z : TrimmedTo w.text
 
   given-schema : (t : List ℕ) → Alike s.place.low s.place.high text t → schema_of (model_in s) rec' t ≡ given_to (last (under a_value owner (schema_of (model_in s) rec text))) value (schema_of (model_in s) rec text)
   unfolding schema_of under last_under
-  given-schema t a = go (last (positions_from 0 (owned_so a_value owner) (items_of s.place.count rec text))) refl
+  given-schema t a = go (last (positions_from 0 (is_under a_value owner) (items_of s.place.count rec text))) refl
     where
       st : schema_of (model_in s) rec t ≡ schema_of (model_in s) rec text
       st = k.stable t a
 
-      go : (o : Option ℕ) → last (positions_from 0 (owned_so a_value owner) (items_of s.place.count rec text)) ≡ o
+      go : (o : Option ℕ) → last (positions_from 0 (is_under a_value owner) (items_of s.place.count rec text)) ≡ o
           → record { package_name = piece t s.head.name s.head.len; id = s.head.id; version = s.head.version; items = items_of s.place.count (given_at o v rec) t }
           ≡ given_to o value (record { package_name = piece text s.head.name s.head.len; id = s.head.id; version = s.head.version; items = items_of s.place.count rec text })
       go None q = st
       go (Some i) q =
-          let h : i < s.place.count = last_in (owned_so a_value owner) s.place.count rec text q in
+          let h : i < s.place.count = last_in (is_under a_value owner) s.place.count rec text q in
           let items : items_of s.place.count rec t ≡ items_of s.place.count rec text = ap (λ (x : Schema). x.items) st in
           let pk : piece t s.head.name s.head.len ≡ piece text s.head.name s.head.len = ap (λ (x : Schema). x.package_name) st in
           let e : item_of t (entry_at rec i) ≡ item_of text (entry_at rec i) = sym (get_or-items s.place.count rec t i h) ∙ ap (λ l. get_or l i no_item) items ∙ get_or-items s.place.count rec text i h in
@@ -89,11 +90,11 @@ module _ (w : Work) (s : State) (k : Kept w s) (v : Range) (z : TrimmedTo w.text
 
   given-stack : stack_of s.place.depth rec' doc ≡ stack_of s.place.depth rec doc
   unfolding last_under
-  given-stack = go (last (positions_from 0 (owned_so a_value owner) (items_of s.place.count rec text))) refl
+  given-stack = go (last (positions_from 0 (is_under a_value owner) (items_of s.place.count rec text))) refl
     where
-      go : (o : Option ℕ) → last (positions_from 0 (owned_so a_value owner) (items_of s.place.count rec text)) ≡ o → stack_of s.place.depth (given_at o v rec) doc ≡ stack_of s.place.depth rec doc
+      go : (o : Option ℕ) → last (positions_from 0 (is_under a_value owner) (items_of s.place.count rec text)) ≡ o → stack_of s.place.depth (given_at o v rec) doc ≡ stack_of s.place.depth rec doc
       go None q = refl
-      go (Some i) q = stack-put s.place.depth i rec doc (valued v (entry_at rec i)) (omega (arith, last_in (owned_so a_value owner) s.place.count rec text q, k.many))
+      go (Some i) q = stack-put s.place.depth i rec doc (valued v (entry_at rec i)) (omega (arith, last_in (is_under a_value owner) s.place.count rec text q, k.many))
 
   given-long : length rec' ≡ length rec
   given-long = go (last_under a_value owner (items_of s.place.count rec text))

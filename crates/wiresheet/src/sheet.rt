@@ -12,10 +12,10 @@ ghost use Rattle.wiresheet.specs.Sheet.{named, kind_of, kind_by, value_of, enum_
 ghost use Rattle.wiresheet.specs.internal.SheetLines.{value_shown, part_shown, group_line, schema_line};
 
 use charsets::is_compatible;
-use names::convert::{write_screaming, write_singular, write_snake};
 use index::declaration::declaration_in;
 use model::view::View;
 use model::{COMPOSITE, ENUM, FIELD, GROUP, MEMBER, MESSAGE, REF, VALUE};
+use names::convert::{write_screaming, write_singular, write_snake};
 use printing::Output;
 use texts::equal;
 use xmltoproto::composites::is_printed;

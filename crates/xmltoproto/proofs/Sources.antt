@@ -1,5 +1,5 @@
 -- Laws of the parts of the source; w, u, .. are the results of calls.
-use Rattle.std.proofs.Common.{◌≡◌, refl, sym, ap, subst, ◌∙◌, Bool, true, false, not, List, [], ◌∷◌, ◌++◌, append_assoc, ℕ, suc, ◌+◌, ◌-◌, ◌≤◌, ◌<◌, ◌^◌, add-zero, arith, eqb, length, get_or, Option, Some, None}
+use Rattle.std.proofs.Common.{◌≡◌, refl, sym, ap, subst, ◌∙◌, Bool, true, false, not, List, [], ◌∷◌, ◌++◌, append_assoc, ℕ, suc, ◌+◌, ◌<◌, ◌^◌, add-zero, arith, eqb, length, get_or, Option, Some, None}
 use Rattle.texts.specs.Choice.{pick, ◌and◌}
 use Rattle.texts.specs.Text.{ascii, same}
 use Rattle.texts.specs.Lists.{among, each, numbered}
@@ -12,10 +12,9 @@ use Rattle.printing.proofs.Writing.{◌▹◌}
 use Rattle.xmltoproto.proofs.Outputs.{blank, printed-of}
 use Rattle.printing.proofs.Again.{standing-within}
 use Rattle.names.specs.Conversions.{camel_to_snake, camel_to_screaming_snake, prefix_of}
-use Rattle.index.specs.Declarations.{declaration_of, number_of}
+use Rattle.index.specs.Declarations.{declaration_of}
 use Rattle.index.specs.declared.declaration.Declaration.{Declaration}
 use Rattle.index.specs.declared.declaration.Declaration.TheVariants.{Named, Typed}
-use Rattle.index.proofs.Finding.{declaration-none, declaration-named, declaration-typed}
 use Rattle.model.specs.Schema.{Item, Schema, no_item, item_at, positions_from, all_of, under, a_member, a_ref, a_composite, a_group, a_field}
 use Rattle.xmltoproto.specs.Types.{built_ins, form, form_of, built_in, as_named, proto_of, proto_by, Meaning, typed, unknown, meaning}
 use Rattle.xmltoproto.specs.Composites.{is_printed, printed_composites}
@@ -104,18 +103,6 @@ module _ {o o' : Output} where
         go : (b : Bool) → Wrote o o' (line ind (pick b (proto_of (built_in u)) (as_named u)) (camel_to_snake w) k) → Wrote o o' (line ind (proto_by u (pick b (typed (built_in u)) unknown)) (camel_to_snake w) k)
         go true q = q
         go false q = q
-
-  -- by the number n that the index holds
-  module _ (s : Schema) (ind : List ℕ) (it : Item) {w : List ℕ} {k n : ℕ} (ew : w ≡ it.name) (ek : k ≡ it.number) (en : n ≡ number_of (declaration_of s it.second)) where
-    pub field-number-typed : 1 < n → Wrote o o' (line ind (proto_of (form_of (item_at s (n - 2)))) (camel_to_snake w) k) → Wrote o o' (field_text s ind it)
-    field-number-typed h p = field-typed s ind it refl ew ek refl (sym (declaration-typed (λ z. absurd (omega arith)) (λ z. absurd (omega arith)) (declaration_of s it.second) en)) p
-
-    module _ {u : List ℕ} (eu : u ≡ it.second) where
-      pub field-number-named : n ≡ 1 → Wrote o o' (line ind (proto_in shape.Plain u []) (camel_to_snake w) k) → Wrote o o' (field_text s ind it)
-      field-number-named f p = field-declared s ind it eu ew ek refl (sym (declaration-named f (declaration_of s it.second) en)) p
-
-      pub field-number-undeclared : n ≤ 1 → (n ≡ 1 → ⊥) → Wrote o o' (line ind (pick (among u built_ins) (proto_of (built_in u)) (as_named u)) (camel_to_snake w) k) → Wrote o o' (field_text s ind it)
-      field-number-undeclared l f p = field-undeclared s ind it eu ew ek refl (sym (declaration-none (omega arith) (declaration_of s it.second) en)) p
 
   -- ---- composites
 

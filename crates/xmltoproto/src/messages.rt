@@ -29,46 +29,20 @@ fn write_undeclared(out: &mut Output<'_>, deep: bool, type_name: &[u8], name: &[
     write_line(out, deep, shape, type_name, b"", name, number);
 }
 
-/// Writes the line of the item at `i` by `Index::declared`. Out of line: this is only for an item
-/// that is no field.
-#[cold]
-#[inline(never)]
-fn write_unsettled(out: &mut Output<'_>, s: &Index<'_>, deep: bool, i: u32)
-    ensures { Wrote out.old out.new (field_text s.now (indent_of deep) (item_at s.now i)) }
-{
-    let type_name = s.second(i);
-    let name = s.name(i);
-    let number = s.number(i);
-    match s.declared(i) {
-        Some(Declaration::Named) => {
-            write_line(out, deep, Shape::Plain, type_name, b"", name, number)
-        }
-        Some(Declaration::Typed(k)) => write_typed(out, s, deep, k, name, number),
-        None => write_undeclared(out, deep, type_name, name, number),
-    }
-}
-
 /// Writes the line of the field at `i`.
 fn write_field(out: &mut Output<'_>, s: &Index<'_>, deep: bool, i: u32)
     ensures { Wrote out.old out.new (field_text s.now (indent_of deep) (item_at s.now i)) }
 {
     let name = s.name(i);
     let number = s.number(i);
-    if s.kind(i) == FIELD {
-        // By the number: a `Declaration` would be stored and loaded again, and the branch would
-        // wait for that (store forwarding).
-        let known = s.field_number(i);
-        if 1 < known {
-            let k = known - 2;
-            return write_typed(out, s, deep, k, name, number);
+    match s.declared(i) {
+        Some(Declaration::Typed(k)) => write_typed(out, s, deep, k, name, number),
+        Some(Declaration::Named) => {
+            let type_name = s.second(i);
+            write_line(out, deep, Shape::Plain, type_name, b"", name, number)
         }
-        let type_name = s.second(i);
-        if known == 1 {
-            return write_line(out, deep, Shape::Plain, type_name, b"", name, number);
-        }
-        return write_undeclared(out, deep, type_name, name, number);
+        None => write_undeclared(out, deep, s.second(i), name, number),
     }
-    write_unsettled(out, s, deep, i);
 }
 
 /// The line of a field: in a group if `deep`, otherwise in a message.

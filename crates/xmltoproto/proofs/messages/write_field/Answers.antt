@@ -1,12 +1,12 @@
--- `search` closes these goals with the set named here, but not through a `tactic` attribute.
-use Rattle.xmltoproto.proofs.Laws.{lines as laws}
+use Rattle.std.proofs.Common.{refl}
+use Rattle.xmltoproto.proofs.Sources.{field-declared, field-typed, field-undeclared}
 use Rattle.xmltoproto.proofs.messages.write_field.Goals as goal
 
-pub returns-then-known-gt1 : goal.returns-then-known-gt1
-returns-then-known-gt1 c = search laws
+pub returns-in-Some-Named : goal.returns-in-Some-Named
+returns-in-Some-Named c = field-declared _ _ _ c.second-type_name.ensures c.name-name.ensures c.number-number.ensures c.declared.ensures (rw c.in-Some-Named.field-0-is at c.in-Some-Named.is) c.write_line.ensures
 
-pub returns-then-known-eq1 : goal.returns-then-known-eq1
-returns-then-known-eq1 c = search laws
+pub returns-in-Some-Typed : goal.returns-in-Some-Typed
+returns-in-Some-Typed c = field-typed _ _ _ refl c.name-name.ensures c.number-number.ensures c.declared.ensures (rw c.in-Some-Typed.field-0-is at c.in-Some-Typed.is) c.write_typed.ensures
 
-pub returns-then-kind-eq-FIELD : goal.returns-then-kind-eq-FIELD
-returns-then-kind-eq-FIELD c = search laws
+pub returns-in-None : goal.returns-in-None
+returns-in-None c = field-undeclared _ _ _ c.second.ensures c.name-name.ensures c.number-number.ensures c.declared.ensures c.in-None.is c.write_undeclared.ensures
