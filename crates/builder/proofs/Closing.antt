@@ -20,7 +20,8 @@ use Rattle.builder.specs.declared.state.Current.{Current}
 use Rattle.builder.specs.declared.state.State.{State}
 use Rattle.builder.specs.declared.work.Work.{Work}
 use Rattle.model.proofs.Records.{items-set, get_or-items}
-use Rattle.model.proofs.Searching.{owned_so, last_in}
+use Rattle.model.proofs.Searching.{last_in}
+use Rattle.model.specs.Schema.{is_under}
 use Rattle.builder.proofs.Alikes.{alike_self, alike-sets, alike-trans, alike-lower}
 use Rattle.builder.proofs.Stacking.{stack-put, pop-builder}
 use Rattle.builder.proofs.Adding.{after_turned, after-as, after-refused, after_same}
@@ -36,7 +37,7 @@ module _ (w : Work) (s : State) (owner : ℕ) (v : Range) {o : Option ℕ} (f : 
 
   pub put_value-fits : {i : ℕ} → o ≡ Some i → Sound w s → 15 * i + 10 ≤ length w.records.now
   unfolding last_under schema_of
-  put_value-fits {i} e k = omega (arith, k.within.many, k.lent.records, last_in (owned_so a_value owner) s.usage.items w.records.now w.text.now (sym f ∙ e))
+  put_value-fits {i} e k = omega (arith, k.within.many, k.lent.records, last_in (is_under a_value owner) s.usage.items w.records.now w.text.now (sym f ∙ e))
 
   pub put_value-some : {i : ℕ} → o ≡ Some i → {e : Entry} → e ≡ entry_at w.records.now i → {rec' : List ℕ} → rec' ≡ sets w.records.now (15 * i) (words_of (valued v e)) → over w rec' ≡ over w (valued_at (last_under a_value owner (builder_in w s).schema.items) v w.records.now)
   put_value-some q ee er = ap (over w) (er ∙ rw (sym f ∙ q, ee))
@@ -67,17 +68,17 @@ module _ (w : Work) (s : State) (k : Sound w s) (v : Range) (z : TrimmedTo w.tex
 
   valued-schema : (t : List ℕ) → Alike s.usage.collected_to s.usage.taken_from text t → schema_of (model_in s) rec' t ≡ with_second_at (last (under a_value owner (schema_of (model_in s) rec text))) value (schema_of (model_in s) rec text)
   unfolding schema_of under last_under
-  valued-schema t a = go (last (positions_from 0 (owned_so a_value owner) (items_of s.usage.items rec text))) refl
+  valued-schema t a = go (last (positions_from 0 (is_under a_value owner) (items_of s.usage.items rec text))) refl
     where
       st : schema_of (model_in s) rec t ≡ schema_of (model_in s) rec text
       st = k.stable t a
 
-      go : (o : Option ℕ) → last (positions_from 0 (owned_so a_value owner) (items_of s.usage.items rec text)) ≡ o
+      go : (o : Option ℕ) → last (positions_from 0 (is_under a_value owner) (items_of s.usage.items rec text)) ≡ o
           → record { package_name = piece t s.head.name s.head.len; id = s.head.id; version = s.head.version; items = items_of s.usage.items (valued_at o v rec) t }
           ≡ with_second_at o value (record { package_name = piece text s.head.name s.head.len; id = s.head.id; version = s.head.version; items = items_of s.usage.items rec text })
       go None q = st
       go (Some i) q =
-          let h : i < s.usage.items = last_in (owned_so a_value owner) s.usage.items rec text q in
+          let h : i < s.usage.items = last_in (is_under a_value owner) s.usage.items rec text q in
           let items : items_of s.usage.items rec t ≡ items_of s.usage.items rec text = ap (λ (x : Schema). x.items) st in
           let pk : piece t s.head.name s.head.len ≡ piece text s.head.name s.head.len = ap (λ (x : Schema). x.package_name) st in
           let e : item_of t (entry_at rec i) ≡ item_of text (entry_at rec i) = sym (get_or-items s.usage.items rec t i h) ∙ ap (λ l. get_or l i no_item) items ∙ get_or-items s.usage.items rec text i h in
@@ -89,11 +90,11 @@ module _ (w : Work) (s : State) (k : Sound w s) (v : Range) (z : TrimmedTo w.tex
 
   valued-stack : stack_of s.usage.depth rec' doc ≡ stack_of s.usage.depth rec doc
   unfolding last_under
-  valued-stack = go (last (positions_from 0 (owned_so a_value owner) (items_of s.usage.items rec text))) refl
+  valued-stack = go (last (positions_from 0 (is_under a_value owner) (items_of s.usage.items rec text))) refl
     where
-      go : (o : Option ℕ) → last (positions_from 0 (owned_so a_value owner) (items_of s.usage.items rec text)) ≡ o → stack_of s.usage.depth (valued_at o v rec) doc ≡ stack_of s.usage.depth rec doc
+      go : (o : Option ℕ) → last (positions_from 0 (is_under a_value owner) (items_of s.usage.items rec text)) ≡ o → stack_of s.usage.depth (valued_at o v rec) doc ≡ stack_of s.usage.depth rec doc
       go None q = refl
-      go (Some i) q = stack-put s.usage.depth i rec doc (valued v (entry_at rec i)) (omega (arith, last_in (owned_so a_value owner) s.usage.items rec text q, k.within.many))
+      go (Some i) q = stack-put s.usage.depth i rec doc (valued v (entry_at rec i)) (omega (arith, last_in (is_under a_value owner) s.usage.items rec text q, k.within.many))
 
   valued-long : length rec' ≡ length rec
   valued-long = go (last_under a_value owner (items_of s.usage.items rec text))

@@ -3,7 +3,6 @@ use Rattle.std.proofs.Common.{◌≡◌, refl, sym, ap, ◌∙◌, Bool, true, f
 use Rattle.model.specs.Schema.{Schema, item_at, a_type}
 use Rattle.model.proofs.Records.{by_less}
 use Rattle.std.specs.declared.cmp.Ordering.TheVariants.{Less, Equal, Greater}
-use Rattle.index.specs.internal.Sorted.{Added}
 use Rattle.index.specs.Declarations.{declares, declaration_of, number_of}
 use Rattle.index.specs.internal.Sorted.{order, number_in, worth, name_at, Rising, Placed, Inserted, Ordered, Meeting}
 use Rattle.index.proofs.Comparing.{order-refl, greater-less}
@@ -15,9 +14,10 @@ less-apart x y t r = let u : order x y ≡ Equal = rw r (order-refl y) in let w 
 greater-apart : (x y : List ℕ) → order x y ≡ Greater → x ≡ y → ⊥
 greater-apart x y t r = less-apart y x (greater-less x y t) (sym r)
 
-pub ordered-start : (s : Schema) (names : List ℕ) → 1024 ≤ length names → Ordered s 0 names 0
-ordered-start s names h =
+pub ordered-start : (s : Schema) (names : List ℕ) → length s.items ≤ 1024 → 1024 ≤ length names → Ordered s 0 names 0
+ordered-start s names most h =
     record {
+      most = most;
       room = h;
       few = omega arith;
       rising = record { long = omega arith; up = λ a b l m. absurd (omega arith) };
@@ -38,6 +38,7 @@ module _ (s : Schema) (i : ℕ) (names : List ℕ) (n : ℕ) (o : Ordered s i na
   aside : declares (item_at s i).kind ≡ false → Ordered s (i + 1) names n
   aside f =
       record {
+        most = o.most;
         room = o.room;
         few = let l = o.few in omega arith;
         rising = o.rising;
@@ -64,6 +65,7 @@ module _ (s : Schema) (i : ℕ) (names : List ℕ) (n : ℕ) (o : Ordered s i na
       stays : (eqb (item_at s (get_or names p 0)).kind a_type ≡ false) → Ordered s (i + 1) names n
       stays f =
           record {
+            most = o.most;
             room = o.room;
             few = let w = o.few in omega arith;
             rising = o.rising;
@@ -96,6 +98,7 @@ module _ (s : Schema) (i : ℕ) (names : List ℕ) (n : ℕ) (o : Ordered s i na
         replaced : Ordered s (i + 1) new n
         replaced =
             record {
+              most = o.most;
               room = rw (en, length-set) o.room;
               few = let w = o.few in omega arith;
               rising = record { long = rw (en, length-set) o.rising.long; up = λ a b k m. rw (named a, named b) (o.rising.up a b k m) };
@@ -107,7 +110,7 @@ module _ (s : Schema) (i : ℕ) (names : List ℕ) (n : ℕ) (o : Ordered s i na
             }
 
     -- a name that is not there, before the one at p
-    module _ (most : length s.items ≤ 1024) (p : ℕ) (hp : p ≤ n) (less : (a : ℕ) → a < p → order (name_at s names a) (item_at s i).name ≡ Less) (greater : (a : ℕ) → p ≤ a → a < n → order (name_at s names a) (item_at s i).name ≡ Greater) {new : List ℕ} (v : Inserted names n p i new) where
+    module _ (p : ℕ) (hp : p ≤ n) (less : (a : ℕ) → a < p → order (name_at s names a) (item_at s i).name ≡ Less) (greater : (a : ℕ) → p ≤ a → a < n → order (name_at s names a) (item_at s i).name ≡ Greater) {new : List ℕ} (v : Inserted names n p i new) where
       unmet : (a : ℕ) → a < n → name_at s names a ≡ (item_at s i).name → ⊥
       unmet a l = by_less a p (λ b. less-apart (name_at s names a) (item_at s i).name (less a b)) (λ b. greater-apart (name_at s names a) (item_at s i).name (greater a b l))
 
@@ -150,6 +153,7 @@ module _ (s : Schema) (i : ℕ) (names : List ℕ) (n : ℕ) (o : Ordered s i na
       inserted : Ordered s (i + 1) new (n + 1)
       inserted =
           record {
+            most = o.most;
             room = rw v.long o.room;
             few = let w = o.few in omega arith;
             rising = record { long = let w = o.few in let y = o.room in let z = v.long in omega arith; up = up };
@@ -174,13 +178,12 @@ module _ (s : Schema) (i : ℕ) {k : ℕ} (f : k ≡ (item_at s i).kind) (names 
   pub add-aside : b ≡ false → Ordered s (i + 1) names n
   add-aside g = aside s i names n o h (told ∙ g)
 
-  module _ (t : b ≡ true) (most : length s.items ≤ 1024) {w : List ℕ} (ew : w ≡ (item_at s i).name) {r : Result ℕ ℕ} (pl : Placed s names n w r) {p : ℕ} where
+  module _ (t : b ≡ true) {w : List ℕ} (ew : w ≡ (item_at s i).name) {r : Result ℕ ℕ} (pl : Placed s names n w r) {p : ℕ} where
     pub add-met : r ≡ Ok p → Meeting s i names n p
     add-met q =
         record {
           ordered = o;
           inside = h;
-          most = most;
           declaring = told ∙ t;
           within = (pl.at p q).0;
           same = (pl.at p q).1 ∙ ew;
@@ -189,7 +192,7 @@ module _ (s : Schema) (i : ℕ) {k : ℕ} (f : k ≡ (item_at s i).kind) (names 
     pub add-new : r ≡ Err p → {new : List ℕ} → Inserted names n p i new → Ordered s (i + 1) new (n + 1)
     add-new q v =
         let b = pl.before p q in
-        inserted s i names n o h (told ∙ t) most p b.0
+        inserted s i names n o h (told ∙ t) p b.0
         (λ a l. rw (← ew) (b.1 a l))
         (λ a l k. rw (← ew) (b.2 a l k)) v
 
@@ -208,10 +211,6 @@ module _ (s : Schema) (i : ℕ) (names : List ℕ) (n p : ℕ) (x : Meeting s i 
 
 -- ---- what a name is declared as
 
--- the names of all items, by what a caller sees of them
-pub all-added : {s : Schema} {k : ℕ} {v : Added} → record { schema = s; added = k } ≡ v → v.added ≡ length v.schema.items → {names : List ℕ} {n : ℕ} → Ordered s k names n → Ordered s (length s.items) names n
-all-added {s} {k} q e o = let z : k ≡ length s.items = ap (λ (a : Added). a.added) q ∙ e ∙ ap (λ (a : Added). length a.schema.items) (sym q) in rw z at o
-
 pub number-nothing : (s : Schema) (names name : List ℕ) {n : ℕ} → Ordered s (length s.items) names n → {r : Result ℕ ℕ} → Placed s names n name r → {p : ℕ} → r ≡ Err p → 0 ≡ number_of (declaration_of s name)
 number-nothing s names name {n} o pl {p} q =
     let b = pl.before p q in
@@ -222,8 +221,8 @@ module _ (s : Schema) (names name : List ℕ) {n : ℕ} (o : Ordered s (length s
   placed-in = (pl.at p q).0
 
   module _ {j : ℕ} (ej : j ≡ get_or names p 0) where
-    pub placed_below : length s.items ≤ 1024 → j < 1024
-    placed_below most = let b = o.below p placed-in in omega arith
+    pub placed_below : j < 1024
+    placed_below = let b = o.below p placed-in in let most = o.most in omega arith
 
     worth-is : worth s j ≡ number_of (declaration_of s name)
     worth-is = ap (worth s) ej ∙ o.is p placed-in ∙ ap (number_in s (length s.items)) (pl.at p q).1 ∙ number-all s name

@@ -1,12 +1,13 @@
 -- Laws of searches by the index, each from the facts at hand where the code needs it.
-use Rattle.std.proofs.Common.{◌≡◌, refl, sym, ◌∙◌, true, false, Option, Some, None, is_some, List, [], ◌∷◌, ℕ, ◌+◌, ◌*◌, ◌-◌, ◌<◌, arith, length, get_or}
+use Rattle.std.proofs.Common.{◌≡◌, refl, sym, ◌∙◌, Option, Some, None, List, [], ◌∷◌, ℕ, ◌+◌, ◌*◌, ◌-◌, ◌<◌, arith, length, get_or}
 use lib.ListN.{get_or-eq_default}
-use Rattle.model.specs.Schema.{Schema, item_at, no_item, next_under, last_named, a_type, a_composite, an_enum}
+use Rattle.model.specs.Schema.{Schema, item_at, no_item, next_under}
 use Rattle.model.specs.Search.{ahead}
 use Rattle.model.proofs.Records.{by_less}
-use Rattle.model.proofs.Searching.{ahead-none, ahead-some, owned_so}
+use Rattle.model.proofs.Searching.{ahead-none, ahead-some}
+use Rattle.model.specs.Schema.{is_under}
 use Rattle.index.specs.Blank.{kinds, per_item}
-use Rattle.index.specs.Declarations.{declared_by, declaration_of, number_of}
+use Rattle.index.specs.Declarations.{declaration_of, number_of}
 use Rattle.index.specs.declared.declaration.Declaration.{Declaration}
 use Rattle.index.specs.declared.declaration.Declaration.TheVariants.{Named, Typed}
 use Rattle.index.specs.internal.Index.{code, Indexed}
@@ -32,13 +33,13 @@ module _ (s : Schema) (ix : List ℕ) (x : Indexed s ix) (kind owner from : ℕ)
   child-next hk ho h en l fk ek fo eo g = g (next_under kind owner from s) (child-on h (omega arith) (sym fk ∙ ek) (sym fo ∙ eo) hk ho)
 
 -- what a search for the next one answers
-pub under-none : (kind owner from : ℕ) (s : Schema) → next_under kind owner from s ≡ None → ahead (owned_so kind owner) from s ≡ []
+pub under-none : (kind owner from : ℕ) (s : Schema) → next_under kind owner from s ≡ None → ahead (is_under kind owner) from s ≡ []
 unfolding next_under ahead
 under-none kind owner from s e = ahead-none e
 
-pub under-some : (kind owner from : ℕ) (s : Schema) {i : ℕ} → next_under kind owner from s ≡ Some i → ahead (owned_so kind owner) from s ≡ i ∷ ahead (owned_so kind owner) (i + 1) s
+pub under-some : (kind owner from : ℕ) (s : Schema) {i : ℕ} → next_under kind owner from s ≡ Some i → ahead (is_under kind owner) from s ≡ i ∷ ahead (is_under kind owner) (i + 1) s
 unfolding next_under ahead
-under-some kind owner from s {i} e = ahead-some (owned_so kind owner) s from i e
+under-some kind owner from s {i} e = ahead-some (is_under kind owner) s from i e
 
 -- ---- type names
 
@@ -56,48 +57,6 @@ pub declaration-typed : {n : ℕ} → (n ≡ 0 → ⊥) → (n ≡ 1 → ⊥) �
 declaration-typed a b None e = absurd (a e)
 declaration-typed a b (Some Named) e = absurd (b e)
 declaration-typed {n} a b (Some (Typed i)) e = let z : n - 2 ≡ i = omega arith in rw z
-
--- by the model's searches
-false-true : {G : Type 0} → false ≡ true → G
-false-true e = absurd (let z : ◌≡◌ {A = ℕ} 0 1 = cc in omega arith)
-
-told-enum : (e c t : Option ℕ) → is_some e ≡ true → Some Named ≡ declared_by e c t
-told-enum (Some i) c t h = refl
-told-enum None c t h = false-true h
-
-told-composite : (e c t : Option ℕ) → is_some e ≡ false → is_some c ≡ true → Some Named ≡ declared_by e c t
-told-composite (Some i) c t h g = false-true (sym h)
-told-composite None (Some i) t h g = refl
-told-composite None None t h g = false-true g
-
-told-type : (e c t : Option ℕ) → is_some e ≡ false → is_some c ≡ false → {i : ℕ} → t ≡ Some i → Some (Typed i) ≡ declared_by e c t
-told-type (Some i) c t h g q = false-true (sym h)
-told-type None (Some i) t h g q = false-true (sym g)
-told-type None None t h g q = rw q
-
-told-none : (e c t : Option ℕ) → is_some e ≡ false → is_some c ≡ false → t ≡ None → None ≡ declared_by e c t
-told-none (Some i) c t h g q = false-true (sym h)
-told-none None (Some i) t h g q = false-true (sym g)
-told-none None None t h g q = rw q
-
-module _ (s : Schema) (name : List ℕ) {e : Option ℕ} (ee : e ≡ last_named an_enum name s) where
-  pub searched-enum : is_some e ≡ true → Some Named ≡ declaration_of s name
-  unfolding declaration_of
-  searched-enum h = rw (← ee) (told-enum e (last_named a_composite name s) (last_named a_type name s) h)
-
-  module _ (he : is_some e ≡ false) {c : Option ℕ} (ec : c ≡ last_named a_composite name s) where
-    pub searched-composite : is_some c ≡ true → Some Named ≡ declaration_of s name
-    unfolding declaration_of
-    searched-composite h = rw (← ee, ← ec) (told-composite e c (last_named a_type name s) he h)
-
-    module _ (hc : is_some c ≡ false) {t : Option ℕ} (et : t ≡ last_named a_type name s) where
-      pub searched-type : {i : ℕ} → t ≡ Some i → Some (Typed i) ≡ declaration_of s name
-      unfolding declaration_of
-      searched-type q = rw (← ee, ← ec, ← et) (told-type e c t he hc q)
-
-      pub searched-none : t ≡ None → None ≡ declaration_of s name
-      unfolding declaration_of
-      searched-none q = rw (← ee, ← ec, ← et) (told-none e c t he hc q)
 
 pub field-within : (s : Schema) (i : ℕ) (ix : List ℕ) → Indexed s ix → (item_at s i).kind ≡ 9 → per_item * i + 1 < length ix
 field-within s i ix x k = omega (arith, inside s i k, x.long)

@@ -1,9 +1,9 @@
 -- Laws of the hash, each from the facts at hand where the code needs it.
+use Rattle.model.proofs.Records.{by_less}
 use Rattle.std.proofs.Common.{◌≡◌, refl, ap, List, ℕ, zero, suc, ◌+◌, ◌-◌, ◌*◌, ◌/◌, ◌%◌, ◌≤◌, ◌<◌, arith, length, get_or, eq-eqb, ne_eqb, lt-ltb, le-ltb}
 use lib.Bits.{bit_and, bit_xor, and_le_l, and_le_r}
 use Rattle.texts.specs.Text.{piece}
 use Rattle.model.specs.Schema.{Schema}
-use Rattle.model.proofs.Records.{by_less}
 use Rattle.swar.specs.Word.{IsWord, IsHalf}
 use Rattle.index.specs.Blank.{per_item, mask_of}
 use Rattle.index.specs.internal.Index.{short_word, mix, words_from, long_word, narrowed, hash, HashOf, place, HeadOf}
@@ -55,18 +55,15 @@ module _ {s : List ℕ} {i h : ℕ} (k : Hashing s i h) where
       go zero e q = absurd (let z = k.within in omega arith)
       go (suc n) e q = rw (er, ew.is) (rw (le-ltb (i + 8) (length s) l, words_from) at q)
 
--- one word or two
-module _ (s : List ℕ) (a : 8 ≤ length s) where
-  pub words-one : length s ≡ 8 → {w : ℕ} → IsWord (piece s 0 8) w → {r : ℕ} → r ≡ mix (length s) w → r ≡ long_word s
-  words-one e {w} ew er =
+-- the first word
+module _ (s : List ℕ) (a : 8 ≤ length s) {w : ℕ} (ew : IsWord (piece s 0 8) w) {h : ℕ} (eh : h ≡ mix (length s) w) where
+  pub words-one : length s ≡ 8 → h ≡ long_word s
+  words-one e =
       let z : length s - 8 ≡ 0 = omega arith in
-      let last : IsWord (piece s (length s - 8) 8) w = rw z ew in hashing-end (hashing-start {s = s} a) (omega arith) last er
+      let last : IsWord (piece s (length s - 8) 8) w = rw z ew in hashing-end (hashing-start {s = s} a) (omega arith) last eh
 
-  pub words-two : (length s ≡ 8 → ⊥) → length s ≤ 16 → {w : ℕ} → IsWord (piece s 0 8) w → {h : ℕ} → h ≡ mix (length s) w → {v : ℕ} → IsWord (piece s (length s - 8) 8) v → {r : ℕ} → r ≡ mix h v → r ≡ long_word s
-  words-two n b ew eh ev er =
-      by_less 8 (length s)
-      (λ l. hashing-end (hashing-on (hashing-start {s = s} a) l ew eh) b ev er)
-      (λ l. absurd (n (omega arith)))
+  pub words-more : (length s ≡ 8 → ⊥) → Hashing s 8 h
+  words-more n = hashing-on (hashing-start {s = s} a) (by_less 8 (length s) (λ l. l) (λ l. absurd (n (omega arith)))) ew eh
 
 -- ---- the hash of any name
 

@@ -3,7 +3,8 @@ use Rattle.std.proofs.Common.{◌≡◌, sym, ap, ◌∙◌, Some, None, List, �
 use Rattle.texts.proofs.Choosing.{by-test, both_true}
 use Rattle.model.specs.Schema.{Schema, item_at, no_item, positions_from, first, next_under}
 use Rattle.model.proofs.Records.{by_less}
-use Rattle.model.proofs.Searching.{owned_so, first-yes, first-no}
+use Rattle.model.proofs.Searching.{first-yes, first-no}
+use Rattle.model.specs.Schema.{is_under}
 use Rattle.index.proofs.Numbering.{by_equal}
 use Rattle.index.specs.Blank.{kinds, per_item}
 use Rattle.index.specs.internal.Index.{code, fronted, Linked}
@@ -18,14 +19,14 @@ under-end s k o j h = rw (drop_of_length-le s.items h)
 module _ (s : Schema) (k o j : ℕ) (h : j < length s.items) where
   pub under-hit : (item_at s j).kind ≡ k → (item_at s j).owner ≡ o → next_under k o j s ≡ Some j
   unfolding next_under
-  under-hit ek eo = rw (drop-cons s.items j no_item) (first-yes (owned_so k o) j (item_at s j) (drop (suc j) s.items) (rw (eq-eqb (item_at s j).kind k ek, eq-eqb (item_at s j).owner o eo)))
+  under-hit ek eo = rw (drop-cons s.items j no_item) (first-yes (is_under k o) j (item_at s j) (drop (suc j) s.items) (rw (eq-eqb (item_at s j).kind k ek, eq-eqb (item_at s j).owner o eo)))
 
   pub under-miss : ((item_at s j).kind ≡ k → (item_at s j).owner ≡ o → ⊥) → next_under k o j s ≡ next_under k o (j + 1) s
   unfolding next_under
   under-miss n =
-      by-test (owned_so k o (item_at s j))
+      by-test (is_under k o (item_at s j))
       (λ t. let e = both_true (eqb (item_at s j).kind k) (eqb (item_at s j).owner o) t in absurd (n (eqb-true (item_at s j).kind k e.0) (eqb-true (item_at s j).owner o e.1)))
-      (λ f. ap first (rw (add-one, drop-cons s.items j no_item) (first-no (owned_so k o) j (item_at s j) (drop (suc j) s.items) f ∙ rw add-one)))
+      (λ f. ap first (rw (add-one, drop-cons s.items j no_item) (first-no (is_under k o) j (item_at s j) (drop (suc j) s.items) f ∙ rw add-one)))
 
 -- ---- the links
 

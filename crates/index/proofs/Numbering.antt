@@ -7,7 +7,8 @@ use Rattle.texts.specs.Text.{same}
 use Rattle.texts.proofs.Choosing.{by-test}
 use Rattle.texts.proofs.Comparing.{same-equal, equal-same}
 use Rattle.model.specs.Schema.{Item, Schema, item_at, positions_from, last, last_named, a_type, a_composite, an_enum}
-use Rattle.model.proofs.Searching.{named_so, last-yes, last-no}
+use Rattle.model.proofs.Searching.{last-yes, last-no}
+use Rattle.model.specs.Schema.{is_named}
 use Rattle.index.specs.Declarations.{declares, declared_by, declaration_of, number_of}
 use Rattle.index.specs.internal.Sorted.{last_by, number_in, worth}
 
@@ -68,11 +69,11 @@ unfolding number_in declaration_of last_named
 number-all s name = rw take-length
 
 module _ (s : Schema) (k : ℕ) (h : k < length s.items) (name : List ℕ) where
-  number_step : number_in s (k + 1) name ≡ number_of (declared_by (pick (named_so an_enum name (item_at s k)) (Some k) (last_by (named_so an_enum name) k s)) (pick (named_so a_composite name (item_at s k)) (Some k) (last_by (named_so a_composite name) k s)) (pick (named_so a_type name (item_at s k)) (Some k) (last_by (named_so a_type name) k s)))
+  number_step : number_in s (k + 1) name ≡ number_of (declared_by (pick (is_named an_enum name (item_at s k)) (Some k) (last_by (is_named an_enum name) k s)) (pick (is_named a_composite name (item_at s k)) (Some k) (last_by (is_named a_composite name) k s)) (pick (is_named a_type name (item_at s k)) (Some k) (last_by (is_named a_type name) k s)))
   unfolding number_in
-  number_step = rw (last_step (named_so an_enum name) s k h, last_step (named_so a_composite name) s k h, last_step (named_so a_type name) s k h)
+  number_step = rw (last_step (is_named an_enum name) s k h, last_step (is_named a_composite name) s k h, last_step (is_named a_type name) s k h)
 
-  number-off : ((kind : ℕ) → declares kind ≡ true → named_so kind name (item_at s k) ≡ false) → number_in s (k + 1) name ≡ number_in s k name
+  number-off : ((kind : ℕ) → declares kind ≡ true → is_named kind name (item_at s k) ≡ false) → number_in s (k + 1) name ≡ number_in s k name
   unfolding number_in declares
   number-off f = number_step ∙ rw (f an_enum refl, f a_composite refl, f a_type refl)
 
@@ -93,8 +94,8 @@ module _ (s : Schema) (k : ℕ) (h : k < length s.items) (name : List ℕ) where
     number-fresh n =
         number_step
         ∙ by_kind (item_at s k).kind d
-        (λ q. rw (q, equal-same e) (numbered-type k (last_by (named_so an_enum name) k s) (last_by (named_so a_composite name) k s) (last_by (named_so a_type name) k s) n))
-        (λ q. rw (q, equal-same e) (numbered-composite k (last_by (named_so an_enum name) k s) (last_by (named_so a_type name) k s)))
+        (λ q. rw (q, equal-same e) (numbered-type k (last_by (is_named an_enum name) k s) (last_by (is_named a_composite name) k s) (last_by (is_named a_type name) k s) n))
+        (λ q. rw (q, equal-same e) (numbered-composite k (last_by (is_named an_enum name) k s) (last_by (is_named a_type name) k s)))
         (λ q. rw (q, equal-same e))
 
     pub number-kept : number_in s k name ≡ 1 → number_in s (k + 1) name ≡ 1
@@ -102,6 +103,6 @@ module _ (s : Schema) (k : ℕ) (h : k < length s.items) (name : List ℕ) where
     number-kept o =
         number_step
         ∙ by_kind (item_at s k).kind d
-        (λ q. rw (q, equal-same e) (numbered-kept k (last_by (named_so an_enum name) k s) (last_by (named_so a_composite name) k s) (last_by (named_so a_type name) k s) o))
-        (λ q. rw (q, equal-same e) (numbered-composite k (last_by (named_so an_enum name) k s) (last_by (named_so a_type name) k s)))
+        (λ q. rw (q, equal-same e) (numbered-kept k (last_by (is_named an_enum name) k s) (last_by (is_named a_composite name) k s) (last_by (is_named a_type name) k s) o))
+        (λ q. rw (q, equal-same e) (numbered-composite k (last_by (is_named an_enum name) k s) (last_by (is_named a_type name) k s)))
         (λ q. rw (q, equal-same e))

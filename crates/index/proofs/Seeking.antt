@@ -6,7 +6,7 @@ use Rattle.texts.specs.Text.{same}
 use Rattle.texts.proofs.Choosing.{by-test, both_true}
 use Rattle.texts.proofs.Comparing.{same-equal}
 use Rattle.model.specs.Schema.{Item, Schema, item_at, last_named, a_type, a_composite, an_enum}
-use Rattle.model.proofs.Searching.{named_so}
+use Rattle.model.specs.Schema.{is_named}
 use Rattle.index.specs.Declarations.{declares}
 use Rattle.index.specs.internal.Sorted.{last_by}
 use Rattle.index.proofs.Numbering.{by_kind, last_step}
@@ -17,26 +17,22 @@ use Rattle.index.proofs.Chaining.{none_passes, some-passes, code-none, code-some
 
 -- ---- what is kept
 
-type_number : Option ℕ → ℕ
-type_number None = 0
-type_number (Some i) = i + 2
-
 -- the number of a name, where the walk has `kept` so far, and e, c, t are the last enum, composite
 -- and type of the name among the items to come
 pub chosen : ℕ → Option ℕ → Option ℕ → Option ℕ → ℕ
 chosen kept (Some i) c t = 1
 chosen kept None (Some i) t = 1
-chosen kept None None t = pick (ltb 0 kept) kept (type_number t)
+chosen kept None None t = pick (ltb 0 kept) kept (number_of (declared_by None None t))
 
 chosen-first : (e c t : Option ℕ) → chosen 0 e c t ≡ number_of (declared_by e c t)
-unfolding chosen type_number
+unfolding chosen
 chosen-first (Some i) c t = refl
 chosen-first None (Some i) t = refl
 chosen-first None None (Some i) = refl
 chosen-first None None None = refl
 
 chosen_last : (kept : ℕ) → chosen kept None None None ≡ kept
-unfolding chosen type_number
+unfolding chosen
 chosen_last kept = by-test (ltb 0 kept) (λ t. rw t) (λ f. let l = ltb-false 0 kept f in let z : 0 ≡ kept = omega arith in rw f z)
 
 chosen-one : (e c t : Option ℕ) → chosen 1 e c t ≡ 1
@@ -48,12 +44,12 @@ chosen-one None None t = refl
 -- one item of each kind: b where it has the name
 module _ (kept j : ℕ) where
   step-type : (b : Bool) (e c t : Option ℕ) → chosen kept e c (pick b (Some j) t) ≡ chosen (pick (ltb 0 kept) kept (pick b (j + 2) 0)) e c t
-  unfolding chosen type_number
+  unfolding chosen
   step-type b (Some i) c t = refl
   step-type b None (Some i) t = refl
   step-type b None None t = go b (ltb 0 kept) refl
     where
-      go : (b w : Bool) → ltb 0 kept ≡ w → pick (ltb 0 kept) kept (type_number (pick b (Some j) t)) ≡ pick (ltb 0 (pick (ltb 0 kept) kept (pick b (j + 2) 0))) (pick (ltb 0 kept) kept (pick b (j + 2) 0)) (type_number t)
+      go : (b w : Bool) → ltb 0 kept ≡ w → pick (ltb 0 kept) kept (number_of (declared_by None None (pick b (Some j) t))) ≡ pick (ltb 0 (pick (ltb 0 kept) kept (pick b (j + 2) 0))) (pick (ltb 0 kept) kept (pick b (j + 2) 0)) (number_of (declared_by None None t))
       go b true f = rw (f, f)
       go true false f = rw (f, lt-ltb 0 (j + 2) (omega arith))
       go false false f = rw f
@@ -76,7 +72,7 @@ module _ (kept j : ℕ) where
 -- ---- along the chain
 
 -- an item of this name is in its chain
-narrow : (s : Schema) (kind : ℕ) (name : List ℕ) → declares kind ≡ true → (it : Item) → named_so kind name it ≡ true → hashed s (place s name) it ≡ true
+narrow : (s : Schema) (kind : ℕ) (name : List ℕ) → declares kind ≡ true → (it : Item) → is_named kind name it ≡ true → hashed s (place s name) it ≡ true
 unfolding hashed
 narrow s kind name d it t =
     let e = both_true (eqb it.kind kind) (same it.name name) t in
@@ -89,7 +85,7 @@ pub record Seeking (name : List ℕ) (s : Schema) (p kept : ℕ) : Type 0 where
   pub n : ℕ
   pub within : n ≤ length s.items
   pub leads : p ≡ code (last_hashed (place s name) n s)
-  pub same : chosen kept (last_by (named_so an_enum name) n s) (last_by (named_so a_composite name) n s) (last_by (named_so a_type name) n s) ≡ number_of (declaration_of s name)
+  pub same : chosen kept (last_by (is_named an_enum name) n s) (last_by (is_named a_composite name) n s) (last_by (is_named a_type name) n s) ≡ number_of (declaration_of s name)
 
 pub seeking-start : (name : List ℕ) (s : Schema) (ix : List ℕ) → Chained s (length s.items) ix → {b : ℕ} → HeadOf s name b → {p : ℕ} → p ≡ get_or ix b 0 → Seeking name s p 0
 unfolding declaration_of last_named
@@ -106,13 +102,13 @@ module _ (name : List ℕ) (s : Schema) {p kept : ℕ} (k : Seeking name s p kep
   unfolding last_hashed declares
   seeking-none h = sym (chosen_last kept) ∙ (rw (gone an_enum refl, gone a_composite refl, gone a_type refl) at k.same)
     where
-      gone : (kind : ℕ) → declares kind ≡ true → last_by (named_so kind name) k.n s ≡ None
-      gone kind d = none_passes (named_so kind name) (hashed s (place s name)) s (narrow s kind name d) k.n k.within (code-none (last_hashed (place s name) k.n s) (let z : p ≡ 0 = omega arith in sym k.leads ∙ z))
+      gone : (kind : ℕ) → declares kind ≡ true → last_by (is_named kind name) k.n s ≡ None
+      gone kind d = none_passes (is_named kind name) (hashed s (place s name)) s (narrow s kind name d) k.n k.within (code-none (last_hashed (place s name) k.n s) (let z : p ≡ 0 = omega arith in sym k.leads ∙ z))
 
   module _ (h : 0 < p) where
-    passed : (kind : ℕ) → declares kind ≡ true → (p - 1 < k.n) × (hashed s (place s name) (item_at s (p - 1)) ≡ true) × (last_by (named_so kind name) k.n s ≡ last_by (named_so kind name) (p - 1 + 1) s)
+    passed : (kind : ℕ) → declares kind ≡ true → (p - 1 < k.n) × (hashed s (place s name) (item_at s (p - 1)) ≡ true) × (last_by (is_named kind name) k.n s ≡ last_by (is_named kind name) (p - 1 + 1) s)
     unfolding last_hashed
-    passed kind d = some-passes (named_so kind name) (hashed s (place s name)) s (narrow s kind name d) k.n k.within (p - 1) (code-some (last_hashed (place s name) k.n s) p h k.leads)
+    passed kind d = some-passes (is_named kind name) (hashed s (place s name)) s (narrow s kind name d) k.n k.within (p - 1) (code-some (last_hashed (place s name) k.n s) p h k.leads)
 
     pub seeking-low : p - 1 < length s.items
     unfolding declares
@@ -121,23 +117,23 @@ module _ (name : List ℕ) (s : Schema) {p kept : ℕ} (k : Seeking name s p kep
     pub seeking-few : {n : ℕ} {ix : List ℕ} → Chained s n ix → p - 1 < 1024
     seeking-few x = let l = seeking-low in let f = x.few in omega arith
 
-    turned : (kind : ℕ) → declares kind ≡ true → last_by (named_so kind name) k.n s ≡ pick (named_so kind name (item_at s (p - 1))) (Some (p - 1)) (last_by (named_so kind name) (p - 1) s)
-    turned kind d = (passed kind d).2 ∙ last_step (named_so kind name) s (p - 1) seeking-low
+    turned : (kind : ℕ) → declares kind ≡ true → last_by (is_named kind name) k.n s ≡ pick (is_named kind name (item_at s (p - 1))) (Some (p - 1)) (last_by (is_named kind name) (p - 1) s)
+    turned kind d = (passed kind d).2 ∙ last_step (is_named kind name) s (p - 1) seeking-low
 
     declaring : declares (item_at s (p - 1)).kind ≡ true
     unfolding declares
     declaring = (hashed-as s (item_at s (p - 1)) (place s name) (passed a_type refl).1).0
 
     module _ {r : ℕ} (er : r ≡ kept_by (item_at s (p - 1)) (p - 1) name kept) where
-      kept_same : chosen r (last_by (named_so an_enum name) (p - 1) s) (last_by (named_so a_composite name) (p - 1) s) (last_by (named_so a_type name) (p - 1) s) ≡ number_of (declaration_of s name)
+      kept_same : chosen r (last_by (is_named an_enum name) (p - 1) s) (last_by (is_named a_composite name) (p - 1) s) (last_by (is_named a_type name) (p - 1) s) ≡ number_of (declaration_of s name)
       unfolding declares
       kept_same =
           rw er
-          (sym (step-any kept (p - 1) (item_at s (p - 1)).kind declaring (same (item_at s (p - 1)).name name) (last_by (named_so an_enum name) (p - 1) s) (last_by (named_so a_composite name) (p - 1) s) (last_by (named_so a_type name) (p - 1) s))
+          (sym (step-any kept (p - 1) (item_at s (p - 1)).kind declaring (same (item_at s (p - 1)).name name) (last_by (is_named an_enum name) (p - 1) s) (last_by (is_named a_composite name) (p - 1) s) (last_by (is_named a_type name) (p - 1) s))
           ∙ (rw (turned an_enum refl, turned a_composite refl, turned a_type refl) at k.same))
 
       pub seeking-found : r ≡ 1 → r ≡ number_of (declaration_of s name)
-      seeking-found e = rw e (sym (chosen-one (last_by (named_so an_enum name) (p - 1) s) (last_by (named_so a_composite name) (p - 1) s) (last_by (named_so a_type name) (p - 1) s)) ∙ (rw e at kept_same))
+      seeking-found e = rw e (sym (chosen-one (last_by (is_named an_enum name) (p - 1) s) (last_by (is_named a_composite name) (p - 1) s) (last_by (is_named a_type name) (p - 1) s)) ∙ (rw e at kept_same))
 
     module _ (ix : List ℕ) (x : Chained s (length s.items) ix) {q : ℕ} (eq : q ≡ get_or ix (per_item * (p - 1) + 1) 0) where
       next-leads : q ≡ code (last_hashed (place s name) (p - 1) s)

@@ -19,7 +19,11 @@ declared_by None None None = None
 
 -- what a name is declared as
 unfoldable pub declaration_of : Schema → List ℕ → Option Declaration
-declaration_of s name = declared_by (last_named an_enum name s) (last_named a_composite name s) (last_named a_type name s)
+declaration_of s name =
+    declared_by
+    (last_named an_enum name s)
+    (last_named a_composite name s)
+    (last_named a_type name s)
 
 -- the number that the index holds for it: 1 for an enum or composite, otherwise 2 more than the
 -- position of the type, 0 for none

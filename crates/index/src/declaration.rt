@@ -23,8 +23,7 @@ pub enum Declaration {
     Typed(u32),
 }
 
-// Its number in the index: 0 where it is not declared, `NAMED`, or `TYPED` more than the position of
-// a type.
+// Its number in the index: 0 where it is not declared, `NAMED`, or a type's position and `TYPED`.
 
 /// The number of an enum or a composite.
 pub(crate) const NAMED: u32 = 1;
@@ -45,6 +44,8 @@ pub(crate) fn numbered(n: u32) -> Option<Declaration>
 }
 
 /// What a name is declared as, by the model's searches alone.
+#[inline(never)]
+#[tactic(auto, unfolding(crate::specs::Declarations::declaration_of))]
 pub fn declaration_in(v: &View<'_>, name: &[u8]) -> Option<Declaration>
     ensures { result ≡ declaration_of v.now name.now }
 {
@@ -54,7 +55,8 @@ pub fn declaration_in(v: &View<'_>, name: &[u8]) -> Option<Declaration>
     if v.last_named(COMPOSITE, name).is_some() {
         return Some(Declaration::Named);
     }
-    let i = v.last_named(TYPE, name)?;
-    Some(Declaration::Typed(i))
+    match v.last_named(TYPE, name) {
+        Some(i) => Some(Declaration::Typed(i)),
+        None => None,
+    }
 }
-

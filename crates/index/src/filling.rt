@@ -2,10 +2,8 @@
 //! and type names from the last item back.
 ghost use Rattle.std.specs.Prelude.{◌≡◌, ◌+◌, ◌≤◌, ◌<◌, IfSome, length};
 ghost use Rattle.texts.specs.Choice.{pick};
-ghost use Rattle.index.specs.internal.Sorted.{Added};
 ghost use Rattle.index.specs.Blank.{Blank};
-ghost use Rattle.index.specs.internal.Index.{Chained, Naming, Settling};
-ghost use Rattle.index.specs.Declarations.{declaration_of, number_of};
+ghost use Rattle.index.specs.internal.Index.{Chained, Naming, Next, Numbers, Settling};
 
 use crate::declaration::{NAMED, is_declaring};
 use crate::sorted::Names;
@@ -59,7 +57,7 @@ fn link_item(v: &View<'_>, i: u32, ix: &mut [u16])
 /// the first met, which is the last declared, counts.
 fn resolved(v: &View<'_>, ix: &[u16], name: &[u8]) -> Option<u32>
     requires { Chained v.now (length v.now.items) ix.now }
-    ensures { IfSome result (λ n. (n ≡ number_of (declaration_of v.now name.now)) × (n < 1026)) }
+    ensures { IfSome result (Numbers v.now name.now) }
 {
     let mut kept = 0;
     let mut p = word(ix, head_of(v, name));
@@ -81,7 +79,7 @@ fn resolved(v: &View<'_>, ix: &[u16], name: &[u8]) -> Option<u32>
 /// Stores what the type name of item `i` is declared as, if it is a field. Returns false, and
 /// stores nothing, where its chain is too long.
 fn resolve_item(v: &View<'_>, i: u32, ix: &mut [u16]) -> bool
-    requires { Settling v.now (i + 1) (i + 1) ix.old × (i < length v.now.items) }
+    requires { Next v.now i ix.old }
     ensures { Settling v.now (i + 1) (pick result i (i + 1)) ix.new }
 {
     if v.kind(i) == FIELD {
@@ -96,7 +94,7 @@ fn resolve_item(v: &View<'_>, i: u32, ix: &mut [u16]) -> bool
 
 /// The same from the sorted names, for a chain of any length.
 fn order_item(v: &View<'_>, names: &Names<'_>, i: u32, ix: &mut [u16])
-    requires { Settling v.now (i + 1) (i + 1) ix.old × (names.now ≡ record { schema = v.now; added = length v.now.items }) × (i < length v.now.items) }
+    requires { Next v.now i ix.old × (names.now ≡ v.now) }
     ensures { Settling v.now (i + 1) i ix.new }
 {
     if v.kind(i) == FIELD {

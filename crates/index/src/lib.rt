@@ -99,34 +99,28 @@ fn mixed(h: u64, w: u64) -> u64
     (h % 1152921504606846976 * 9) ^ w
 }
 
-/// `long_word` of a name of 8 to 16 bytes, without a loop: its first and last eight bytes.
-#[tactic(auto, using(crate::proofs::Laws::hashing))]
-fn two_words(name: &[u8]) -> u64
-    requires { (8 ≤ length name.now) × (length name.now ≤ 16) }
-    ensures { result ≡ long_word name.now }
-{
-    let n = name.len();
-    // Mixed before the test: after it, the compiler would load the word byte by byte.
-    let h = mixed(n as u64, word_at(name, 0));
-    if n == 8 {
-        return h;
-    }
-    mixed(h, word_at(name, n - 8))
-}
-
 /// A name of 8 bytes or more as a number: all its words are mixed, the last one ending with the
 /// name.
 #[tactic(auto, using(crate::proofs::Laws::hashing))]
+#[inline(always)]
 fn long_word(name: &[u8]) -> u64
     requires { 8 ≤ length name.now }
     ensures { result ≡ long_word name.now }
 {
     let n = name.len();
-    let mut h = n as u64;
-    for i in (0..n - 8).step_by(8) {
-        h = mixed(h, word_at(name, i));
+    // Mixed before the test: after it, the compiler would load the word byte by byte.
+    let mut h = mixed(n as u64, word_at(name, 0));
+    if n == 8 {
+        return h;
     }
-    mixed(h, word_at(name, n - 8))
+    let last = n - 8;
+    let mut i = 8;
+    // `while`, not `step_by`, which counts its steps first: most names have one word or two.
+    while i < last {
+        h = mixed(h, word_at(name, i));
+        i += 8;
+    }
+    mixed(h, word_at(name, last))
 }
 
 /// Folds a number to ten bits by multiply-shift of both halves: each byte reaches the result.
@@ -145,9 +139,6 @@ fn hash_of(name: &[u8]) -> usize
 {
     if name.len() < 8 {
         return narrow(short_word(name));
-    }
-    if name.len() <= 16 {
-        return narrow(two_words(name));
     }
     narrow(long_word(name))
 }

@@ -2,8 +2,9 @@
 ghost use Rattle.std.specs.Prelude.{◌≡◌, ◌+◌, ◌≤◌, ◌<◌, ◌^◌, ℕ, Option, Some, None, IfSome, eqb, length};
 ghost use Rattle.std.specs.Iterator.{YieldsFirst, item_count};
 ghost use Rattle.texts.specs.Choice.{◌and◌, pick};
-ghost use Rattle.model.specs.Schema.{item_at, all_of, under, next_under, a_field};
-ghost use Rattle.model.specs.Search.{ahead};
+ghost use Rattle.model.specs.Schema.{item_at, is_kind, all_of, under, next_under, a_field};
+ghost use Rattle.model.specs.Search.{ahead, is_of};
+ghost use Rattle.index.specs.Children.{left};
 ghost use Rattle.index.specs.Blank.{Blank, kinds};
 ghost use Rattle.index.specs.internal.Index.{code};
 ghost use Rattle.index.specs.Declarations.{declaration_of, number_of};
@@ -11,9 +12,9 @@ ghost use Rattle.index.specs.declared.declaration.Declaration.{Declaration};
 
 use crate::declaration::{Declaration, declaration_in, numbered};
 use crate::{CHAIN, EACH, FIRST, LAST_KIND, build};
-use model::search::{OfKind, Walk};
-use model::view::View;
 use model::FIELD;
+use model::search::{OfKind, Under, Walk, next};
+use model::view::View;
 use std::marker::Model;
 
 /// A view and its index. Contracts see it as the schema.
@@ -167,7 +168,7 @@ impl<'a> Index<'a> {
 
     /// All items of a kind, in order.
     pub fn all_of(&'a self, kind: u32) -> Walk<'a, OfKind>
-        ensures list { ahead (λ it. eqb it.kind result.by.kind) result.from result.view.now ≡ all_of kind self.now }
+        ensures list { ahead (is_of result.by) result.from result.view.now ≡ all_of kind self.now }
         ensures few { length self.now.items ≤ 1024 }
     {
         self.view.all_of(kind)
@@ -194,12 +195,13 @@ impl<'a> Index<'a> {
     }
 
     /// `child_number` by the model's search. Out of line: it is rare.
+    #[tactic(auto, unfolding(model::specs::Schema::next_under, model::specs::Search::ahead))]
     #[cold]
     #[inline(never)]
     fn searched(&self, kind: u32, owner: u32, from: u32) -> u32
         ensures { result ≡ code (next_under kind owner from self.now) }
     {
-        match self.view.next_under(kind, owner, from) {
+        match next(&self.view, &Under { kind, owner }, from) {
             Some(i) => i + 1,
             None => 0,
         }
@@ -223,39 +225,31 @@ impl<'a> Index<'a> {
 
     /// All items of a kind under an owner, in order.
     pub fn children(&'a self, kind: u32, owner: u32) -> Children<'a>
-        ensures list { ahead (λ it. eqb it.kind result.kind and eqb it.owner result.owner) result.from result.index.now ≡ under kind owner self.now }
+        ensures list { left result ≡ under kind owner self.now }
         ensures few { length self.now.items ≤ 1024 }
     {
         // Proves `few`.
         let _count = self.count();
         Children {
             index: self,
-            kind,
-            owner,
+            by: Under { kind, owner },
             from: 0,
         }
     }
 
-    /// What the type name of the field at `i` is declared as: 0 is nothing, 1 an enum or composite,
-    /// `k + 2` the type at `k`. One load, so it requires a field;
-    /// by `declared`, which requires nothing, a conversion takes 2 % longer.
-    pub fn field_number(&self, i: u32) -> u32
-        requires { (item_at self.now i).kind ≡ a_field }
-        ensures { result ≡ number_of (declaration_of self.now (item_at self.now i).second) }
-    {
-        self.links[EACH * (i as usize) + CHAIN] as u32
-    }
-
-    /// `field_number` as a `Declaration`.
+    /// What the type name of the field at `i` is declared as. One load, so it requires a field; by
+    /// `declared`, which requires nothing, a conversion takes 2 % longer.
+    #[inline(always)]
     pub fn field_declared(&self, i: u32) -> Option<Declaration>
         requires { (item_at self.now i).kind ≡ a_field }
         ensures { result ≡ declaration_of self.now (item_at self.now i).second }
     {
-        numbered(self.field_number(i))
+        numbered(self.links[EACH * (i as usize) + CHAIN] as u32)
     }
 
     /// What the type name of any item is declared as: for a field from the index, otherwise by
-    /// searches.
+    /// searches. Inlined, so that the `Declaration` is not stored and loaded again.
+    #[inline(always)]
     pub fn declared(&self, i: u32) -> Option<Declaration>
         ensures { result ≡ declaration_of self.now (item_at self.now i).second }
     {
@@ -270,22 +264,23 @@ impl<'a> Index<'a> {
 #[derive(Drop)]
 pub struct Children<'a> {
     index: &'a Index<'a>,
-    kind: u32,
-    owner: u32,
+    by: Under,
     from: u32,
 }
 
 impl<'a> Iterator for Children<'a> {
     type Item = u32;
 
-    ghost next_gives = { YieldsFirst (λ s. ahead (λ it. eqb it.kind s.kind and eqb it.owner s.owner) s.from s.index.now) };
+    ghost next_gives = { YieldsFirst left };
 
-    ghost remaining = { item_count (λ s. ahead (λ it. eqb it.kind s.kind and eqb it.owner s.owner) s.from s.index.now) };
+    ghost remaining = { item_count left };
 
     #[inline(always)]
     fn next(&mut self) -> Option<u32> {
         // By the number: an `Option` made of it would be tested a second time.
-        let n = self.index.child_number(self.kind, self.owner, self.from);
+        let n = self
+            .index
+            .child_number(self.by.kind, self.by.owner, self.from);
         if n == 0 {
             return None;
         }

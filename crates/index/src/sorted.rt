@@ -1,7 +1,7 @@
 //! The type names that a schema declares, sorted, so that a lookup bisects: at most eleven
 //! comparisons, whatever the names are.
 ghost use Rattle.std.specs.Prelude.{◌≡◌, ◌+◌, ◌<◌, ◌≤◌, length, set};
-ghost use Rattle.index.specs.Declarations.{declares, declared_by, declaration_of, number_of};
+ghost use Rattle.index.specs.internal.Index.{Numbers};
 ghost use Rattle.index.specs.internal.Sorted.{Rising, Placed, Inserted, Ordered, Meeting};
 
 use crate::declaration::{NAMED, TYPED, is_declaring};
@@ -43,7 +43,8 @@ impl Places {
     /// Inserts item `i` at place `p`; those from there on move up by one.
     fn insert(&mut self, p: usize, i: u32)
         requires { (p ≤ self.old.count) × (self.old.count < 1024) × (i < 1024) }
-        ensures { Inserted self.old.names self.old.count p i self.new.names × (self.new.count ≡ self.old.count + 1) }
+        ensures names { Inserted self.old.names self.old.count p i self.new.names }
+        ensures count { self.new.count ≡ self.old.count + 1 }
     {
         for j in (p..self.count).rev() {
             self.names[j + 1] = self.names[j];
@@ -65,7 +66,7 @@ impl Places {
 
     /// Adds the name of item `i`, if it declares one, to those of the items before it.
     fn add(&mut self, v: &View<'_>, i: u32)
-        requires { Ordered v.now i self.old.names self.old.count × (i < length v.now.items) × (length v.now.items ≤ 1024) }
+        requires { Ordered v.now i self.old.names self.old.count × (i < length v.now.items) }
         ensures { Ordered v.now (i + 1) self.new.names self.new.count }
     {
         if is_declaring(v.kind(i)) {
@@ -77,60 +78,42 @@ impl Places {
     }
 }
 
-/// The names that the first `added` items of a schema declare, sorted.
+/// The names that a schema declares, sorted. Contracts see them as the schema.
 #[derive(Drop)]
 pub(crate) struct Names<'a> {
     view: &'a View<'a>,
     places: Places,
-    added: u32,
 }
 
 impl<'a> Model for Names<'a> {
-    ghost use Rattle.std.specs.Prelude.{◌≤◌, length};
-    ghost use Rattle.index.specs.internal.Sorted.{Added};
-    ghost use Rattle.index.specs.internal.Sorted.{Ordered};
+    ghost use Rattle.model.specs.Schema.{Schema};
+    ghost use Rattle.index.specs.internal.Sorted.{InOrder};
 
-    ghost Value = { Added };
+    ghost Value = { Schema };
 
-    ghost view = { λ a. record { schema = a.view.now; added = a.added } };
+    ghost view = { λ a. a.view.now };
 
-    ghost invariant = { λ a. Ordered a.view.now a.added a.places.names a.places.count × (length a.view.now.items ≤ 1024) };
+    ghost invariant = { λ a. InOrder a.view.now a.places.names a.places.count };
 }
 
 impl<'a> Names<'a> {
-    /// Adds the name of the next item, if it declares one.
-    fn add(&mut self)
-        requires { self.old.added < length self.old.schema.items }
-        ensures { self.new ≡ record { schema = self.old.schema; added = self.old.added + 1 } }
-    {
-        self.places.add(self.view, self.added);
-        self.added += 1;
-    }
-
-    /// Sorts all names that the schema declares.
+    /// Sorts the names that a schema declares.
     pub(crate) fn of(view: &'a View<'a>) -> Names<'a>
-        ensures { result ≡ record { schema = view.now; added = length view.now.items } }
+        ensures { result ≡ view.now }
     {
-        let n = view.count();
-        let places = Places {
+        let mut places = Places {
             names: [0; SIZE],
             count: 0,
         };
-        let mut names = Names {
-            view,
-            places,
-            added: 0,
-        };
-        for _ in 0..n {
-            names.add();
+        for i in 0..view.count() {
+            places.add(view, i);
         }
-        names
+        Names { view, places }
     }
 
-    /// The number of what a name is declared as. All items have to be added before.
+    /// The number of what a name is declared as.
     pub(crate) fn number_of(&self, name: &[u8]) -> u32
-        requires { self.now.added ≡ length self.now.schema.items }
-        ensures { (result ≡ number_of (declaration_of self.now.schema name.now)) × (result < 1026) }
+        ensures { Numbers self.now name.now result }
     {
         let v = self.view;
         let Ok(p) = self.places.place_of(v, name) else {

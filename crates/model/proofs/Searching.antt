@@ -1,20 +1,12 @@
 -- Laws of searches among the items for those that pass a test p: the first and the last.
-use Rattle.std.proofs.Common.{◌≡◌, refl, sym, ap, ◌∙◌, Bool, true, false, List, [], ◌∷◌, ◌++◌, ℕ, zero, suc, ◌+◌, ◌-◌, ◌≤◌, ◌<◌, add-zero, add-one, arith, eqb, length, take, drop, drop_of_length-le, drop-cons, take-suc, length-take-le, Some, None}
+use Rattle.std.proofs.Common.{◌≡◌, refl, sym, ap, ◌∙◌, Bool, true, false, List, [], ◌∷◌, ◌++◌, ℕ, zero, suc, ◌+◌, ◌-◌, ◌≤◌, ◌<◌, add-zero, add-one, arith, length, take, drop, drop_of_length-le, drop-cons, take-suc, length-take-le, Some, None}
 use Rattle.std.proofs.lemmas.List.{take_all}
-use Rattle.texts.specs.Choice.{pick, ◌and◌}
-use Rattle.texts.specs.Text.{same}
+use Rattle.texts.specs.Choice.{pick}
 use Rattle.texts.proofs.Choosing.{by-test}
 use Rattle.model.specs.Schema.{Item, Schema, item_at, no_item, positions_from, first, last}
 use Rattle.model.specs.Search.{ahead}
 use Rattle.model.specs.internal.Store.{items_of}
 use Rattle.model.proofs.Records.{by_less, length-items}
-
--- the tests of the searches
-abbrev pub owned_so : ℕ → ℕ → Item → Bool
-owned_so kind owner it = eqb it.kind kind and eqb it.owner owner
-
-abbrev pub named_so : ℕ → List ℕ → Item → Bool
-named_so kind name it = eqb it.kind kind and same it.name name
 
 -- ---- the first from a place on
 

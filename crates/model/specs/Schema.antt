@@ -67,7 +67,16 @@ pub record Schema : Type 0 where
 
 -- what stands for an item past the last one
 abbrev pub no_item : Item
-no_item = record { kind = 0; owner = 0; name = []; second = []; number = 0; given = false; encoding = [] }
+no_item =
+    record {
+      kind = 0;
+      owner = 0;
+      name = [];
+      second = [];
+      number = 0;
+      given = false;
+      encoding = [];
+    }
 
 -- the item at a position, from 0
 abbrev pub item_at : Schema → ℕ → Item
@@ -78,13 +87,25 @@ unfoldable pub positions_from : ℕ → (Item → Bool) → List Item → List �
 positions_from k p [] = []
 positions_from k p (x ∷ xs) = let rest = positions_from (k + 1) p xs in pick (p x) (k ∷ rest) rest
 
+-- whether an item is of a kind
+abbrev pub is_kind : ℕ → Item → Bool
+is_kind kind it = eqb it.kind kind
+
+-- whether it is of a kind, and held by an owner
+abbrev pub is_under : ℕ → ℕ → Item → Bool
+is_under kind owner it = is_kind kind it and eqb it.owner owner
+
+-- whether it is of a kind, and has a name
+abbrev pub is_named : ℕ → List ℕ → Item → Bool
+is_named kind name it = is_kind kind it and same it.name name
+
 -- the positions of all items of a kind
 unfoldable pub all_of : ℕ → Schema → List ℕ
-all_of kind s = positions_from 0 (λ it. eqb it.kind kind) s.items
+all_of kind s = positions_from 0 (is_kind kind) s.items
 
 -- the positions of the items of a kind under an owner
 unfoldable pub under : ℕ → ℕ → Schema → List ℕ
-under kind owner s = positions_from 0 (λ it. eqb it.kind kind and eqb it.owner owner) s.items
+under kind owner s = positions_from 0 (is_under kind owner) s.items
 
 -- the first element of a list
 unfoldable pub first : List ℕ → Option ℕ
@@ -93,7 +114,7 @@ first (i ∷ is) = Some i
 
 -- the first item of a kind under an owner, from a position on
 unfoldable pub next_under : ℕ → ℕ → ℕ → Schema → Option ℕ
-next_under kind owner from s = first (positions_from from (λ it. eqb it.kind kind and eqb it.owner owner) (drop from s.items))
+next_under kind owner from s = first (positions_from from (is_under kind owner) (drop from s.items))
 
 -- the last element of a list
 unfoldable pub last : List ℕ → Option ℕ
@@ -103,4 +124,4 @@ last (i ∷ j ∷ is) = last (j ∷ is)
 
 -- the last item of a kind with a name: of several declarations the last counts
 unfoldable pub last_named : ℕ → List ℕ → Schema → Option ℕ
-last_named kind name s = last (positions_from 0 (λ it. eqb it.kind kind and same it.name name) s.items)
+last_named kind name s = last (positions_from 0 (is_named kind name) s.items)

@@ -3,8 +3,8 @@ ghost use Rattle.std.specs.Prelude.{◌≡◌, Bool, ℕ, ◌<◌, ◌≤◌, On
 ghost use Rattle.std.specs.Iterator.{YieldsFirst, item_count};
 ghost use Rattle.texts.specs.Choice.{◌and◌};
 ghost use Rattle.texts.specs.Text.{same};
-ghost use Rattle.model.specs.Schema.{Item, item_at, positions_from, first, last, all_of, under, next_under, last_named};
-ghost use Rattle.model.specs.Search.{ahead, last_under};
+ghost use Rattle.model.specs.Schema.{Item, item_at, positions_from, is_kind, is_named, first, last, all_of, under, last_named};
+ghost use Rattle.model.specs.Search.{ahead, held, is_of, last_under};
 
 use crate::view::View;
 use texts::equal;
@@ -25,7 +25,7 @@ pub struct OfKind {
 }
 
 impl Test for OfKind {
-    ghost test = { λ t it. eqb it.kind t.kind };
+    ghost test = { is_of };
 
     fn passes(&self, v: &View<'_>, i: u32) -> bool {
         v.kind(i) == self.kind
@@ -40,7 +40,7 @@ pub struct Under {
 }
 
 impl Test for Under {
-    ghost test = { λ t it. eqb it.kind t.kind and eqb it.owner t.owner };
+    ghost test = { held };
 
     fn passes(&self, v: &View<'_>, i: u32) -> bool {
         v.kind(i) == self.kind && v.owner(i) == self.owner
@@ -55,7 +55,7 @@ pub struct Named<'a> {
 }
 
 impl<'a> Test for Named<'a> {
-    ghost test = { λ t it. eqb it.kind t.kind and same it.name t.name.now };
+    ghost test = { λ t. is_named t.kind t.name.now };
 
     fn passes(&self, v: &View<'_>, i: u32) -> bool {
         v.kind(i) == self.kind && equal(v.name(i), self.name)
@@ -111,14 +111,6 @@ impl<'a, T: Test + Drop> Iterator for Walk<'a, T> {
 }
 
 impl<'a> View<'a> {
-    /// The first item of a kind under an owner from `from` on.
-    pub fn next_under(&self, kind: u32, owner: u32, from: u32) -> Option<u32>
-        ensures is { result ≡ next_under kind owner from self.now }
-        ensures within { IfSome result (λ i. i < 1024) }
-    {
-        next(self, &Under { kind, owner }, from)
-    }
-
     /// The last item of a kind that has a name.
     pub fn last_named(&self, kind: u32, name: &[u8]) -> Option<u32>
         ensures { result ≡ last_named kind name.now self.now }
@@ -135,7 +127,7 @@ impl<'a> View<'a> {
 
     /// All items of a kind, in order.
     pub fn all_of(&'a self, kind: u32) -> Walk<'a, OfKind>
-        ensures list { ahead (λ it. eqb it.kind result.by.kind) result.from result.view.now ≡ all_of kind self.now }
+        ensures list { ahead (is_of result.by) result.from result.view.now ≡ all_of kind self.now }
         ensures few { length self.now.items ≤ 1024 }
     {
         // Proves `few`.
@@ -149,7 +141,7 @@ impl<'a> View<'a> {
 
     /// All items of a kind under an owner, in order.
     pub fn under(&'a self, kind: u32, owner: u32) -> Walk<'a, Under>
-        ensures { ahead (λ it. eqb it.kind result.by.kind and eqb it.owner result.by.owner) result.from result.view.now ≡ under kind owner self.now }
+        ensures { ahead (held result.by) result.from result.view.now ≡ under kind owner self.now }
     {
         Walk {
             view: self,

@@ -8,7 +8,7 @@ use Rattle.model.specs.Schema.{Item, Schema, item_at, positions_from, all_of, un
 use Rattle.xmltoproto.specs.Composites.{is_printed, printed_composites}
 use Rattle.xmltoproto.specs.Source.{package_line, header, value_text, enum_text, member_text, ref_text, part_texts, composite_text, field_text, group_text, message_text, source}
 use Rattle.xmltoproto.specs.internal.Bound.{enum_most, value_most, composite_most, member_most, ref_most, message_most, group_most, field_most, share}
-use Rattle.model.proofs.Searching.{owned_so}
+use Rattle.model.specs.Schema.{is_under}
 use Rattle.xmltoproto.proofs.Looping.{at_most}
 use Rattle.xmltoproto.proofs.Lengths.{pick-most, snake-most, singular-most}
 use Rattle.xmltoproto.proofs.Longest.{value-most, member-most, ref-most, field-most}
@@ -40,16 +40,16 @@ module _ (s : Schema) (kind o : ℕ) where
   under-most : (f : ℕ → List ℕ) (g : ℕ → ℕ) → ((i : ℕ) → length (f i) ≤ g i) → length (each f (under kind o s)) ≤ below kind o s g
   unfolding under
   under-most f g h =
-      omega (arith, each-total f g h (positions_from 0 (owned_so kind o) s.items), total-positions g (owned_so kind o) s)
+      omega (arith, each-total f g h (positions_from 0 (is_under kind o) s.items), total-positions g (is_under kind o) s)
 
   under-count : length (under kind o s) ≤ length s.items
   unfolding under
-  under-count = at_most (owned_so kind o) 0 s.items
+  under-count = at_most (is_under kind o) 0 s.items
 
   under-numbered : (f : ℕ → ℕ → List ℕ) (g : ℕ → ℕ) → ((k i : ℕ) → k < 4294967296 → length (f k i) ≤ g i) → (k : ℕ) → k + length s.items ≤ 4294967296 → length (numbered f k (under kind o s)) ≤ below kind o s g
   unfolding under
   under-numbered f g h k m =
-      omega (arith, numbered_total f g h k (positions_from 0 (owned_so kind o) s.items) (omega (arith, under-count)), total-positions g (owned_so kind o) s)
+      omega (arith, numbered_total f g h k (positions_from 0 (is_under kind o) s.items) (omega (arith, under-count)), total-positions g (is_under kind o) s)
 
 -- what items of the kind p hold of the kind q
 held : (s : Schema) (p q : ℕ) (a : ℕ → ℕ) (h : ℕ → ℕ → ℕ) → whole p s (λ e. a e + below q e s (h e)) ≤ whole p s a + whole q s (λ v. h (owner s v) v)

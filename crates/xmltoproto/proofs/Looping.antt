@@ -6,7 +6,7 @@ use Rattle.texts.proofs.Choosing.{both_true}
 use Rattle.printing.specs.Written.{written, Wrote}
 use Rattle.printing.specs.declared.Output.{Output}
 use Rattle.model.specs.Schema.{Item, Schema, positions_from, all_of, under, a_member, a_ref}
-use Rattle.model.proofs.Searching.{owned_so}
+use Rattle.model.specs.Schema.{is_under}
 use Rattle.xmltoproto.specs.Arrays.{first_from}
 use Rattle.xmltoproto.specs.internal.Parts.{Members}
 use Rattle.printing.proofs.Writing.{written-append, written-nothing, length-written}
@@ -50,11 +50,11 @@ at_most q k (x ∷ xs) = go (q x) (at_most q (k + 1) xs)
     go false h = omega arith
 
 -- members and refs together are no more than the items
-disjoint : (c k : ℕ) (xs : List Item) → length (positions_from k (owned_so a_member c) xs) + length (positions_from k (owned_so a_ref c) xs) ≤ length xs
+disjoint : (c k : ℕ) (xs : List Item) → length (positions_from k (is_under a_member c) xs) + length (positions_from k (is_under a_ref c) xs) ≤ length xs
 unfolding positions_from
 disjoint c k [] = omega arith
 disjoint c k (x ∷ xs) =
-    go (positions_from (k + 1) (owned_so a_member c) xs) (positions_from (k + 1) (owned_so a_ref c) xs) (owned_so a_member c x) (owned_so a_ref c x) (disjoint c (k + 1) xs)
+    go (positions_from (k + 1) (is_under a_member c) xs) (positions_from (k + 1) (is_under a_ref c) xs) (is_under a_member c x) (is_under a_ref c x) (disjoint c (k + 1) xs)
     (λ t u. let e = eqb-true x.kind a_member (both_true _ _ t).0 in let f = eqb-true x.kind a_ref (both_true _ _ u).0 in omega arith)
   where
     go : (M R : List ℕ) (a b : Bool) → length M + length R ≤ length xs → (a ≡ true → b ≡ true → ⊥) → length (pick a (k ∷ M) M) + length (pick b (k ∷ R) R) ≤ suc (length xs)
@@ -65,7 +65,7 @@ disjoint c k (x ∷ xs) =
 
 pub under-most : (kind owner : ℕ) (s : Schema) → length (under kind owner s) ≤ length s.items
 unfolding under
-under-most kind owner s = at_most (owned_so kind owner) 0 s.items
+under-most kind owner s = at_most (is_under kind owner) 0 s.items
 
 pub of-most : (kind : ℕ) (s : Schema) → length (all_of kind s) ≤ length s.items
 unfolding all_of

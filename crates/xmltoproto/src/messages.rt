@@ -32,26 +32,6 @@ fn write_undeclared(
     write_line(out, in_group, shape, type_name, b"", name, number);
 }
 
-/// Writes the line of the item at `i` by `Index::declared`. Out of line: this is only for an item
-/// that is no field.
-#[tactic(auto, unfolding(crate::specs::Source::field_text, crate::specs::Types::as_named), using(crate::proofs::Typing::meanings))]
-#[cold]
-#[inline(never)]
-fn write_unsettled(out: &mut Output<'_>, s: &Index<'_>, in_group: bool, i: u32)
-    ensures { Wrote out.old out.new (field_text s.now (indent_of in_group) (item_at s.now i)) }
-{
-    let type_name = s.second(i);
-    let name = s.name(i);
-    let number = s.number(i);
-    match s.declared(i) {
-        Some(Declaration::Named) => {
-            write_line(out, in_group, Shape::Plain, type_name, b"", name, number)
-        }
-        Some(Declaration::Typed(k)) => write_formed(out, s, in_group, k, name, number),
-        None => write_undeclared(out, in_group, type_name, name, number),
-    }
-}
-
 /// Writes the line of the field at `i`.
 #[tactic(auto, unfolding(crate::specs::Source::field_text, crate::specs::Types::as_named), using(crate::proofs::Typing::meanings))]
 fn write_field(out: &mut Output<'_>, s: &Index<'_>, in_group: bool, i: u32)
@@ -59,21 +39,14 @@ fn write_field(out: &mut Output<'_>, s: &Index<'_>, in_group: bool, i: u32)
 {
     let name = s.name(i);
     let number = s.number(i);
-    if s.kind(i) == FIELD {
-        // By the number: a `Declaration` would be stored and loaded again, and the branch would
-        // wait for that (store forwarding).
-        let declared = s.field_number(i);
-        if 1 < declared {
-            let k = declared - 2;
-            return write_formed(out, s, in_group, k, name, number);
+    match s.declared(i) {
+        Some(Declaration::Typed(k)) => write_formed(out, s, in_group, k, name, number),
+        Some(Declaration::Named) => {
+            let type_name = s.second(i);
+            write_line(out, in_group, Shape::Plain, type_name, b"", name, number)
         }
-        let type_name = s.second(i);
-        if declared == 1 {
-            return write_line(out, in_group, Shape::Plain, type_name, b"", name, number);
-        }
-        return write_undeclared(out, in_group, type_name, name, number);
+        None => write_undeclared(out, in_group, s.second(i), name, number),
     }
-    write_unsettled(out, s, in_group, i);
 }
 
 /// The line of a field: in a group or in a message.

@@ -1,10 +1,12 @@
 use Rattle.std.proofs.Common.{arith}
-use Rattle.index.proofs.Hashing.{hashing-on, hashing-end}
+use Rattle.index.proofs.Hashing.{hashing-end, words-one, words-more}
 use Rattle.index.proofs.long_word.Goals as goal
-use Rattle.index.proofs.long_word.Goals.{else-loop-i-test, then-loop-i-test+else-i-end-i-gt8}
+
+pub returns-then-n-eq8 : goal.returns-then-n-eq8
+returns-then-n-eq8 c = words-one _ c.requires c.word_at.ensures c.mixed-h.ensures c.if-n-eq8.true
+
+pub loop-i-init : goal.loop-i-init
+loop-i-init c = words-more _ c.requires c.word_at.ensures c.mixed-h.ensures c.if-n-eq8.false
 
 pub returns : goal.returns
-returns c = elim c.loop-i-test.branch [
-  | else-loop-i-test w ↦ hashing-end c.loop-i.invariant (omega (arith, w.loop-i-test)) c.word_at-2.ensures (rw w.h-is at c.mixed.ensures)
-  | then-loop-i-test+else-i-end-i-gt8 w ↦ hashing-end (hashing-on c.loop-i.invariant (omega (arith, w.loop-i-test)) w.word_at.ensures w.mixed-h.ensures) (omega (arith, w.loop-i-test)) c.word_at-2.ensures (rw w.h-is at c.mixed.ensures)
-]
+returns c = hashing-end c.loop-i.invariant (omega (arith, c.loop-i-test.false)) c.word_at-2.ensures c.mixed.ensures

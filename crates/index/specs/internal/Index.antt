@@ -27,14 +27,23 @@ fronted ix head at i = set (set ix at (get_or ix head 0)) head (i + 1)
 
 -- items from i on are linked: `first` from their owners, `next` from one to the next
 pub record Linked (s : Schema) (i : ℕ) (ix : List ℕ) : Type 0 where
-  pub first : (k o : ℕ) → k < kinds → o < length s.items → get_or ix (per_item * o + 2 + k) 0 ≡ code (next_under k o i s)
-  pub next : (j : ℕ) → i ≤ j → j < length s.items → (item_at s j).kind < kinds → (item_at s j).owner < length s.items → get_or ix (per_item * j) 0 ≡ code (next_under (item_at s j).kind (item_at s j).owner (j + 1) s)
+  pub first : (k o : ℕ) → k < kinds → o < length s.items
+      → get_or ix (per_item * o + 2 + k) 0 ≡ code (next_under k o i s)
+  pub next : (j : ℕ) → i ≤ j → j < length s.items
+      → (item_at s j).kind < kinds → (item_at s j).owner < length s.items
+      → get_or ix (per_item * j) 0
+      ≡ code (next_under (item_at s j).kind (item_at s j).owner (j + 1) s)
 
 -- ---- hash chains: the second number of an item that declares a name, and the heads at the end
 
 -- a text of less than 8 bytes as one number
 unfoldable pub short_word : List ℕ → ℕ
-short_word s = pick (ltb (length s) 4) (pick (eqb (length s) 0) 0 (get_or s 0 0 + get_or s (length s / 2) 0 * 256 + get_or s (length s - 1) 0 * 65536 + length s * 16777216)) (word_of (piece s 0 4) + word_of (piece s (length s - 4) 4) * 4294967296)
+short_word s =
+    let n = length s in
+    let byte : ℕ → ℕ = λ i. get_or s i 0 in
+    let bytes = byte 0 + byte (n / 2) * 256 + byte (n - 1) * 65536 + n * 16777216 in
+    let halves = word_of (piece s 0 4) + word_of (piece s (n - 4) 4) * 4294967296 in
+    pick (ltb n 4) (pick (eqb n 0) 0 bytes) halves
 
 -- a word mixed into a number
 unfoldable pub mix : ℕ → ℕ → ℕ
@@ -43,7 +52,11 @@ mix h w = bit_xor (h % 1152921504606846976 * 9) w
 -- h with the words of s from i on mixed in, k at most; the last one ends with s
 unfoldable pub words_from : ℕ → ℕ → ℕ → List ℕ → ℕ
 words_from zero h i s = h
-words_from (suc k) h i s = elim (ltb (i + 8) (length s)) [ true ↦ words_from k (mix h (word_of (piece s i 8))) (i + 8) s | false ↦ mix h (word_of (piece s (length s - 8) 8)) ]
+words_from (suc k) h i s =
+    elim (ltb (i + 8) (length s)) [
+      | true ↦ words_from k (mix h (word_of (piece s i 8))) (i + 8) s
+      | false ↦ mix h (word_of (piece s (length s - 8) 8))
+    ]
 
 -- a text of 8 bytes or more as one number
 abbrev pub long_word : List ℕ → ℕ
@@ -83,20 +96,30 @@ last_hashed b n s = last (positions_from 0 (hashed s b) (take n s.items))
 -- the one before it
 pub record Chained (s : Schema) (n : ℕ) (ix : List ℕ) : Type 0 where
   pub few : length s.items ≤ 1024
-  pub head : (b : ℕ) → b ≤ mask_of (length s.items) → get_or ix (per_item * length s.items + b) 0 ≡ code (last_hashed b n s)
-  pub chain : (j : ℕ) → j < n → (b : ℕ) → T (hashed s b (item_at s j)) → get_or ix (per_item * j + 1) 0 ≡ code (last_hashed b j s)
+  pub head : (b : ℕ) → b ≤ mask_of (length s.items)
+      → get_or ix (per_item * length s.items + b) 0 ≡ code (last_hashed b n s)
+  pub chain : (j : ℕ) → j < n → (b : ℕ) → T (hashed s b (item_at s j))
+      → get_or ix (per_item * j + 1) 0 ≡ code (last_hashed b j s)
 
 -- one step along a chain from its head: what the name is declared as by the item `it` at position i
 -- and those passed before, which say `kept`: 1 for an enum or composite, otherwise the first type
 -- met
 abbrev pub kept_by : Item → ℕ → List ℕ → ℕ → ℕ
-kept_by it i name kept = pick (eqb it.kind a_type) (pick (ltb 0 kept) kept (pick (same it.name name) (i + 2) 0)) (pick (same it.name name) 1 kept)
+kept_by it i name kept =
+    pick (eqb it.kind a_type)
+    (pick (ltb 0 kept) kept (pick (same it.name name) (i + 2) 0))
+    (pick (same it.name name) 1 kept)
 
 -- ---- type names: the second number of a field
 
+-- n is the number of what a name is declared as, and small
+abbrev pub Numbers : Schema → List ℕ → ℕ → Type 0
+Numbers s name n = (n ≡ number_of (declaration_of s name)) × (n < 1026)
+
 -- the fields from n on hold what their type names are declared as
 pub record Resolved (s : Schema) (n : ℕ) (ix : List ℕ) : Type 0 where
-  pub is : (j : ℕ) → n ≤ j → j < length s.items → (item_at s j).kind ≡ a_field → get_or ix (per_item * j + 1) 0 ≡ number_of (declaration_of s (item_at s j).second)
+  pub is : (j : ℕ) → n ≤ j → j < length s.items → (item_at s j).kind ≡ a_field
+      → get_or ix (per_item * j + 1) 0 ≡ number_of (declaration_of s (item_at s j).second)
 
 -- ---- the whole index
 
@@ -120,3 +143,7 @@ pub record Settling (s : Schema) (l r : ℕ) (ix : List ℕ) : Type 0 where
   pub linked : Linked s l ix
   pub chained : Chained s (length s.items) ix
   pub resolved : Resolved s r ix
+
+-- the items behind i are settled, and i is next
+abbrev pub Next : Schema → ℕ → List ℕ → Type 0
+Next s i ix = Settling s (i + 1) (i + 1) ix × (i < length s.items)

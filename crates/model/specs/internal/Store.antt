@@ -24,7 +24,9 @@ entry_at rec i =
 
 -- the ten words that an entry is stored as
 abbrev pub words_of : Entry → List ℕ
-words_of e = e.kind ∷ e.owner ∷ e.name ∷ e.nlen ∷ e.second ∷ e.slen ∷ e.number ∷ e.given ∷ e.encoding ∷ e.elen ∷ []
+words_of e =
+    e.kind ∷ e.owner ∷ e.name ∷ e.nlen ∷ e.second ∷ e.slen
+    ∷ e.number ∷ e.given ∷ e.encoding ∷ e.elen ∷ []
 
 -- the item that an entry stands for; its texts are pieces of the text buffer
 unfoldable pub item_of : List ℕ → Entry → Item

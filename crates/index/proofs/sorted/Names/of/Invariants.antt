@@ -1,5 +1,5 @@
-use Rattle.std.proofs.Common.{◌≡◌}
+use Rattle.index.specs.internal.Sorted.{Ordered}
 use Rattle.index.proofs.sorted.Names.of.Given as goal
 
-abbrev pub invariant-loop : goal.invariant-loop
-invariant-loop l = record { schema : l.names.schema ≡ l.view; added : l.names.added ≡ l.counter }
+abbrev pub invariant-loop-i : goal.invariant-loop-i
+invariant-loop-i l = Ordered l.view l.i l.places.names l.places.count
