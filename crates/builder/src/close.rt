@@ -108,20 +108,19 @@ impl<'d, 'a> Work<'d, 'a> {
         State { current, ..s }
     }
 
-    /// Takes a close tag of this element, whose `<` is at `place` and whose name is the `len` bytes
-    /// at `name`: pops the innermost open name. Refused (30) if that is another one.
+    /// Takes a close tag of this name and its element, whose `<` is at `place`: pops the innermost
+    /// open name. Refused (30) if that is another one.
     pub fn on_close(
         &mut self,
         s: State,
         place: usize,
-        name: usize,
-        len: usize,
+        name: Range,
         element: Element,
     ) -> Result<State, Refusal>
-        requires { Kept self.old s × (element ≡ element_of (piece self.old.doc.now name len)) }
-        ensures { After (closed place (piece self.old.doc.now name len) (builder_in self.old s)) self.old s 0 self.new result }
+        requires { Kept self.old s × (element ≡ element_of (piece self.old.doc.now name.from name.len)) }
+        ensures { After (closed place (piece self.old.doc.now name.from name.len) (builder_in self.old s)) self.old s 0 self.new result }
     {
-        if !self.is_open(s, name, len) {
+        if !self.is_open(s, name.from, name.len) {
             return Err(Refusal::WrongClose { place });
         }
         Ok(self.close_by(s.popped(), element))

@@ -38,7 +38,7 @@ use Rattle.saxlite.proofs.Silence.{front-not, second-differs, silent-not}
 -- ---- text
 
 pub text-told : (doc : List ℕ) (at : ℕ) → at < length doc → starts_with (ascii "<") (drop at doc) ≡ false → {end : ℕ} → end ≡ scan (until (is 60)) doc at
-    → {r : Read} → r ≡ bare (Text at (end - at)) Other at end → Here (text_at (events_from doc) doc at) doc at (Ok r)
+    → {r : Read} → r ≡ bare (Text (record { from = at; len = end - at })) Other at end → Here (text_at (events_from doc) doc at) doc at (Ok r)
 unfolding text_at
 text-told doc at h f {end} e k =
     let m : at < end = rw e (scan-moves 60 doc at h f) in
@@ -54,7 +54,7 @@ text-told doc at h f {end} e k =
 module _ (doc : List ℕ) (at : ℕ) {end : ℕ} (e : end ≡ scan (until is_tag_name_end) doc (at + 2)) {due : ℕ} (d : due ≡ scan is_space doc end) {b : Bool} (s : b ≡ starts_with (ascii ">") (drop due doc)) where
   pub close-told : b ≡ true → {w : List ℕ} → w ≡ piece doc (at + 2) (end - (at + 2)) → {lost : ℕ} → lost ≡ prefix_length w
       → {v : List ℕ} → v ≡ piece doc (at + 2 + lost) (end - (at + 2) - lost) → {f : Element} → f ≡ element_of v
-      → {r : Read} → r ≡ bare (Close (at + 2 + lost) (end - (at + 2) - lost)) f at (due + 1) → Here (close_at (events_from doc) doc at) doc at (Ok r)
+      → {r : Read} → r ≡ bare (Close (record { from = at + 2 + lost; len = end - (at + 2) - lost })) f at (due + 1) → Here (close_at (events_from doc) doc at) doc at (Ok r)
   unfolding close_at
   close-told t {w} p {lost} l {v} u {f} i k =
       let n : piece doc (at + 2 + lost) (end - (at + 2) - lost) ≡ local_name (piece doc (at + 2) (end - (at + 2))) = rw (l, p) (local-range doc (at + 2) (end - (at + 2))) in
@@ -71,7 +71,7 @@ module _ (doc : List ℕ) (at : ℕ) {end : ℕ} (e : end ≡ scan (until is_tag
   close-open t = record { is = rw (← e, ← d, ← s, t) refl; moves = tt }
 
 pub known-told : (doc : List ℕ) (at : ℕ) {k : Opening} → Opens 62 doc (at + 2) k
-    → {r : Read} → r ≡ bare (Close (at + 2 + k.lost) (k.len - k.lost)) k.element at (at + 2 + k.len + 1) → Here (close_at (events_from doc) doc at) doc at (Ok r)
+    → {r : Read} → r ≡ bare (Close (record { from = at + 2 + k.lost; len = k.len - k.lost })) k.element at (at + 2 + k.len + 1) → Here (close_at (events_from doc) doc at) doc at (Ok r)
 known-told doc at {k} b e =
     let z : at + 2 + k.len - (at + 2) ≡ k.len = omega arith in
     close-told doc at (closing-ends doc at b) (closing-due doc at b) (closing-stands doc at b) refl refl (closing-prefix doc at b ∙ rw z refl) refl (closing-element doc at b ∙ rw z refl) (e ∙ rw z refl)
@@ -82,11 +82,11 @@ owing-most : (closed : Bool) (o : Owed) → owing (pick closed (Some o) None) �
 owing-most true o = omega arith
 owing-most false o = omega arith
 
-owed-right : (doc : List ℕ) (o : Owed) (closed : Bool) → o.element ≡ element_of (piece doc o.name o.len) → OwedElement doc (pick closed (Some o) None)
+owed-right : (doc : List ℕ) (o : Owed) (closed : Bool) → o.element ≡ element_of (piece doc o.name.from o.name.len) → OwedElement doc (pick closed (Some o) None)
 owed-right doc o true e = e
 owed-right doc o false e = tt
 
-owed-behind : (doc : List ℕ) (at : ℕ) (name : List ℕ) (o : Owed) (closed : Bool) (more : Events) → o.place ≡ at → piece doc o.name o.len ≡ name
+owed-behind : (doc : List ℕ) (at : ℕ) (name : List ℕ) (o : Owed) (closed : Bool) (more : Events) → o.place ≡ at → piece doc o.name.from o.name.len ≡ name
     → pick closed (next at (closes name) more) more ≡ owed_before doc (pick closed (Some o) None) more
 owed-behind doc at name o true more p n = rw (p, n) refl
 owed-behind doc at name o false more p n = refl
@@ -107,8 +107,11 @@ module _ (doc : List ℕ) (at : ℕ) (h : at + 1 ≤ length doc) {b : Beginning}
     abbrev long : ℕ
     long = b.end - (at + 1) - b.lost
 
-    pub open-told : {ending : Ending} → w.ending ≡ Ok ending → {c : Cursor} → c ≡ behind ending (record { place = at; name = local; len = long; element = b.element })
-        → Here (open_at (events_from doc) doc at) doc at (Ok (record { told = record { event = Open local long b.end ending.next; element = b.element; place = at; noted = w.noted }; cursor = c }))
+    abbrev owes : Owed
+    owes = record { place = at; name = record { from = local; len = long }; element = b.element }
+
+    pub open-told : {ending : Ending} → w.ending ≡ Ok ending → {c : Cursor} → c ≡ behind ending owes
+        → Here (open_at (events_from doc) doc at) doc at (Ok (record { told = record { event = Open owes.name b.end ending.next; element = b.element; place = at; noted = w.noted }; cursor = c }))
     unfolding open_at open_by
     open-told {ending} f {c} k =
         let n : piece doc local long ≡ local_name (piece doc (at + 1) (b.end - (at + 1))) = rw a.lost (local-range doc (at + 1) (b.end - (at + 1))) in
@@ -120,12 +123,12 @@ module _ (doc : List ℕ) (at : ℕ) (h : at + 1 ≤ length doc) {b : Beginning}
         record {
           is =
               rw (← a.ends, ne_eqb b.end (at + 1) q, g, ← n, k)
-              (ap (next at (opens (piece doc local long) (attributes_in doc b.end))) (owed-behind doc at (piece doc local long) (record { place = at; name = local; len = long; element = b.element }) ending.self_closed (events_from doc ending.next) refl refl));
+              (ap (next at (opens (piece doc local long) (attributes_in doc b.end))) (owed-behind doc at (piece doc local long) owes ending.self_closed (events_from doc ending.next) refl refl));
           moves =
               record {
                 grows = rw k (omega arith);
-                less = rw k (omega (arith, owing-most ending.self_closed (record { place = at; name = local; len = long; element = b.element })));
-                sound = λ z. rw k (record { within = i; owed = owed-right doc (record { place = at; name = local; len = long; element = b.element }) ending.self_closed a.element });
+                less = rw k (omega (arith, owing-most ending.self_closed owes));
+                sound = λ z. rw k (record { within = i; owed = owed-right doc owes ending.self_closed a.element });
                 inside = (record { place = at; closed = ending.self_closed; is = g }, omega arith);
                 element = λ z. a.element;
                 noted = t.1;

@@ -11,7 +11,7 @@ ghost use Rattle.tags.specs.internal.Noting.{NotedBy};
 
 use crate::known::codes_of;
 use crate::namespaces::past_declarations;
-use crate::noting::{Notes, RawAttribute, is_declaration, noted_by, noted_one};
+use crate::noting::{Notes, is_declaration, noted_by, noted_one};
 use crate::part::{Ending, Quick, TagPart, quick_part, tag_part};
 use elements::Element;
 use refusals::Refusal;
@@ -37,30 +37,12 @@ pub fn tag_noting(doc: &[u8], at: usize, place: usize, element: Element) -> Whol
     loop {
         let Quick { code, part } = quick_part(doc, i, place);
         match part {
-            Ok(
-                TagPart::Attribute {
-                    name,
-                    name_len,
-                    value,
-                    value_len,
-                    next,
-                },
-            ) => {
-                let a = RawAttribute {
-                    name: Range {
-                        from: name,
-                        len: name_len,
-                    },
-                    value: Range {
-                        from: value,
-                        len: value_len,
-                    },
-                };
+            Ok(TagPart::Attribute(a)) => {
                 if is_declaration(doc, a.name, code) {
-                    i = past_declarations(doc, next);
+                    i = past_declarations(doc, a.next);
                 } else {
                     noted = noted_by(doc, a, code, codes, element, noted);
-                    i = next;
+                    i = a.next;
                 }
             }
             Ok(TagPart::TagEnd(ending)) => {
@@ -90,27 +72,9 @@ pub fn attribute(doc: &[u8], at: usize, name: &[u8]) -> Option<Range>
     loop {
         // Only refusals hold the place, and none leaves this function.
         match tag_part(doc, i, 0) {
-            Ok(
-                TagPart::Attribute {
-                    name: raw,
-                    name_len,
-                    value,
-                    value_len,
-                    next,
-                },
-            ) => {
-                let a = RawAttribute {
-                    name: Range {
-                        from: raw,
-                        len: name_len,
-                    },
-                    value: Range {
-                        from: value,
-                        len: value_len,
-                    },
-                };
+            Ok(TagPart::Attribute(a)) => {
                 noted = noted_one(doc, a, name, noted);
-                i = next;
+                i = a.next;
             }
             Ok(TagPart::TagEnd(_)) => return noted.number(),
             Err(_) => return noted.number(),

@@ -1,7 +1,7 @@
 -- Attributes with well-known names, which have codes from 1 on.
 use Rattle.std.specs.Prelude.{◌≡◌, Bool, true, false, not, List, [], ◌∷◌, ◌++◌, ℕ, zero, suc, ◌+◌, ◌<◌, T, eqb, leb, length, drop, Option, Some, None, Result, Ok, Err}
 use Rattle.texts.specs.Choice.{pick, ◌and◌, ◌or◌}
-use Rattle.texts.specs.Text.{ascii, piece, same, starts_with}
+use Rattle.texts.specs.Text.{ascii, same, starts_with}
 use Rattle.refusals.specs.declared.Refusal.{Refusal}
 use Rattle.swar.specs.internal.Standing.{ShortText, LongText}
 use Rattle.elements.specs.Keys.{Keys}
@@ -11,7 +11,7 @@ use Rattle.tags.specs.declared.part.TagPart.{TagPart}
 use Rattle.tags.specs.declared.part.TagPart.TheVariants.{Attribute as Part, TagEnd}
 use Rattle.tags.specs.declared.part.Quick.{Quick}
 use Rattle.tags.specs.Names.{is_xmlns}
-use Rattle.tags.specs.Attributes.{tag_part_at}
+use Rattle.tags.specs.Attributes.{raw_name, tag_part_at}
 
 -- the k-th of some texts, from 0 on
 abbrev pub nth : List (List ℕ) → ℕ → List ℕ
@@ -95,7 +95,7 @@ pub record Apart (c : Codes) : Type 0 where
 
 -- if the part is an attribute, its raw name is that of the code
 abbrev pub Named : List ℕ → ℕ → Result TagPart Refusal → Type 0
-Named doc code (Ok (Part name n value len next)) = (0 < code) × (code < 18) × (piece doc name n ≡ known_name code)
+Named doc code (Ok (Part a)) = (0 < code) × (code < 18) × (raw_name doc a ≡ known_name code)
 Named doc code (Ok (TagEnd ending)) = Unit {0}
 Named doc code (Err refusal) = Unit {0}
 
@@ -104,11 +104,11 @@ pub record QuickAt (doc : List ℕ) (at place : ℕ) (r : Quick) : Type 0 where
   pub is : r.part ≡ tag_part_at doc at place
   pub named : (code : ℕ) → r.code ≡ Some code → Named doc code r.part
 
--- the raw name, n bytes at `name`, is that of the code, if there is one
-pub record NamedAs (doc : List ℕ) (name n : ℕ) (code : Option ℕ) : Type 0 where
-  pub named : (k : ℕ) → code ≡ Some k → (0 < k) × (k < 18) × (piece doc name n ≡ known_name k)
+-- that raw name is that of the code, if there is one
+pub record NamedAs (raw : List ℕ) (code : Option ℕ) : Type 0 where
+  pub named : (k : ℕ) → code ≡ Some k → (0 < k) × (k < 18) × (raw ≡ known_name k)
 
 -- true says that the raw name declares a namespace; false, without a code, that it does not
-pub record Declares (doc : List ℕ) (name n : ℕ) (code : Option ℕ) (r : Bool) : Type 0 where
-  pub yes : r ≡ true → is_xmlns (piece doc name n) ≡ true
-  pub no : r ≡ false → code ≡ None → is_xmlns (piece doc name n) ≡ false
+pub record Declares (raw : List ℕ) (code : Option ℕ) (r : Bool) : Type 0 where
+  pub yes : r ≡ true → is_xmlns raw ≡ true
+  pub no : r ≡ false → code ≡ None → is_xmlns raw ≡ false

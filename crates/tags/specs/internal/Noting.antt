@@ -53,21 +53,19 @@ pub record NotedBy (k : Keys) (doc : List ℕ) (at : ℕ) (noted : Notes) : Type
 -- ---- what one attribute adds
 
 -- an attribute's value, if its local name is `key` and its raw name declares no namespace
-abbrev pub value_if_named : List ℕ → ℕ → ℕ → List ℕ → Option Range
-value_if_named raw value len key =
-    pick (is_xmlns raw) None
-    (pick (same (local_name raw) key) (Some (record { from = value; len = len })) None)
+abbrev pub value_if_named : List ℕ → Range → List ℕ → Option Range
+value_if_named raw value key = pick (is_xmlns raw) None (pick (same (local_name raw) key) (Some value) None)
 
 -- with that value, if it counts, what was found is r
-abbrev pub Adds : List ℕ → ℕ → ℕ → List ℕ → Option Range → Option Range → Type 0
-Adds raw value len key was r = r ≡ later (value_if_named raw value len key) was
+abbrev pub Adds : List ℕ → Range → List ℕ → Option Range → Option Range → Type 0
+Adds raw value key was r = r ≡ later (value_if_named raw value key) was
 
 -- r are the notes `was` with one more attribute, of that raw name, under the four names
-pub record NotedMore (raw : List ℕ) (value len : ℕ) (k : Keys) (was r : Notes) : Type 0 where
-  pub number : Adds raw value len k.number (number_in was) (number_in r)
-  pub name : Adds raw value len k.name (name_in was) (name_in r)
-  pub second : Adds raw value len k.second (second_in was) (second_in r)
-  pub encoding : Adds raw value len k.encoding (encoding_in was) (encoding_in r)
+pub record NotedMore (raw : List ℕ) (value : Range) (k : Keys) (was r : Notes) : Type 0 where
+  pub number : Adds raw value k.number (number_in was) (number_in r)
+  pub name : Adds raw value k.name (name_in was) (name_in r)
+  pub second : Adds raw value k.second (second_in was) (second_in r)
+  pub encoding : Adds raw value k.encoding (encoding_in was) (encoding_in r)
 
 -- the notes with a value under each name that an attribute has
 abbrev pub with_value : Named → Range → Notes → Notes
