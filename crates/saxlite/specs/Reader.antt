@@ -15,7 +15,8 @@ use Rattle.saxlite.specs.declared.reader.Reader.{Reader}
 -- the event that ranges of the document stand for
 abbrev pub event_in : List ℕ → Found → Event
 event_in doc (Text at) = text (decoded (piece doc at.from at.len))
-event_in doc (Open name attributes end) = opens (piece doc name.from name.len) (attributes_in doc attributes)
+event_in doc (Open name attributes end) =
+    opens (piece doc name.from name.len) (attributes_in doc attributes)
 event_in doc (Close name) = closes (piece doc name.from name.len)
 
 -- a position with no close owed

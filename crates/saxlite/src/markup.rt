@@ -5,7 +5,7 @@
 ghost use Rattle.std.specs.Prelude.{◌≡◌, false, ◌+◌, ◌≤◌, ◌<◌, length, drop};
 ghost use Rattle.texts.specs.Text.{ascii, starts_with};
 ghost use Rattle.saxlite.specs.Events.{events_from, text_at, close_at, open_at};
-ghost use Rattle.saxlite.specs.internal.Moving.{behind, Here};
+ghost use Rattle.saxlite.specs.internal.Moving.{cursor_past, Here};
 ghost use Rattle.saxlite.specs.internal.Passing.{is_silent};
 
 use crate::event::{Cursor, Event, Owed, Read, Told};
@@ -42,10 +42,10 @@ fn read_any_close(doc: &[u8], at: usize) -> Result<Read, Refusal>
     if texts::starts_with(doc, due, b">") {
         let next = due + 1;
         let n = end - start;
-        let lost = prefix_len(texts::part(doc, start, n));
+        let prefix = prefix_len(texts::part(doc, start, n));
         let name = Range {
-            from: start + lost,
-            len: n - lost,
+            from: start + prefix,
+            len: n - prefix,
         };
         let element = element_of(texts::part(doc, name.from, name.len));
         let event = Event::Close { name };
@@ -65,8 +65,8 @@ fn read_close(doc: &[u8], at: usize) -> Result<Read, Refusal>
     let start = at + 2;
     if let Some(known) = closing_at(doc, start) {
         let name = Range {
-            from: start + known.lost,
-            len: known.len - known.lost,
+            from: start + known.prefix,
+            len: known.len - known.prefix,
         };
         let next = start + known.len + 1;
         let event = Event::Close { name };
@@ -76,8 +76,8 @@ fn read_close(doc: &[u8], at: usize) -> Result<Read, Refusal>
 }
 
 /// Where the reader goes on behind an open tag: a self-closed one owes its close.
-fn behind(ending: Ending, owed: Owed) -> Cursor
-    ensures { result ≡ behind ending owed }
+fn cursor_past(ending: Ending, owed: Owed) -> Cursor
+    ensures { result ≡ cursor_past ending owed }
 {
     Cursor {
         at: ending.next,
@@ -100,8 +100,8 @@ fn read_open(doc: &[u8], at: usize) -> Result<Read, Refusal>
         });
     }
     let name = Range {
-        from: start + begun.lost,
-        len: end - start - begun.lost,
+        from: start + begun.prefix,
+        len: end - start - begun.prefix,
     };
     let element = begun.element;
     let tag = tag_noting(doc, end, at, element);
@@ -123,7 +123,7 @@ fn read_open(doc: &[u8], at: usize) -> Result<Read, Refusal>
             place: at,
             noted: tag.noted,
         },
-        cursor: behind(ending, owed),
+        cursor: cursor_past(ending, owed),
     })
 }
 

@@ -20,7 +20,7 @@ use Rattle.elements.specs.declared.Element.TheVariants.{MessageSchema, «Type»,
 use Rattle.elements.specs.Keys.{Keys, schema_keys, type_keys, enum_keys, field_keys, keys_of}
 use Rattle.tags.specs.Names.{prefix_length, local_name, is_xmlns}
 use Rattle.tags.specs.Attributes.{raw_name, tag_part_at, tag_at, attribute_at}
-use Rattle.tags.specs.internal.Noting.{no_notes, found_at, number_in, name_in, second_in, encoding_in, with_value, Adds, NotedMore, NotedBy}
+use Rattle.tags.specs.internal.Noting.{no_notes, found_at, number_in, name_in, second_in, encoding_in, with_value, FoundMore, NotedMore, NotedBy}
 use Rattle.tags.specs.internal.Known.{known_name, codes, CodesOf, differ, Apart, QuickAt, NamedAs, Declares}
 use Rattle.tags.proofs.Tagging.{Going, part-less, part-value, going_on, going_end, going-bad}
 use Rattle.tags.proofs.Looking.{found-value, Looking, looking-start, looking-on, looking-end, looking-bad}
@@ -61,9 +61,9 @@ codes-other {e} a b c = rw (keys_else e a b c) (record { number = tt; name = tt;
 -- ---- what is noted
 
 codes_same : (key : List ℕ) (c k : ℕ) → T (codes key c) → 0 < k → k < 18 → eqb k c ≡ same (known_name k) key
-codes_same key c k t h l = agrees (eqb k c) (same (known_name k) key) (up-each 17 (λ k. pick (eqb k c) (same (known_name k) key) (pick (same (known_name k) key) false true)) (and_right (leb c 9) _ t) k h (omega arith))
+codes_same key c k t h l = agrees (eqb k c) (same (known_name k) key) (up-each 17 (λ k. pick (eqb k c) (same (known_name k) key) (not (same (known_name k) key))) (and_right (leb c 9) _ t) k h (omega arith))
   where
-    agrees : (a b : Bool) → T (pick a b (pick b false true)) → a ≡ b
+    agrees : (a b : Bool) → T (pick a b (not b)) → a ≡ b
     agrees true true u = refl
     agrees true false u = absurd u
     agrees false true u = absurd u
@@ -88,7 +88,7 @@ plain-space (b ∷ s) t = is-not (is_xmlns (b ∷ s)) (and_right (all goes s) (n
     is-not false u = refl
 
 module _ (code : ℕ) (h : 0 < code) (l : code < 18) (value : Range) (key : List ℕ) (c was long : ℕ) (t : T (codes key c)) where
-  known-noted : {m : Bool} → m ≡ eqb code c → Adds (known_name code) value key (found_at was long) (found_at (pick m (value.from + 1) was) (pick m value.len long))
+  known-noted : {m : Bool} → m ≡ eqb code c → FoundMore (known_name code) value key (found_at was long) (found_at (pick m (value.from + 1) was) (pick m value.len long))
   known-noted {m} e =
       let s = e ∙ codes_same key c code t h l in
       rw (plain-space (known_name code) (known-plain code h l), plain_local (known_name code) (known-plain code h l), ← s)
@@ -236,8 +236,8 @@ module _ {raw : List ℕ} {code : Option ℕ} where
   pub declares-known : {k : ℕ} → code ≡ Some k → Declares raw code false
   declares-known e = record { yes = λ h. absurd (let z : ◌≡◌ {A = ℕ} 0 1 = cc in omega arith); no = λ h f. absurd (let z : ◌≡◌ {A = ℕ} 0 1 = cc in omega arith) }
 
-  pub declares-told : {b : Bool} → b ≡ is_xmlns raw → Declares raw code b
-  declares-told e = record { yes = λ h. sym e ∙ h; no = λ h f. sym e ∙ h }
+  pub declares-tested : {b : Bool} → b ≡ is_xmlns raw → Declares raw code b
+  declares-tested e = record { yes = λ h. sym e ∙ h; no = λ h f. sym e ∙ h }
 
   pub declares-none : {b : Bool} → Declares raw code b → b ≡ false → code ≡ None → is_xmlns raw ≡ false
   declares-none d f e = d.no f e

@@ -17,18 +17,18 @@ use Rattle.tags.specs.declared.known.Known.{Known}
 use Rattle.tags.specs.declared.part.TagPart.{TagPart}
 use Rattle.tags.specs.Names.{is_xmlns}
 use Rattle.tags.specs.Attributes.{quoted_at, tag_part_at}
-use Rattle.tags.specs.internal.Known.{known_name, IsKnown, up_to, Named, QuickAt}
+use Rattle.tags.specs.internal.Known.{known_name, IsKnown, holds_to, Named, QuickAt}
 use Rattle.tags.proofs.Searching.{stands-within}
 use Rattle.tags.proofs.Parting.{value-double, attribute-valued, part-attribute}
 
 -- ---- a test of 1 to n
 
-pub up-each : (n : ℕ) (p : ℕ → Bool) → T (up_to n p) → (k : ℕ) → 0 < k → k ≤ n → T (p k)
+pub up-each : (n : ℕ) (p : ℕ → Bool) → T (holds_to n p) → (k : ℕ) → 0 < k → k ≤ n → T (p k)
 up-each zero p t k h l = absurd (omega arith)
 up-each (suc n) p t k h l =
     by-test (eqb k (suc n))
-    (λ e. rw (eqb-true k (suc n) e) (and_left (p (suc n)) (up_to n p) t))
-    (λ f. up-each n p (and_right (p (suc n)) (up_to n p) t) k h (let n : k ≡ suc n → ⊥ = eqb-false k (suc n) f in omega arith))
+    (λ e. rw (eqb-true k (suc n) e) (and_left (p (suc n)) (holds_to n p) t))
+    (λ f. up-each n p (and_right (p (suc n)) (holds_to n p) t) k h (let n : k ≡ suc n → ⊥ = eqb-false k (suc n) f in omega arith))
 
 -- ---- what stands at the front of a text
 

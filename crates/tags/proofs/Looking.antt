@@ -13,7 +13,7 @@ use Rattle.elements.specs.Keys.{Keys}
 use Rattle.tags.specs.declared.noting.Notes.{Notes}
 use Rattle.tags.specs.Names.{prefix_length, is_xmlns}
 use Rattle.tags.specs.Attributes.{raw_name, tag_part_at, Tag, with_part, tag_at, later, last_of, attribute_at}
-use Rattle.tags.specs.internal.Noting.{found_at, with_value, value_if_named, Adds, NotedMore}
+use Rattle.tags.specs.internal.Noting.{found_at, with_value, value_if_named, FoundMore, NotedMore}
 use Rattle.tags.proofs.Naming.{local-of}
 use Rattle.tags.proofs.Tagging.{tag-part, tag-end, tag-bad}
 use Rattle.tags.proofs.Placeless.{any_part, any-end, any-bad}
@@ -58,13 +58,13 @@ named-no named this earlier f = rw f
 
 module _ (raw : List ℕ) (value : Range) (key : List ℕ) (was long : ℕ) where
   -- b is whether the raw name declares a namespace
-  pub named-xmlns : {b : Bool} → b ≡ is_xmlns raw → b ≡ true → Adds raw value key (found_at was long) (found_at was long)
+  pub named-xmlns : {b : Bool} → b ≡ is_xmlns raw → b ≡ true → FoundMore raw value key (found_at was long) (found_at was long)
   named-xmlns x t = rw (← x, t)
 
 -- it does not; w is the raw name, v the local name
 module _ (doc : List ℕ) (name : Range) (value : Range) (k : Keys) (was : Notes) (f : is_xmlns (piece doc name.from name.len) ≡ false) {w : List ℕ} (e : w ≡ piece doc name.from name.len) {prefix : ℕ} (l : prefix ≡ prefix_length w) {v : List ℕ} (p : v ≡ piece w prefix name.len) where
   -- m is whether that is the key
-  named-local : (key : List ℕ) (was long : ℕ) {m : Bool} → m ≡ same v key → Adds (piece doc name.from name.len) value key (found_at was long) (found_at (pick m (value.from + 1) was) (pick m value.len long))
+  named-local : (key : List ℕ) (was long : ℕ) {m : Bool} → m ≡ same v key → FoundMore (piece doc name.from name.len) value key (found_at was long) (found_at (pick m (value.from + 1) was) (pick m value.len long))
   named-local key was long {m} s =
       let z = p ∙ local-of doc name.from name.len e l in
       rw (f, ← z, ← s) (by-test m (λ t. rw t (found-value value)) (λ t. rw t refl))
@@ -91,7 +91,7 @@ looking-start {doc} {at} {name} = record { rest = later-absent (last_of name (ta
 
 module _ {doc : List ℕ} {at : ℕ} {name : List ℕ} {i : ℕ} {found : Option Range} (inv : Looking doc at name i found) (place : ℕ) {p : Result TagPart Refusal} (e : p ≡ tag_part_at doc i place) where
   -- g is the later of the attribute there, where it has that name, and what was found
-  pub looking-on : {a : RawAttribute} → p ≡ Ok (Part a) → {g : Option Range} → Adds (raw_name doc a) a.value name found g → Looking doc at name a.next g
+  pub looking-on : {a : RawAttribute} → p ≡ Ok (Part a) → {g : Option Range} → FoundMore (raw_name doc a) a.value name found g → Looking doc at name a.next g
   looking-on {a} f m =
       record { rest = ap (later (last_of name (tag_at doc a.next 0).attributes)) m ∙ sym (last-with doc a (tag_at doc a.next 0) name found) ∙ (rw (tag-part doc i 0 (any_part doc i place 0 (sym e ∙ f))) at inv.rest) }
 

@@ -18,7 +18,8 @@ use Rattle.tags.specs.Names.{local_name, is_xmlns}
 
 -- the attribute whose value runs from a position to its closing quote
 abbrev pub valued : Range → ℕ → ℕ → TagPart
-valued name from end = Part (record { name = name; value = record { from = from; len = end - from }; next = end + 1 })
+valued name from end =
+    Part (record { name = name; value = record { from = from; len = end - from }; next = end + 1 })
 
 -- the value runs from `at` to the next such quote (else 20)
 unfoldable pub quoted_at : ℕ → List ℕ → Range → ℕ → ℕ → Result TagPart Refusal

@@ -8,8 +8,8 @@ ghost use Rattle.texts.specs.Text.{piece};
 ghost use Rattle.tags.specs.Names.{is_xmlns};
 ghost use Rattle.tags.specs.Attributes.{raw_name};
 ghost use Rattle.elements.specs.Keys.{Keys, keys, keys_of};
-ghost use Rattle.tags.specs.internal.Noting.{found_at, number_in, name_in, second_in, encoding_in, no_notes, with_value, NotedMore};
-ghost use Rattle.tags.specs.internal.Known.{known_name, CodesOf, Apart, NamedAs, Declares};
+ghost use Rattle.tags.specs.internal.Noting.{found_at, number_in, name_in, second_in, encoding_in, no_notes, with_value, NotedMore, NotedWith};
+ghost use Rattle.tags.specs.internal.Known.{known_name, CodesOf, CodesFor, Apart, NamedAs, Declares};
 
 use crate::known::{Codes, PACKAGE};
 use crate::part::RawAttribute;
@@ -18,8 +18,8 @@ use elements::Element;
 use texts::Range;
 
 /// What was noted of a tag: where the raw values lie that its element looks up, by what they become
-/// in an item. For each, 1 + the position of its first byte, or 0 if there is no such attribute, and
-/// its length.
+/// in an item. For each, 1 + the position of its first byte, or 0 if there is no such attribute,
+/// and its length.
 ///
 /// Plain words, since they are copied for each attribute: padding beside an enum's tag, or a pair
 /// that is loaded whole right after its halves were stored, would defeat store forwarding.
@@ -137,7 +137,7 @@ fn noted_with(
     earlier: Notes,
 ) -> Notes
     requires { (a.value.from < length doc.now) × (is_xmlns (raw_name doc.now a) ≡ false) }
-    ensures { NotedMore (raw_name doc.now a) a.value (keys number.now name.now second.now encoding.now) earlier result }
+    ensures { NotedWith doc.now a (keys number.now name.now second.now encoding.now) earlier result }
 {
     let whole = texts::part(doc, a.name.from, a.name.len);
     let prefix = prefix_len(whole);
@@ -155,7 +155,7 @@ fn noted_with(
 /// declaration changes nothing.
 pub fn noted_one(doc: &[u8], a: RawAttribute, name: &[u8], earlier: Notes) -> Notes
     requires { a.value.from < length doc.now }
-    ensures { NotedMore (raw_name doc.now a) a.value (keys name.now [] [] []) earlier result }
+    ensures { NotedWith doc.now a (keys name.now [] [] []) earlier result }
 {
     if is_xmlns_at(doc, a.name.from, a.name.len) {
         return earlier;
@@ -207,10 +207,11 @@ fn noted_known(code: usize, codes: Codes, value: Range, earlier: Notes) -> Notes
     earlier
 }
 
-/// The notes with an attribute of any other name, in a tag of this element. It declares no namespace.
+/// The notes with an attribute of any other name, in a tag of this element. It declares no
+/// namespace.
 fn noted_other(doc: &[u8], a: RawAttribute, element: Element, earlier: Notes) -> Notes
     requires { (a.value.from < length doc.now) × (is_xmlns (raw_name doc.now a) ≡ false) }
-    ensures { NotedMore (raw_name doc.now a) a.value (keys_of element) earlier result }
+    ensures { NotedWith doc.now a (keys_of element) earlier result }
 {
     match element {
         Element::MessageSchema => noted_with(doc, a, b"id", b"package", b"version", b"", earlier),
@@ -247,9 +248,9 @@ pub fn noted_by(
     element: Element,
     earlier: Notes,
 ) -> Notes
-    requires value { (a.value.from < length doc.now) × CodesOf (keys_of element) codes × Apart codes }
+    requires value { (a.value.from < length doc.now) × CodesFor element codes }
     requires name { NamedAs (raw_name doc.now a) code × Declares (raw_name doc.now a) code false }
-    ensures { NotedMore (raw_name doc.now a) a.value (keys_of element) earlier result }
+    ensures { NotedWith doc.now a (keys_of element) earlier result }
 {
     if let Some(known) = code {
         return noted_known(known, codes, a.value, earlier);

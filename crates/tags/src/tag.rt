@@ -1,4 +1,4 @@
-//! Whole tags: where they end, and the attributes that are looked up in them.
+//! NotedTag tags: where they end, and the attributes that are looked up in them.
 #![tactic(auto, using(crate::proofs::Laws::laws))]
 
 ghost use Rattle.std.specs.Prelude.{◌≡◌, false, [], ◌+◌, ◌<◌, ◌^◌, ◌≤◌, length};
@@ -19,16 +19,17 @@ use texts::Range;
 
 /// A tag read to its end: how it ends, and what was noted of it.
 #[derive(Clone, Copy)]
-pub struct Whole {
+pub struct NotedTag {
     pub ending: Result<Ending, Refusal>,
     pub noted: Notes,
 }
 
-/// Reads the tag whose attributes begin at `at`: how it ends, and the last raw value under each name
-/// that the element looks up. One namespace declaration is likely followed by others, which are
-/// skipped in a loop of their own.
-pub fn tag_noting(doc: &[u8], at: usize, place: usize, element: Element) -> Whole
-    ensures { (result.ending ≡ (tag_at doc.now at place).ending) × NotedBy (keys_of element) doc.now at result.noted }
+/// Reads the tag whose attributes begin at `at`: how it ends, and the last raw value under each
+/// name that the element looks up. One namespace declaration is likely followed by others, which
+/// are skipped in a loop of their own.
+pub fn tag_noting(doc: &[u8], at: usize, place: usize, element: Element) -> NotedTag
+    ensures ending { result.ending ≡ (tag_at doc.now at place).ending }
+    ensures noted { NotedBy (keys_of element) doc.now at result.noted }
 {
     let codes = codes_of(element);
     let mut i = at;
@@ -46,13 +47,13 @@ pub fn tag_noting(doc: &[u8], at: usize, place: usize, element: Element) -> Whol
                 }
             }
             Ok(TagPart::TagEnd(ending)) => {
-                return Whole {
+                return NotedTag {
                     ending: Ok(ending),
                     noted,
                 };
             }
             Err(refusal) => {
-                return Whole {
+                return NotedTag {
                     ending: Err(refusal),
                     noted,
                 };

@@ -4,7 +4,8 @@ use Rattle.texts.specs.Choice.{pick, ◌and◌, ◌or◌}
 use Rattle.texts.specs.Text.{ascii, same, starts_with}
 use Rattle.refusals.specs.declared.Refusal.{Refusal}
 use Rattle.swar.specs.internal.Standing.{ShortText, LongText}
-use Rattle.elements.specs.Keys.{Keys}
+use Rattle.elements.specs.Keys.{Keys, keys_of}
+use Rattle.elements.specs.declared.Element.{Element}
 use Rattle.tags.specs.declared.known.Known.{Known}
 use Rattle.tags.specs.declared.known.Codes.{Codes}
 use Rattle.tags.specs.declared.part.TagPart.{TagPart}
@@ -40,21 +41,21 @@ KnownAt doc at None = Unit {0}
 KnownAt doc at (Some k) = IsKnown doc at k
 
 -- such a text of at most one word, by its integers
-pub record ToldShort (code skip modulus front : ℕ) : Type 0 where
+pub record KnownShort (code skip modulus front : ℕ) : Type 0 where
   pub above : 0 < code
   pub below : code < 18
   pub ahead : skip ≡ length (known_name code) + 3
   pub text : ShortText (known_text code) modulus front
 
 -- one of two words
-pub record ToldLong (code skip front modulus back : ℕ) : Type 0 where
+pub record KnownLong (code skip front modulus back : ℕ) : Type 0 where
   pub above : 0 < code
   pub below : code < 18
   pub ahead : skip ≡ length (known_name code) + 3
   pub text : LongText (known_text code) front modulus back
 
 -- and a longer one, as it stands
-pub record ToldText (code skip : ℕ) (w : List ℕ) : Type 0 where
+pub record KnownText (code skip : ℕ) (w : List ℕ) : Type 0 where
   pub above : 0 < code
   pub below : code < 18
   pub ahead : skip ≡ length (known_name code) + 3
@@ -63,13 +64,14 @@ pub record ToldText (code skip : ℕ) (w : List ℕ) : Type 0 where
 -- ---- the codes of the names that matter in a tag
 
 -- the test p holds of 1 to n
-abbrev pub up_to : ℕ → (ℕ → Bool) → Bool
-up_to zero p = true
-up_to (suc n) p = p (suc n) and up_to n p
+abbrev pub holds_to : ℕ → (ℕ → Bool) → Bool
+holds_to zero p = true
+holds_to (suc n) p = p (suc n) and holds_to n p
 
 -- c is the code of the name `key`, 0 if `key` is not known; codes above 9 matter in no tag
 abbrev pub codes : List ℕ → ℕ → Bool
-codes key c = leb c 9 and up_to 17 (λ k. pick (eqb k c) (same (known_name k) key) (pick (same (known_name k) key) false true))
+codes key c =
+    leb c 9 and holds_to 17 (λ k. pick (eqb k c) (same (known_name k) key) (not (same (known_name k) key)))
 
 -- c holds the codes of the four names
 pub record CodesOf (k : Keys) (c : Codes) : Type 0 where
@@ -90,6 +92,10 @@ pub record Apart (c : Codes) : Type 0 where
   pub name-second : T (differ c.name c.second)
   pub name-encoding : T (differ c.name c.encoding)
   pub second-encoding : T (differ c.second c.encoding)
+
+-- c are the codes of the element's names
+abbrev pub CodesFor : Element → Codes → Type 0
+CodesFor e c = CodesOf (keys_of e) c × Apart c
 
 -- ---- a part of a tag
 
