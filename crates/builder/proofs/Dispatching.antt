@@ -112,7 +112,7 @@ opened-by : (w : Work) (place : ℕ) (name : List ℕ) (a : Attributes) (b : Bui
 unfolding opened
 opened-by w place name a b h = rw h
 
-module _ {w : Work} {s : State} {tag : Tag} (r : Ready w s (room tag)) (g : IsTag w.doc.now tag) (d : s.usage.depth < w.limits.depth) (m : w.limits.depth ≤ max_depth) {p : State} (ep : p ≡ pushed s) {w₁ : Work} (ew : w₁ ≡ with_name w s tag.name tag.len) where
+module _ {w : Work} {s : State} {tag : Tag} (r : Ready w s (room tag)) (g : IsTag w.doc.now tag) (d : s.usage.depth < w.limits.depth) (m : w.limits.depth ≤ max_depth) {p : State} (ep : p ≡ pushed s) {w₁ : Work} (ew : w₁ ≡ with_name w s tag.name.from tag.name.len) where
   deep : s.usage.depth < max_depth
   deep = omega arith
 
@@ -120,20 +120,20 @@ module _ {w : Work} {s : State} {tag : Tag} (r : Ready w s (room tag)) (g : IsTa
   pushed-opens =
       rw (ep, ew)
       (record {
-        ready = push-ready w s tag.name tag.len (room tag) r deep;
+        ready = push-ready w s tag.name.from tag.name.len (room tag) r deep;
         tagged = g.tagged;
         noted = g.noted;
       })
 
   pub open_done : {w' : Work} {c : Result State Refusal} → After (open_by tag.element w₁.limits tag.place (parent_composite (builder_in w₁ p)) (attributes_of w₁ tag) (builder_in w₁ p)) w₁ p (room tag) w' c
-      → After (opened w.limits tag.place (piece w.doc.now tag.name tag.len) (attributes_of w tag) (builder_in w s)) w s (room tag) w' c
+      → After (opened w.limits tag.place (piece w.doc.now tag.name.from tag.name.len) (attributes_of w tag) (builder_in w s)) w s (room tag) w' c
   open_done {c = c} f =
-      let name = piece w.doc.now tag.name tag.len in
+      let name = piece w.doc.now tag.name.from tag.name.len in
       let b = builder_in w s in
       let k : leb w.limits.depth (length b.stack) ≡ false = rw (length-stack s.usage.depth w.records.now w.doc.now) (lt-leb w.limits.depth s.usage.depth d) in
       let h = rw (ep, ew) at f in
-      let q : open_by tag.element w.limits tag.place (parent_composite (builder_in (with_name w s tag.name tag.len) (pushed s))) (attributes_of w tag) (builder_in (with_name w s tag.name tag.len) (pushed s)) ≡ opened w.limits tag.place name (attributes_of w tag) b =
-      ap (λ x. open_by tag.element w.limits tag.place (parent_composite x) (attributes_of w tag) x) (push-builder w s tag.name tag.len (room tag) r deep)
+      let q : open_by tag.element w.limits tag.place (parent_composite (builder_in (with_name w s tag.name.from tag.name.len) (pushed s))) (attributes_of w tag) (builder_in (with_name w s tag.name.from tag.name.len) (pushed s)) ≡ opened w.limits tag.place name (attributes_of w tag) b =
+      ap (λ x. open_by tag.element w.limits tag.place (parent_composite x) (attributes_of w tag) x) (push-builder w s tag.name.from tag.name.len (room tag) r deep)
       ∙ ap (λ x. open_by x w.limits tag.place (same (top b.stack) (ascii "composite")) (attributes_of w tag) (with_stack (name ∷ b.stack) b)) g.named
       ∙ opened-by w tag.place name (attributes_of w tag) b k in
       let a = after-as s q refl (omega arith) h in

@@ -106,20 +106,19 @@ impl<'d, 'a> Work<'d, 'a> {
         State { current, ..s }
     }
 
-    /// Takes a close tag of this element, whose `<` is at `place` and whose name is the `len` bytes
-    /// at `name`: pops the innermost open name. Refused (30) if that is another one.
+    /// Takes a close tag of this name and its element, whose `<` is at `place`: pops the innermost
+    /// open name. Refused (30) if that is another one.
     pub fn on_close(
         &mut self,
         s: State,
         place: usize,
-        name: usize,
-        len: usize,
+        name: Range,
         element: Element,
     ) -> Result<State, Refusal>
-        requires { Sound self.old s × (element ≡ element_of (doc_piece self.old name len)) }
-        ensures { Makes (closed place (doc_piece self.old name len)) self.old s 0 self.new result }
+        requires { Sound self.old s × (element ≡ element_of (doc_piece self.old name.from name.len)) }
+        ensures { Makes (closed place (doc_piece self.old name.from name.len)) self.old s 0 self.new result }
     {
-        if !self.is_open(s, name, len) {
+        if !self.is_open(s, name.from, name.len) {
             return Err(Refusal::WrongClose { place });
         }
         Ok(self.close_by(s.popped(), element))

@@ -218,12 +218,12 @@ impl<'d, 'a> Work<'d, 'a> {
     /// Takes an open tag: pushes its name, then opens its element. Refused (34) at the depth limit.
     pub fn on_open(&mut self, s: State, tag: Tag) -> Result<State, Refusal>
         requires { Ready self.old s (room tag) × IsTag self.old.doc.now tag }
-        ensures { After (opened self.old.limits tag.place (piece self.old.doc.now tag.name tag.len) (attributes_in self.old.doc.now tag.attributes) (builder_in self.old s)) self.old s (room tag) self.new result }
+        ensures { After (opened self.old.limits tag.place (piece self.old.doc.now tag.name.from tag.name.len) (attributes_in self.old.doc.now tag.attributes) (builder_in self.old s)) self.old s (room tag) self.new result }
     {
         if self.limits.depth <= s.usage.depth {
             return Err(Refusal::TooDeep { place: tag.place });
         }
-        let inner = self.push(s, tag.name, tag.len);
+        let inner = self.push(s, tag.name.from, tag.name.len);
         self.open_by(inner, &tag)
     }
 }

@@ -39,8 +39,7 @@ pub(crate) struct Found {
 #[derive(Clone, Copy)]
 pub struct Tag {
     pub place: usize,
-    pub name: usize,
-    pub len: usize,
+    pub name: Range,
     pub element: Element,
     pub attributes: usize,
     pub next: usize,

@@ -13,7 +13,8 @@ pub record Keys : Type 0 where
   pub encoding : List ℕ
 
 abbrev pub keys : List ℕ → List ℕ → List ℕ → List ℕ → Keys
-keys number name second encoding = record { number = number; name = name; second = second; encoding = encoding }
+keys number name second encoding =
+    record { number = number; name = name; second = second; encoding = encoding }
 
 -- of messageSchema
 abbrev pub schema_keys : Keys

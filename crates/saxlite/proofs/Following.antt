@@ -111,10 +111,10 @@ tag-more x y zero k doc at place f g h l = absurd (omega arith)
 tag-more x y (suc j) zero doc at place f g h l = absurd (omega arith)
 tag-more x y (suc j) (suc k) doc at place f g h l =
     by_part (tag_part_at doc at place)
-    (λ name n value len next e.
+    (λ a e.
     let i = rw e at (part-inside doc at place) in
     within-part x j doc at place e
-    ∙ ap (with_part doc name n value len) (tag-more x y j k doc next place (omega (arith, i)) (omega (arith, i)) (omega (arith, i)) (omega (arith, i)))
+    ∙ ap (with_part doc a) (tag-more x y j k doc a.next place (omega (arith, i)) (omega (arith, i)) (omega (arith, i)) (omega (arith, i)))
     ∙ sym (within-part y k doc at place e))
     (λ ending e. within_end x j doc at place e ∙ sym (within_end y k doc at place e))
     (λ refusal e. within-bad x j doc at place e ∙ sym (within-bad y k doc at place e))

@@ -14,7 +14,7 @@ use Rattle.saxlite.proofs.Following.{from_end}
 
 module _ (doc : List ℕ) (c : Cursor) where
   -- an owed close
-  pub asked-owed : {o : Owed} → c.owed ≡ Some o → {r : Read} → r ≡ bare (Close o.name o.len) o.element o.place c.at → Asked doc c (Ok (Some r))
+  pub asked-owed : {o : Owed} → c.owed ≡ Some o → {r : Read} → r ≡ bare (Close o.name) o.element o.place c.at → Asked doc c (Ok (Some r))
   asked-owed t e =
       rw e
       (record {

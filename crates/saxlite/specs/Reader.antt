@@ -14,9 +14,10 @@ use Rattle.saxlite.specs.declared.reader.Reader.{Reader}
 
 -- the event that ranges of the document stand for
 abbrev pub event_in : List ℕ → Found → Event
-event_in doc (Text from len) = text (decoded (piece doc from len))
-event_in doc (Open name n attributes end) = opens (piece doc name n) (attributes_in doc attributes)
-event_in doc (Close name n) = closes (piece doc name n)
+event_in doc (Text at) = text (decoded (piece doc at.from at.len))
+event_in doc (Open name attributes end) =
+    opens (piece doc name.from name.len) (attributes_in doc attributes)
+event_in doc (Close name) = closes (piece doc name.from name.len)
 
 -- a position with no close owed
 abbrev pub cursor_at : ℕ → Cursor
@@ -25,7 +26,7 @@ cursor_at at = record { at = at; owed = None }
 -- an owed close comes before the other events, with the place of its tag
 abbrev pub owed_before : List ℕ → Option Owed → Events → Events
 owed_before doc None more = more
-owed_before doc (Some o) more = next o.place (closes (piece doc o.name o.len)) more
+owed_before doc (Some o) more = next o.place (closes (piece doc o.name.from o.name.len)) more
 
 -- the events that are still to come
 abbrev pub to_come : List ℕ → Cursor → Events

@@ -7,26 +7,22 @@ ghost use Rattle.saxlite.specs.internal.Moving.{bare};
 
 use elements::Element;
 use tags::noting::Notes;
+use texts::Range;
 
 /// What the reader yields, as ranges of the document.
 #[derive(Clone, Copy)]
 pub enum Event {
     /// Text, not decoded.
-    Text {
-        from: usize,
-        len: usize,
-    },
+    Text(Range),
     /// An open tag: its local name, where its attributes begin (behind its raw name), and its end.
     Open {
-        name: usize,
-        name_len: usize,
+        name: Range,
         attributes: usize,
         next: usize,
     },
     /// A close tag, or the close of a self-closed one: its local name.
     Close {
-        name: usize,
-        name_len: usize,
+        name: Range,
     },
 }
 
@@ -44,8 +40,7 @@ pub struct Told {
 #[derive(Clone, Copy)]
 pub(crate) struct Owed {
     pub place: usize,
-    pub name: usize,
-    pub len: usize,
+    pub name: Range,
     pub element: Element,
 }
 

@@ -5,7 +5,7 @@
 ghost use Rattle.std.specs.Prelude.{◌≡◌, false, ◌+◌, ◌≤◌, ◌<◌, length, drop};
 ghost use Rattle.texts.specs.Text.{ascii, starts_with};
 ghost use Rattle.saxlite.specs.Events.{events_from, text_at, close_at, open_at};
-ghost use Rattle.saxlite.specs.internal.Moving.{behind, Here};
+ghost use Rattle.saxlite.specs.internal.Moving.{cursor_past, Here};
 ghost use Rattle.saxlite.specs.internal.Passing.{is_silent};
 
 use crate::event::{Cursor, Event, Owed, Read, Told};
@@ -16,6 +16,7 @@ use tags::beginning::{begin_at, closing_at};
 use tags::part::Ending;
 use tags::scan::{prefix_len, skip_space, tag_name_end};
 use tags::tag::tag_noting;
+use texts::Range;
 
 /// The text at `at`, up to the next '<' or the document's end.
 fn read_text(doc: &[u8], at: usize) -> Result<Read, Refusal>
@@ -23,9 +24,11 @@ fn read_text(doc: &[u8], at: usize) -> Result<Read, Refusal>
     ensures { Here (text_at (events_from doc.now) doc.now at) doc.now at result }
 {
     let end = byte_from(doc, at, b'<');
-    let len = end - at;
-    let text = Event::Text { from: at, len };
-    Ok(Read::bare(text, Element::Other, at, end))
+    let text = Range {
+        from: at,
+        len: end - at,
+    };
+    Ok(Read::bare(Event::Text(text), Element::Other, at, end))
 }
 
 /// The close tag at `at`, of any name. Refused (14) without its '>'.
@@ -39,11 +42,13 @@ fn read_any_close(doc: &[u8], at: usize) -> Result<Read, Refusal>
     if texts::starts_with(doc, due, b">") {
         let next = due + 1;
         let n = end - start;
-        let lost = prefix_len(texts::part(doc, start, n));
-        let name = start + lost;
-        let name_len = n - lost;
-        let element = element_of(texts::part(doc, name, name_len));
-        let event = Event::Close { name, name_len };
+        let prefix = prefix_len(texts::part(doc, start, n));
+        let name = Range {
+            from: start + prefix,
+            len: n - prefix,
+        };
+        let element = element_of(texts::part(doc, name.from, name.len));
+        let event = Event::Close { name };
         return Ok(Read::bare(event, element, at, next));
     }
     Err(Refusal::NoCloseTagEnd {
@@ -59,18 +64,20 @@ fn read_close(doc: &[u8], at: usize) -> Result<Read, Refusal>
 {
     let start = at + 2;
     if let Some(known) = closing_at(doc, start) {
-        let name = start + known.lost;
-        let name_len = known.len - known.lost;
+        let name = Range {
+            from: start + known.prefix,
+            len: known.len - known.prefix,
+        };
         let next = start + known.len + 1;
-        let event = Event::Close { name, name_len };
+        let event = Event::Close { name };
         return Ok(Read::bare(event, known.element, at, next));
     }
     read_any_close(doc, at)
 }
 
 /// Where the reader goes on behind an open tag: a self-closed one owes its close.
-fn behind(ending: Ending, owed: Owed) -> Cursor
-    ensures { result ≡ behind ending owed }
+fn cursor_past(ending: Ending, owed: Owed) -> Cursor
+    ensures { result ≡ cursor_past ending owed }
 {
     Cursor {
         at: ending.next,
@@ -92,20 +99,20 @@ fn read_open(doc: &[u8], at: usize) -> Result<Read, Refusal>
             place: at,
         });
     }
-    let name = start + begun.lost;
-    let name_len = end - start - begun.lost;
+    let name = Range {
+        from: start + begun.prefix,
+        len: end - start - begun.prefix,
+    };
     let element = begun.element;
     let tag = tag_noting(doc, end, at, element);
     let ending = tag.ending?;
     let owed = Owed {
         place: at,
         name,
-        len: name_len,
         element,
     };
     let event = Event::Open {
         name,
-        name_len,
         attributes: end,
         next: ending.next,
     };
@@ -116,7 +123,7 @@ fn read_open(doc: &[u8], at: usize) -> Result<Read, Refusal>
             place: at,
             noted: tag.noted,
         },
-        cursor: behind(ending, owed),
+        cursor: cursor_past(ending, owed),
     })
 }
 

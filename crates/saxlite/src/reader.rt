@@ -14,12 +14,9 @@ use refusals::Refusal;
 impl Owed {
     /// The close event, behind which the reader goes on at `at`.
     fn close(self, at: usize) -> Read
-        ensures { result ≡ bare (Close self.name self.len) self.element self.place at }
+        ensures { result ≡ bare (Close self.name) self.element self.place at }
     {
-        let event = Event::Close {
-            name: self.name,
-            name_len: self.len,
-        };
+        let event = Event::Close { name: self.name };
         Read::bare(event, self.element, self.place, at)
     }
 }

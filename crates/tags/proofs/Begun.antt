@@ -9,80 +9,80 @@ use Rattle.texts.proofs.Scanning.{count_no, scan-from}
 use Rattle.classes.specs.Class.{is_space, is_tag_name_end}
 use Rattle.swar.specs.internal.Standing.{StandsShort, StandsLong}
 use Rattle.swar.proofs.Standing.{power-some}
-use Rattle.tags.specs.declared.beginning.Opening.{Opening}
+use Rattle.tags.specs.declared.beginning.UsualName.{UsualName}
 use Rattle.tags.specs.declared.beginning.Beginning.{Beginning}
 use Rattle.elements.specs.Elements.{element_of}
 use Rattle.elements.specs.declared.Element.{Element}
 use Rattle.elements.specs.declared.Element.TheVariants.{MessageSchema}
 use Rattle.tags.specs.Names.{prefix_length, local_name}
-use Rattle.tags.specs.internal.Beginning.{raw_name, tagged_text, Says, Opens, KnownShort, KnownLong, BeginsAt}
+use Rattle.tags.specs.internal.Beginning.{usual_raw, tagged_text, Says, IsUsual, UsualShort, UsualLong, BeginsAt}
 use Rattle.tags.proofs.Searching.{stands-within}
-use Rattle.tags.proofs.Naming.{prefix-within, lost-within, lost-fits, local-range}
+use Rattle.tags.proofs.Naming.{prefix-within, local-within, local-fits, local-range}
 use Rattle.tags.proofs.Knowing.{starts-split, count-to}
-use Rattle.tags.proofs.Telling.{short-fits, long-fits, short-text, long-text}
+use Rattle.tags.proofs.Matching.{short-fits, long-fits, short-text, long-text}
 use Rattle.texts.specs.Choice.{◌and◌}
 
 -- ---- known raw names, compared as words
 
 module _ (doc : List ℕ) (at : ℕ) {behind len : ℕ} {e : Element} {b : Bool} where
-  pub begin-short : {modulus front : ℕ} → StandsShort doc at modulus front b → KnownShort behind e len modulus front → b ≡ true → Opens behind doc at (record { element = e; len = len; lost = 0 })
+  pub begin-short : {modulus front : ℕ} → StandsShort doc at modulus front b → UsualShort behind e len modulus front → b ≡ true → IsUsual behind doc at (record { element = e; len = len; prefix = 0 })
   begin-short s t y = record { stands = sym (s.is (tagged_text behind e 0) t.text) ∙ y; says = t.says }
 
-  pub begin-long : {lost front modulus back : ℕ} → StandsLong doc at front modulus back b → KnownLong behind e len lost front modulus back → b ≡ true → Opens behind doc at (record { element = e; len = len; lost = lost })
-  begin-long {lost = lost} s t y = record { stands = sym (s.is (tagged_text behind e lost) t.text) ∙ y; says = t.says }
+  pub begin-long : {prefix front modulus back : ℕ} → StandsLong doc at front modulus back b → UsualLong behind e len prefix front modulus back → b ≡ true → IsUsual behind doc at (record { element = e; len = len; prefix = prefix })
+  begin-long {prefix = prefix} s t y = record { stands = sym (s.is (tagged_text behind e prefix) t.text) ∙ y; says = t.says }
 
-pub begin-short-power : {behind len modulus front : ℕ} {e : Element} → KnownShort behind e len modulus front → 0 < modulus
+pub begin-short-power : {behind len modulus front : ℕ} {e : Element} → UsualShort behind e len modulus front → 0 < modulus
 begin-short-power t = power-some t.text
 
-pub begin-long-power : {behind len lost front modulus back : ℕ} {e : Element} → KnownLong behind e len lost front modulus back → 0 < modulus
+pub begin-long-power : {behind len prefix front modulus back : ℕ} {e : Element} → UsualLong behind e len prefix front modulus back → 0 < modulus
 begin-long-power t = power-some t.text.rest
 
 -- what a computation tests of a known raw name
 abbrev says-so : Element → ℕ → ℕ → Bool
-says-so e len lost = all (until is_tag_name_end) (raw_name e lost) and eqb len (length (raw_name e lost)) and eqb lost (prefix_length (raw_name e lost))
+says-so e len prefix = all (until is_tag_name_end) (usual_raw e prefix) and eqb len (length (usual_raw e prefix)) and eqb prefix (prefix_length (usual_raw e prefix))
 
-says : (e : Element) (len lost : ℕ) → T (says-so e len lost) → e ≡ element_of (local_name (raw_name e lost)) → Says e len lost
-says e len lost t k =
-    let plain = all (until is_tag_name_end) (raw_name e lost) in
-    let long = eqb len (length (raw_name e lost)) in
+says : (e : Element) (len prefix : ℕ) → T (says-so e len prefix) → e ≡ element_of (local_name (usual_raw e prefix)) → Says e len prefix
+says e len prefix t k =
+    let plain = all (until is_tag_name_end) (usual_raw e prefix) in
+    let long = eqb len (length (usual_raw e prefix)) in
     let u = and_right plain _ t in
     record {
       plain = and_left plain _ t;
       long = eqb-true len _ (is_true long (and_left long _ u));
-      prefix = eqb-true lost _ (is_true _ (and_right long _ u));
+      parted = eqb-true prefix _ (is_true _ (and_right long _ u));
       is = k;
     }
 
-pub opens-short : {behind len modulus front : ℕ} {e : Element} → T (says-so e len 0) → e ≡ element_of (local_name (raw_name e 0)) → T (short-fits (tagged_text behind e 0) modulus front) → KnownShort behind e len modulus front
-opens-short {behind} {len} {e = e} t k f = record { says = says e len 0 t k; text = short-text (tagged_text behind e 0) _ _ f }
+pub usual-short : {behind len modulus front : ℕ} {e : Element} → T (says-so e len 0) → e ≡ element_of (local_name (usual_raw e 0)) → T (short-fits (tagged_text behind e 0) modulus front) → UsualShort behind e len modulus front
+usual-short {behind} {len} {e = e} t k f = record { says = says e len 0 t k; text = short-text (tagged_text behind e 0) _ _ f }
 
-pub opens-long : {behind len lost front modulus back : ℕ} {e : Element} → T (says-so e len lost) → e ≡ element_of (local_name (raw_name e lost)) → T (long-fits (tagged_text behind e lost) front modulus back) → KnownLong behind e len lost front modulus back
-opens-long {behind} {len} {lost} {e = e} t k f = record { says = says e len lost t k; text = long-text (tagged_text behind e lost) _ _ _ f }
+pub usual-long : {behind len prefix front modulus back : ℕ} {e : Element} → T (says-so e len prefix) → e ≡ element_of (local_name (usual_raw e prefix)) → T (long-fits (tagged_text behind e prefix) front modulus back) → UsualLong behind e len prefix front modulus back
+usual-long {behind} {len} {prefix} {e = e} t k f = record { says = says e len prefix t k; text = long-text (tagged_text behind e prefix) _ _ _ f }
 
 -- the longest one, compared as it stands
 says-schema : Says MessageSchema 17 4
 unfolding element_of prefix_length same all is_tag_name_end is_space
 says-schema = says MessageSchema 17 4 tt refl
 
-pub begin-schema : (behind : ℕ) (doc : List ℕ) (at : ℕ) {b : Bool} {w : List ℕ} → b ≡ starts_with w (drop at doc) → w ≡ tagged_text behind MessageSchema 4 → b ≡ true → Opens behind doc at (record { element = MessageSchema; len = 17; lost = 4 })
+pub begin-schema : (behind : ℕ) (doc : List ℕ) (at : ℕ) {b : Bool} {w : List ℕ} → b ≡ starts_with w (drop at doc) → w ≡ tagged_text behind MessageSchema 4 → b ≡ true → IsUsual behind doc at (record { element = MessageSchema; len = 17; prefix = 4 })
 begin-schema behind doc at e t v = record { stands = sym (ap (λ (w : List ℕ). starts_with w (drop at doc)) t) ∙ sym e ∙ v; says = says-schema }
 
 -- ---- such a raw name is the one that the general way reads
 
-module _ (doc : List ℕ) (name : ℕ) {behind : ℕ} {k : Opening} (b : Opens behind doc name k) (e : until is_tag_name_end behind ≡ false) where
+module _ (doc : List ℕ) (name : ℕ) {behind : ℕ} {k : UsualName} (b : IsUsual behind doc name k) (e : until is_tag_name_end behind ≡ false) where
   abbrev n : List ℕ
-  n = raw_name k.element k.lost
+  n = usual_raw k.element k.prefix
 
   abbrev rest : List ℕ
-  rest = drop (length (tagged_text behind k.element k.lost)) (drop name doc)
+  rest = drop (length (tagged_text behind k.element k.prefix)) (drop name doc)
 
   split : drop name doc ≡ n ++ behind ∷ rest
-  split = starts-split (tagged_text behind k.element k.lost) (drop name doc) b.stands ∙ append_assoc n (behind ∷ []) _
+  split = starts-split (tagged_text behind k.element k.prefix) (drop name doc) b.stands ∙ append_assoc n (behind ∷ []) _
 
   within : name + k.len + 1 ≤ length doc
   within =
       let m = length-append n (behind ∷ []) in
-      omega (arith, stands-within (tagged_text behind k.element k.lost) doc name b.stands (omega (arith, m)), m, b.says.long)
+      omega (arith, stands-within (tagged_text behind k.element k.prefix) doc name b.stands (omega (arith, m)), m, b.says.long)
 
   named : piece doc name k.len ≡ n
   named = rw b.says.long (ap (take (length n)) split ∙ take-append_seam n _)
@@ -93,22 +93,22 @@ module _ (doc : List ℕ) (name : ℕ) {behind : ℕ} {k : Opening} (b : Opens b
   follows : drop (name + k.len) doc ≡ behind ∷ rest
   follows = rw b.says.long (sym (drop-drop (length n) name doc) ∙ ap (drop (length n)) split ∙ drop-append_seam n (behind ∷ rest))
 
-  lost-is : k.lost ≡ prefix_length (piece doc name k.len)
-  lost-is = rw named b.says.prefix
+  prefix-is : k.prefix ≡ prefix_length (piece doc name k.len)
+  prefix-is = rw named b.says.parted
 
-  short : k.lost ≤ k.len
-  short = omega (arith, prefix-within n, b.says.prefix, b.says.long)
+  short : k.prefix ≤ k.len
+  short = omega (arith, prefix-within n, b.says.parted, b.says.long)
 
   pub begin-fits : length doc < 2 ^ 64 → Fits w64 (name + k.len)
   begin-fits l = omega (arith, within)
 
-  element-is : k.element ≡ element_of (piece doc (name + k.lost) (k.len - k.lost))
-  element-is = b.says.is ∙ ap element_of (sym (rw lost-is (local-range doc name k.len) ∙ ap local_name named))
+  element-is : k.element ≡ element_of (piece doc (name + k.prefix) (k.len - k.prefix))
+  element-is = b.says.is ∙ ap element_of (sym (rw prefix-is (local-range doc name k.len) ∙ ap local_name named))
 
-  pub known-begins : BeginsAt doc name (record { end = name + k.len; lost = k.lost; element = k.element })
+  pub known-begins : BeginsAt doc name (record { end = name + k.len; prefix = k.prefix; element = k.element })
   known-begins =
       let z : name + k.len - name ≡ k.len = omega arith in
-      record { ends = ends; lost = rw z lost-is; element = rw z element-is }
+      record { ends = ends; prefix = rw z prefix-is; element = rw z element-is }
 
 -- a space behind it, or '>' where the tag has no attributes
 pub space-ends : until is_tag_name_end 32 ≡ false
@@ -120,7 +120,7 @@ unfolding is_tag_name_end is_space
 bracket-ends = refl
 
 -- the close tag at `at`
-module _ (doc : List ℕ) (at : ℕ) {k : Opening} (b : Opens 62 doc (at + 2) k) where
+module _ (doc : List ℕ) (at : ℕ) {k : UsualName} (b : IsUsual 62 doc (at + 2) k) where
   pub closing-within : at + 2 + k.len + 1 ≤ length doc
   closing-within = within doc (at + 2) b bracket-ends
 
@@ -130,11 +130,11 @@ module _ (doc : List ℕ) (at : ℕ) {k : Opening} (b : Opens 62 doc (at + 2) k)
   pub closing-next-fits : length doc < 2 ^ 64 → Fits w64 (at + 2 + k.len + 1)
   closing-next-fits l = omega (arith, closing-within)
 
-  pub closing-lost : k.lost ≤ k.len
-  closing-lost = short doc (at + 2) b bracket-ends
+  pub closing-short : k.prefix ≤ k.len
+  closing-short = short doc (at + 2) b bracket-ends
 
-  pub closing-local-fits : length doc < 2 ^ 64 → Fits w64 (at + 2 + k.lost)
-  closing-local-fits l = omega (arith, closing-within, closing-lost)
+  pub closing-local-fits : length doc < 2 ^ 64 → Fits w64 (at + 2 + k.prefix)
+  closing-local-fits l = omega (arith, closing-within, closing-short)
 
   -- where the name ends, '>' is due, and stands
   pub closing-ends : at + 2 + k.len ≡ scan (until is_tag_name_end) doc (at + 2)
@@ -148,16 +148,16 @@ module _ (doc : List ℕ) (at : ℕ) {k : Opening} (b : Opens 62 doc (at + 2) k)
   unfolding starts_with
   closing-stands = rw (follows doc (at + 2) b bracket-ends) refl
 
-  pub closing-prefix : k.lost ≡ prefix_length (piece doc (at + 2) k.len)
-  closing-prefix = lost-is doc (at + 2) b bracket-ends
+  pub closing-prefix : k.prefix ≡ prefix_length (piece doc (at + 2) k.len)
+  closing-prefix = prefix-is doc (at + 2) b bracket-ends
 
-  pub closing-element : k.element ≡ element_of (piece doc (at + 2 + k.lost) (k.len - k.lost))
+  pub closing-element : k.element ≡ element_of (piece doc (at + 2 + k.prefix) (k.len - k.prefix))
   closing-element = element-is doc (at + 2) b bracket-ends
 
 pub plain-begins :
-    (doc : List ℕ) (name : ℕ) {end : ℕ} → end ≡ scan (until is_tag_name_end) doc name → {lost : ℕ} → lost ≡ prefix_length (piece doc name (end - name)) →
-    {v : List ℕ} → v ≡ piece doc (name + lost) (end - name - lost) → {f : Element} → f ≡ element_of v → BeginsAt doc name (record { end = end; lost = lost; element = f })
-plain-begins doc name e l q k = record { ends = e; lost = l; element = k ∙ ap element_of q }
+    (doc : List ℕ) (name : ℕ) {end : ℕ} → end ≡ scan (until is_tag_name_end) doc name → {prefix : ℕ} → prefix ≡ prefix_length (piece doc name (end - name)) →
+    {v : List ℕ} → v ≡ piece doc (name + prefix) (end - name - prefix) → {f : Element} → f ≡ element_of v → BeginsAt doc name (record { end = end; prefix = prefix; element = f })
+plain-begins doc name e l q k = record { ends = e; prefix = l; element = k ∙ ap element_of q }
 
 -- ---- the tag that begins so
 
@@ -165,8 +165,8 @@ module _ (doc : List ℕ) (name : ℕ) {b : Beginning} (a : BeginsAt doc name b)
   pub begun-from : name ≤ b.end
   begun-from = omega (arith, a.ends, scan-from (until is_tag_name_end) doc name)
 
-  pub begun-lost : b.lost ≤ b.end - name
-  begun-lost = lost-within doc name (b.end - name) refl a.lost
+  pub begun-short : b.prefix ≤ b.end - name
+  begun-short = local-within doc name (b.end - name) refl a.prefix
 
-  pub begun-fits : name ≤ length doc → length doc < 2 ^ 64 → Fits w64 (name + b.lost)
-  begun-fits h l = lost-fits doc name (b.end - name) refl a.lost h l
+  pub begun-fits : name ≤ length doc → length doc < 2 ^ 64 → Fits w64 (name + b.prefix)
+  begun-fits h l = local-fits doc name (b.end - name) refl a.prefix h l

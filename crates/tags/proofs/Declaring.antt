@@ -1,5 +1,6 @@
 -- Laws of raw names that declare a namespace, compared as one word.
 use Rattle.std.proofs.Common.{◌≡◌, refl, sym, ap, ◌∙◌, Bool, true, false, List, [], ◌∷◌, ◌++◌, ℕ, zero, suc, ◌+◌, ◌-◌, ◌≤◌, ◌<◌, arith, rules, eqb, lit<, length, take, drop, get_or, length-take, drop-cons, drop-drop}
+use Rattle.texts.specs.declared.Range.{Range}
 use Rattle.texts.specs.Text.{ascii, piece, same, starts_with}
 use Rattle.texts.specs.Scan.{count_while, scan, until}
 use Rattle.texts.proofs.Scanning.{scan-stop}
@@ -103,13 +104,13 @@ module _ (raw : List ℕ) {b : Bool} (x : b ≡ is_xmlns raw) where
   pub declares-not : b ≡ false → is_xmlns raw ≡ false
   declares-not f = sym x ∙ f
 
-pub declares-more : (doc : List ℕ) (raw n value len : ℕ) (k : Keys) (was : Notes) {b : Bool} → b ≡ is_xmlns (piece doc raw n) → b ≡ true → NotedMore (piece doc raw n) value len k was was
-declares-more doc raw n value len k was x t =
+pub declares-more : (raw : List ℕ) (value : Range) (k : Keys) (was : Notes) {b : Bool} → b ≡ is_xmlns raw → b ≡ true → NotedMore raw value k was was
+declares-more raw value k was x t =
     record {
-      number = named-xmlns doc raw n value len k.number was.number was.number_len x t;
-      name = named-xmlns doc raw n value len k.name was.name was.name_len x t;
-      second = named-xmlns doc raw n value len k.second was.second was.second_len x t;
-      encoding = named-xmlns doc raw n value len k.encoding was.encoding was.encoding_len x t;
+      number = named-xmlns raw value k.number was.number was.number_len x t;
+      name = named-xmlns raw value k.name was.name was.name_len x t;
+      second = named-xmlns raw value k.second was.second was.second_len x t;
+      encoding = named-xmlns raw value k.encoding was.encoding was.encoding_len x t;
     }
 
 pub ruleset declaring = (xmlns-short, xmlns-bare, xmlns-colon, xmlns-not, xmlns-part, xmlns-equals, xmlns-on, declares-not, declares-more, rules)

@@ -1,5 +1,6 @@
 -- Laws of attributes that declare a namespace, which are skipped in a loop of their own.
 use Rattle.std.proofs.Common.{Result, Ok, Err, ◌≡◌, refl, sym, ap, ◌∙◌, Bool, true, false, List, ◌∷◌, ℕ, suc, ◌+◌, ◌-◌, ◌≤◌, ◌<◌, arith, rules, lt-ltb, le-ltb, ltb, length, drop, get_or, drop-cons}
+use Rattle.texts.specs.declared.Range.{Range}
 use Rattle.texts.specs.Text.{ascii, piece, starts_with}
 use Rattle.texts.specs.Scan.{scan, until, is}
 use Rattle.texts.proofs.Choosing.{pick-by}
@@ -7,13 +8,14 @@ use Rattle.texts.proofs.Scanning.{scan-start, byte-on, byte-stop}
 use Rattle.texts.proofs.Comparing.{starts-no}
 use Rattle.classes.specs.Class.{is_space, is_attribute_name_end}
 use Rattle.refusals.specs.declared.Refusal.{Refusal}
+use Rattle.tags.specs.declared.part.RawAttribute.{RawAttribute}
 use Rattle.tags.specs.declared.part.TagPart.{TagPart}
 use Rattle.tags.specs.declared.part.TagPart.TheVariants.{Attribute as Part, TagEnd}
 use Rattle.tags.specs.declared.noting.Notes.{Notes}
 use Rattle.tags.specs.Names.{is_xmlns}
 use Rattle.elements.specs.Keys.{Keys}
 use Rattle.tags.specs.Find.{stands}
-use Rattle.tags.specs.Attributes.{quoted_at, value_at, attribute_part_at, tag_part_at, Tag, with_part, tag_at, last_of, later}
+use Rattle.tags.specs.Attributes.{raw_name, quoted_at, value_at, attribute_part_at, tag_part_at, Tag, with_part, tag_at, last_of, later}
 use Rattle.tags.specs.internal.Dropping.{Unchanged, next_of}
 use Rattle.tags.proofs.Parting.{attribute-valued, part-attribute}
 use Rattle.tags.proofs.Placeless.{any_part}
@@ -39,93 +41,94 @@ passed-less {i = i} {r = r} u n =
     omega (arith, u.within h, h)
 
 -- an attribute without what it would add
-dropped : (doc : List ℕ) (name n value len : ℕ) (rest : Tag) → is_xmlns (piece doc name n) ≡ true → with_part doc name n value len rest ≡ rest
+dropped : (doc : List ℕ) (a : RawAttribute) (rest : Tag) → is_xmlns (raw_name doc a) ≡ true → with_part doc a rest ≡ rest
 unfolding with_part
-dropped doc name n value len rest x = rw x refl
+dropped doc a rest x = rw x refl
 
-module _ (doc : List ℕ) (at : ℕ) {i : ℕ} (e : i ≡ scan is_space doc at) (h : i < length doc) (b : get_or doc i 0 ≡ 120) {p : Result TagPart Refusal} (a : p ≡ attribute_part_at doc i 0) where
+module _ (doc : List ℕ) (at : ℕ) {i : ℕ} (e : i ≡ scan is_space doc at) (h : i < length doc) (b : get_or doc i 0 ≡ 120) {p : Result TagPart Refusal} (g : p ≡ attribute_part_at doc i 0) where
   part : p ≡ tag_part_at doc at 0
   part =
       let d = drop-cons doc i 0 h ∙ ap (λ x. x ∷ drop (suc i) doc) b in
-      part-attribute doc at 0 e h refl (ap (starts_with (ascii ">")) d ∙ starts-no 62 120 _ (drop (suc i) doc) refl) refl (ap (starts_with (ascii "/>")) d ∙ starts-no 47 120 _ (drop (suc i) doc) refl) a
+      part-attribute doc at 0 e h refl (ap (starts_with (ascii ">")) d ∙ starts-no 62 120 _ (drop (suc i) doc) refl) refl (ap (starts_with (ascii "/>")) d ∙ starts-no 47 120 _ (drop (suc i) doc) refl) g
 
-  passed-one : {name n value len next : ℕ} → p ≡ Ok (Part name n value len next) → is_xmlns (piece doc name n) ≡ true → Unchanged doc at next
-  passed-one {name} {n} {value} {len} {next} f x =
+  passed-one : {a : RawAttribute} → p ≡ Ok (Part a) → is_xmlns (raw_name doc a) ≡ true → Unchanged doc at a.next
+  passed-one {a} f x =
       let q = sym part ∙ f in
       let z = rw q at (part-inside doc at 0) in
       record {
         forward = omega (arith, z);
         within = λ l. z.3;
-        same = λ place. sym (tag-part doc at place (any_part doc at 0 place q) ∙ dropped doc name n value len (tag_at doc next place) x);
+        same = λ place. sym (tag-part doc at place (any_part doc at 0 place q) ∙ dropped doc a (tag_at doc a.next place) x);
       }
 
 -- ---- where an attribute ends, and what its name is
 
 -- p is a value's, or a refusal
-abbrev NamedBy : ℕ → ℕ → Result TagPart Refusal → Type 0
-NamedBy name n (Ok (Part m k value len next)) = (m ≡ name) × (k ≡ n)
-NamedBy name n (Ok (TagEnd ending)) = Unit {0}
-NamedBy name n (Err refusal) = Unit {0}
+abbrev NamedBy : Range → Result TagPart Refusal → Type 0
+NamedBy name (Ok (Part a)) = a.name ≡ name
+NamedBy name (Ok (TagEnd ending)) = Unit {0}
+NamedBy name (Err refusal) = Unit {0}
 
-module _ (doc : List ℕ) (name n place : ℕ) where
-  quoted-by : (quote from : ℕ) → NamedBy name n (quoted_at quote doc name n from place)
+module _ (doc : List ℕ) (name : Range) (place : ℕ) where
+  quoted-by : (quote from : ℕ) → NamedBy name (quoted_at quote doc name from place)
   unfolding quoted_at
-  quoted-by quote from = pick-by (NamedBy name n) (ltb (scan (until (is quote)) doc from) (length doc)) (λ t. (refl, refl)) (λ f. tt)
+  quoted-by quote from = pick-by (NamedBy name) (ltb (scan (until (is quote)) doc from) (length doc)) (λ t. refl) (λ f. tt)
 
-  value-by : (from : ℕ) → NamedBy name n (value_at doc name n from place)
+  value-by : (from : ℕ) → NamedBy name (value_at doc name from place)
   unfolding value_at
   value-by from =
-      pick-by (NamedBy name n) (stands "\"" doc from) (λ t. quoted-by 34 (from + 1))
-      (λ f. pick-by (NamedBy name n) (stands "'" doc from) (λ t. quoted-by 39 (from + 1)) (λ g. tt))
+      pick-by (NamedBy name) (stands "\"" doc from) (λ t. quoted-by 34 (from + 1))
+      (λ f. pick-by (NamedBy name) (stands "'" doc from) (λ t. quoted-by 39 (from + 1)) (λ g. tt))
 
 -- its value is due at `from`
 module _ (doc : List ℕ) (at from : ℕ) where
   module _ (quote : ℕ) {end : ℕ} (e : end ≡ scan (until (is quote)) doc from) where
-    pub quoted-next : end < length doc → (name n : ℕ) → end + 1 ≡ next_of (quoted_at quote doc name n from 0) at
+    pub quoted-next : end < length doc → (name : Range) → end + 1 ≡ next_of (quoted_at quote doc name from 0) at
     unfolding quoted_at
-    quoted-next h name n = rw (← e, lt-ltb end (length doc) h)
+    quoted-next h name = rw (← e, lt-ltb end (length doc) h)
 
-    pub quoted-none : length doc ≤ end → (name n : ℕ) → at ≡ next_of (quoted_at quote doc name n from 0) at
+    pub quoted-none : length doc ≤ end → (name : Range) → at ≡ next_of (quoted_at quote doc name from 0) at
     unfolding quoted_at
-    quoted-none h name n = rw (← e, le-ltb end (length doc) h)
+    quoted-none h name = rw (← e, le-ltb end (length doc) h)
 
   -- an empty one, and one of a single byte
   module _ (quote : ℕ) (h : from + 1 < length doc) where
-    pub quoted-first : get_or doc from 0 ≡ quote → (name n : ℕ) → from + 1 ≡ next_of (quoted_at quote doc name n from 0) at
+    pub quoted-first : get_or doc from 0 ≡ quote → (name : Range) → from + 1 ≡ next_of (quoted_at quote doc name from 0) at
     quoted-first e = quoted-next quote (byte-stop scan-start (omega arith) e) (omega arith)
 
-    pub quoted-second : (get_or doc from 0 ≡ quote → ⊥) → get_or doc (from + 1) 0 ≡ quote → (name n : ℕ) → from + 2 ≡ next_of (quoted_at quote doc name n from 0) at
-    quoted-second n e name k =
+    pub quoted-second : (get_or doc from 0 ≡ quote → ⊥) → get_or doc (from + 1) 0 ≡ quote → (name : Range) → from + 2 ≡ next_of (quoted_at quote doc name from 0) at
+    quoted-second n e name =
         let d : from + 2 ≡ from + 1 + 1 = omega arith in
-        d ∙ quoted-next quote (byte-stop (byte-on scan-start (omega arith) n) h e) h name k
+        d ∙ quoted-next quote (byte-stop (byte-on scan-start (omega arith) n) h e) h name
 
   module _ {b : Bool} (e : b ≡ starts_with (ascii "\"") (drop from doc)) where
-    pub double-next : b ≡ true → {r : ℕ} → ((name n : ℕ) → r ≡ next_of (quoted_at 34 doc name n (from + 1) 0) at) → (name n : ℕ) → r ≡ next_of (value_at doc name n from 0) at
+    pub double-next : b ≡ true → {r : ℕ} → ((name : Range) → r ≡ next_of (quoted_at 34 doc name (from + 1) 0) at) → (name : Range) → r ≡ next_of (value_at doc name from 0) at
     unfolding value_at
-    double-next t q name n = rw (← e, t) (q name n)
+    double-next t q name = rw (← e, t) (q name)
 
     module _ (f : b ≡ false) {c : Bool} (g : c ≡ starts_with (ascii "'") (drop from doc)) where
-      pub single-next : c ≡ true → {r : ℕ} → ((name n : ℕ) → r ≡ next_of (quoted_at 39 doc name n (from + 1) 0) at) → (name n : ℕ) → r ≡ next_of (value_at doc name n from 0) at
+      pub single-next : c ≡ true → {r : ℕ} → ((name : Range) → r ≡ next_of (quoted_at 39 doc name (from + 1) 0) at) → (name : Range) → r ≡ next_of (value_at doc name from 0) at
       unfolding value_at
-      single-next t q name n = rw (← e, f, ← g, t) (q name n)
+      single-next t q name = rw (← e, f, ← g, t) (q name)
 
-      pub value-none : c ≡ false → (name n : ℕ) → at ≡ next_of (value_at doc name n from 0) at
+      pub value-none : c ≡ false → (name : Range) → at ≡ next_of (value_at doc name from 0) at
       unfolding value_at
-      value-none t name n = rw (← e, f, ← g, t)
+      value-none t name = rw (← e, f, ← g, t)
 
 -- the whole of it
 module _ (doc : List ℕ) (at : ℕ) {i : ℕ} (e : i ≡ scan is_space doc at) (h : i < length doc) (b : get_or doc i 0 ≡ 120) {end : ℕ} (f : end ≡ scan (until is_attribute_name_end) doc i) (m : end ≡ i → ⊥) {x : Bool} (y : x ≡ is_xmlns (piece doc i (end - i))) (t : x ≡ true) {equals : ℕ} (q : equals ≡ scan is_space doc end) {s : Bool} (u : s ≡ starts_with (ascii "=") (drop equals doc)) (v : s ≡ true) {value : ℕ} (w : value ≡ scan is_space doc (equals + 1)) where
-  pub passed-whole : {r : ℕ} → ((name n : ℕ) → r ≡ next_of (value_at doc name n value 0) at) → Unchanged doc at r
+  pub passed-whole : {r : ℕ} → ((name : Range) → r ≡ next_of (value_at doc name value 0) at) → Unchanged doc at r
   passed-whole {r} g =
-      let p = value_at doc i (end - i) value 0 in
+      let name : Range = record { from = i; len = end - i } in
+      let p = value_at doc name value 0 in
       let a : p ≡ attribute_part_at doc i 0 = attribute-valued doc i 0 f m q u v w refl in
       by_part p
-      (λ name n val len next o.
-      let z = rw o at (value-by doc i (end - i) 0 value) in
-      let k : r ≡ next = g i (end - i) ∙ ap (λ c. next_of c at) o in
-      rw k (passed-one doc at e h b a o (rw (z.0, z.1) (sym y ∙ t))))
-      (λ ending o. rw (g i (end - i) ∙ ap (λ c. next_of c at) o) passed_none)
-      (λ refusal o. rw (g i (end - i) ∙ ap (λ c. next_of c at) o) passed_none)
+      (λ part o.
+      let z : part.name ≡ name = rw o at (value-by doc name 0 value) in
+      let k : r ≡ part.next = g name ∙ ap (λ c. next_of c at) o in
+      rw k (passed-one doc at e h b a o (rw z (sym y ∙ t))))
+      (λ ending o. rw (g name ∙ ap (λ c. next_of c at) o) passed_none)
+      (λ refusal o. rw (g name ∙ ap (λ c. next_of c at) o) passed_none)
 
 -- ---- the loop over a tag goes on behind them
 

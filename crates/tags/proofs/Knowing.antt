@@ -5,6 +5,7 @@ use lib.Seq.{take-append_seam, drop-append_seam}
 use borrow.Author.Tests.{eqb-false}
 use Rattle.texts.specs.Choice.{◌and◌, ◌or◌}
 use Rattle.texts.specs.Lists.{all}
+use Rattle.texts.specs.declared.Range.{Range}
 use Rattle.texts.specs.Text.{ascii, piece, same, starts_with}
 use Rattle.texts.specs.Scan.{count_while, scan, until, is}
 use Rattle.texts.proofs.Choosing.{by-test, pick-by, and_left, and_right}
@@ -15,18 +16,18 @@ use Rattle.tags.specs.declared.known.Known.{Known}
 use Rattle.tags.specs.declared.part.TagPart.{TagPart}
 use Rattle.tags.specs.Names.{is_xmlns}
 use Rattle.tags.specs.Attributes.{quoted_at, tag_part_at}
-use Rattle.tags.specs.internal.Known.{known_name, IsKnown, up_to, Named, QuickAt}
+use Rattle.tags.specs.internal.Known.{known_name, IsKnown, holds_to, Named, QuickAt}
 use Rattle.tags.proofs.Searching.{stands-within}
 use Rattle.tags.proofs.Parting.{value-double, attribute-valued, part-attribute}
 
 -- ---- a test of 1 to n
 
-pub up-each : (n : ℕ) (p : ℕ → Bool) → T (up_to n p) → (k : ℕ) → 0 < k → k ≤ n → T (p k)
+pub up-each : (n : ℕ) (p : ℕ → Bool) → T (holds_to n p) → (k : ℕ) → 0 < k → k ≤ n → T (p k)
 up-each zero p t k h l = absurd (omega arith)
 up-each (suc n) p t k h l =
     by-test (eqb k (suc n))
-    (λ e. rw (eqb-true k (suc n) e) (and_left (p (suc n)) (up_to n p) t))
-    (λ f. up-each n p (and_right (p (suc n)) (up_to n p) t) k h (let n : k ≡ suc n → ⊥ = eqb-false k (suc n) f in omega arith))
+    (λ e. rw (eqb-true k (suc n) e) (and_left (p (suc n)) (holds_to n p) t))
+    (λ f. up-each n p (and_right (p (suc n)) (holds_to n p) t) k h (let n : k ≡ suc n → ⊥ = eqb-false k (suc n) f in omega arith))
 
 -- ---- what stands at the front of a text
 
@@ -100,7 +101,7 @@ module _ (doc : List ℕ) (at place : ℕ) {i : ℕ} (e : i ≡ scan is_space do
   ends = ap (λ k. i + k) (sym (ap (count_while (until is_attribute_name_end)) split ∙ goes-count n (34 ∷ rest) (goes-all n t)))
 
   -- r is what is read from the value's first byte on
-  pub plain-part : {r : Result TagPart Refusal} → r ≡ quoted_at 34 doc i (length n) (i + length n + 2) place → r ≡ tag_part_at doc at place
+  pub plain-part : {r : Result TagPart Refusal} → r ≡ quoted_at 34 doc (record { from = i; len = length n }) (i + length n + 2) place → r ≡ tag_part_at doc at place
   unfolding is_space starts_with
   plain-part {r} p =
       let k = i + length n in
@@ -112,7 +113,7 @@ module _ (doc : List ℕ) (at place : ℕ) {i : ℕ} (e : i ≡ scan is_space do
       let d : i + length n + 2 ≡ k + 1 + 1 = omega arith in
       part-attribute doc at place e (omega (arith, within)) refl (ap (starts_with (ascii ">")) split ∙ f.0) refl (ap (starts_with (ascii "/>")) split ∙ f.1)
       (attribute-valued doc i place ends (λ z. plain-empty n t (omega arith)) q refl (rw behind refl) v
-      (value-double doc i (k - i) (k + 1) place refl (rw b refl) (rw (l, ← d) p)))
+      (value-double doc (record { from = i; len = k - i }) (k + 1) place refl (rw b refl) (rw (l, ← d) p)))
     where
       plain-empty : (n : List ℕ) → T (plain_name n) → length n ≡ 0 → ⊥
       plain-empty [] t z = t
@@ -123,21 +124,21 @@ module _ (doc : List ℕ) (at place : ℕ) {i : ℕ} (e : i ≡ scan is_space do
 
 -- ---- the same for a known attribute
 
-quoted-named : (doc : List ℕ) (i code value place : ℕ) (n : ℕ) → 0 < code → code < 18 → piece doc i n ≡ known_name code → Named doc code (quoted_at 34 doc i n value place)
+quoted-named : (doc : List ℕ) (code : ℕ) (name : Range) (value place : ℕ) → 0 < code → code < 18 → piece doc name.from name.len ≡ known_name code → Named doc code (quoted_at 34 doc name value place)
 unfolding quoted_at
-quoted-named doc i code value place n g h e = pick-by (Named doc code) (ltb (scan (until (is 34)) doc value) (length doc)) (λ t. (g, h, e)) (λ f. tt)
+quoted-named doc code name value place g h e = pick-by (Named doc code) (ltb (scan (until (is 34)) doc value) (length doc)) (λ t. (g, h, e)) (λ f. tt)
 
 module _ (doc : List ℕ) (at place : ℕ) {i : ℕ} (e : i ≡ scan is_space doc at) {k : Known} (known : IsKnown doc i k) where
   known_in : i + length (known_name k.code) + 2 ≤ length doc
   known_in = within doc at place e (known_name k.code) (known-plain k.code known.above known.below) known.stands
 
-  quick-known : {r : Result TagPart Refusal} → r ≡ quoted_at 34 doc i (length (known_name k.code)) (i + length (known_name k.code) + 2) place → QuickAt doc at place (record { code = Some k.code; part = r })
+  quick-known : {r : Result TagPart Refusal} → r ≡ quoted_at 34 doc (record { from = i; len = length (known_name k.code) }) (i + length (known_name k.code) + 2) place → QuickAt doc at place (record { code = Some k.code; part = r })
   quick-known {r} p =
       let n = known_name k.code in
       let t = known-plain k.code known.above known.below in
       record {
         is = plain-part doc at place e n t known.stands p;
-        named = λ c q. let z : k.code ≡ c = cc in rw (p, ← z) (quoted-named doc i k.code (i + length n + 2) place (length n) known.above known.below (plain-name doc at place e n t known.stands));
+        named = λ c q. let z : k.code ≡ c = cc in rw (p, ← z) (quoted-named doc k.code (record { from = i; len = length n }) (i + length n + 2) place known.above known.below (plain-name doc at place e n t known.stands));
       }
 
 -- any other part
@@ -166,7 +167,7 @@ module _ (doc : List ℕ) (at place : ℕ) {b : Bool} (e : b ≡ starts_with (as
   pub spaced-fits : length doc < 2 ^ 64 → Fits w64 (at + k.skip)
   spaced-fits l = omega (arith, known.ahead, known_in doc at place spaced known)
 
-  pub spaced-quick : {r : Result TagPart Refusal} → r ≡ quoted_at 34 doc (at + 1) (k.skip - 3) (at + k.skip) place → QuickAt doc at place (record { code = Some k.code; part = r })
+  pub spaced-quick : {r : Result TagPart Refusal} → r ≡ quoted_at 34 doc (record { from = at + 1; len = k.skip - 3 }) (at + k.skip) place → QuickAt doc at place (record { code = Some k.code; part = r })
   spaced-quick p =
       let n = length (known_name k.code) in
       let l : k.skip - 3 ≡ n = omega (arith, known.ahead) in

@@ -8,7 +8,7 @@ mod Looking
 mod Stopping
 pub mod Ranges
 mod Knowing
-mod Telling
+mod Matching
 pub mod Coding
 mod Declaring
 mod Dropping

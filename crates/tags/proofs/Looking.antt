@@ -6,13 +6,14 @@ use Rattle.texts.specs.Choice.{pick}
 use Rattle.texts.specs.Text.{piece, same}
 use Rattle.texts.proofs.Choosing.{by-test, pick_yes, pick_no}
 use Rattle.refusals.specs.declared.Refusal.{Refusal}
+use Rattle.tags.specs.declared.part.RawAttribute.{RawAttribute}
 use Rattle.tags.specs.declared.part.TagPart.{TagPart}
 use Rattle.tags.specs.declared.part.TagPart.TheVariants.{Attribute as Part, TagEnd}
 use Rattle.elements.specs.Keys.{Keys}
 use Rattle.tags.specs.declared.noting.Notes.{Notes}
 use Rattle.tags.specs.Names.{prefix_length, is_xmlns}
-use Rattle.tags.specs.Attributes.{tag_part_at, Tag, with_part, tag_at, later, last_of, attribute_at}
-use Rattle.tags.specs.internal.Noting.{found_at, with_value, value_if_named, Adds, NotedMore}
+use Rattle.tags.specs.Attributes.{raw_name, tag_part_at, Tag, with_part, tag_at, later, last_of, attribute_at}
+use Rattle.tags.specs.internal.Noting.{found_at, with_value, value_if_named, FoundMore, NotedMore}
 use Rattle.tags.proofs.Naming.{local-of}
 use Rattle.tags.proofs.Tagging.{tag-part, tag-end, tag-bad}
 use Rattle.tags.proofs.Placeless.{any_part, any-end, any-bad}
@@ -26,18 +27,18 @@ later-assoc (Some f) g h = refl
 later-assoc None g h = refl
 
 -- the look-up in a tag with one more attribute at its front
-last-with : (doc : List ℕ) (raw n value len : ℕ) (rest : Tag) (name : List ℕ) (found : Option Range) → later (last_of name (with_part doc raw n value len rest).attributes) found ≡ later (last_of name rest.attributes) (later (value_if_named (piece doc raw n) value len name) found)
+last-with : (doc : List ℕ) (a : RawAttribute) (rest : Tag) (name : List ℕ) (found : Option Range) → later (last_of name (with_part doc a rest).attributes) found ≡ later (last_of name rest.attributes) (later (value_if_named (raw_name doc a) a.value name) found)
 unfolding with_part last_of
-last-with doc raw n value len rest name found =
-    by-test (is_xmlns (piece doc raw n))
+last-with doc a rest name found =
+    by-test (is_xmlns (raw_name doc a))
     (λ t. simp (pick_yes, t))
     (λ f. simp (pick_no, f, later-assoc))
 
 -- ---- notes
 
-pub found-value : (value len : ℕ) → found_at (value + 1) len ≡ Some (record { from = value; len = len })
+pub found-value : (value : Range) → found_at (value.from + 1) value.len ≡ Some value
 unfolding found_at
-found-value value len = rw add-one
+found-value value = rw add-one
 
 module _ (at len : ℕ) where
   pub found_none : at ≡ 0 → None ≡ found_at at len
@@ -47,7 +48,7 @@ module _ (at len : ℕ) where
   pub found_some : (at ≡ 0 → ⊥) → Some (record { from = at - 1; len = len }) ≡ found_at at len
   found_some h =
       let e : at - 1 + 1 ≡ at = omega arith in
-      sym (found-value (at - 1) len) ∙ ap (λ k. found_at k len) e
+      sym (found-value (record { from = at - 1; len = len })) ∙ ap (λ k. found_at k len) e
 
 pub named-yes : (named : Bool) (this earlier : ℕ) → named ≡ true → this ≡ pick named this earlier
 named-yes named this earlier t = rw t
@@ -55,29 +56,29 @@ named-yes named this earlier t = rw t
 pub named-no : (named : Bool) (this earlier : ℕ) → named ≡ false → earlier ≡ pick named this earlier
 named-no named this earlier f = rw f
 
-module _ (doc : List ℕ) (raw n value len : ℕ) (key : List ℕ) (was long : ℕ) where
+module _ (raw : List ℕ) (value : Range) (key : List ℕ) (was long : ℕ) where
   -- b is whether the raw name declares a namespace
-  pub named-xmlns : {b : Bool} → b ≡ is_xmlns (piece doc raw n) → b ≡ true → Adds (piece doc raw n) value len key (found_at was long) (found_at was long)
+  pub named-xmlns : {b : Bool} → b ≡ is_xmlns raw → b ≡ true → FoundMore raw value key (found_at was long) (found_at was long)
   named-xmlns x t = rw (← x, t)
 
-  -- it does not; w is the raw name, v the local name, and m whether that is the key
-  named-local : is_xmlns (piece doc raw n) ≡ false → {w : List ℕ} → w ≡ piece doc raw n → {prefix : ℕ} → prefix ≡ prefix_length w → {v : List ℕ} → v ≡ piece w prefix n → {m : Bool} → m ≡ same v key → Adds (piece doc raw n) value len key (found_at was long) (found_at (pick m (value + 1) was) (pick m len long))
-  named-local f e l p {m} s =
-      let z = p ∙ local-of doc raw n e l in
-      rw (f, ← z, ← s) (by-test m (λ t. rw t (found-value value len)) (λ t. rw t refl))
+-- it does not; w is the raw name, v the local name
+module _ (doc : List ℕ) (name : Range) (value : Range) (k : Keys) (was : Notes) (f : is_xmlns (piece doc name.from name.len) ≡ false) {w : List ℕ} (e : w ≡ piece doc name.from name.len) {prefix : ℕ} (l : prefix ≡ prefix_length w) {v : List ℕ} (p : v ≡ piece w prefix name.len) where
+  -- m is whether that is the key
+  named-local : (key : List ℕ) (was long : ℕ) {m : Bool} → m ≡ same v key → FoundMore (piece doc name.from name.len) value key (found_at was long) (found_at (pick m (value.from + 1) was) (pick m value.len long))
+  named-local key was long {m} s =
+      let z = p ∙ local-of doc name.from name.len e l in
+      rw (f, ← z, ← s) (by-test m (λ t. rw t (found-value value)) (λ t. rw t refl))
 
--- by the four comparisons of the local name
-pub named-with : (doc : List ℕ) (raw n value len : ℕ) (k : Keys) (was : Notes) → is_xmlns (piece doc raw n) ≡ false → {w : List ℕ} → w ≡ piece doc raw n → {prefix : ℕ} → prefix ≡ prefix_length w → {v : List ℕ} → v ≡ piece w prefix n
-    → {a b c d : Bool} → a ≡ same v k.number → b ≡ same v k.name → c ≡ same v k.second → d ≡ same v k.encoding
-    → {r : Notes} → r ≡ with_value (record { number = a; name = b; second = c; encoding = d }) (record { from = value; len = len }) was → NotedMore (piece doc raw n) value len k was r
-named-with doc raw n value len k was f e l p a b c d q =
-    rw q
-    (record {
-      number = named-local doc raw n value len k.number was.number was.number_len f e l p a;
-      name = named-local doc raw n value len k.name was.name was.name_len f e l p b;
-      second = named-local doc raw n value len k.second was.second was.second_len f e l p c;
-      encoding = named-local doc raw n value len k.encoding was.encoding was.encoding_len f e l p d;
-    })
+  pub named-with : {a b c d : Bool} → a ≡ same v k.number → b ≡ same v k.name → c ≡ same v k.second → d ≡ same v k.encoding
+      → {r : Notes} → r ≡ with_value (record { number = a; name = b; second = c; encoding = d }) value was → NotedMore (piece doc name.from name.len) value k was r
+  named-with a b c d q =
+      rw q
+      (record {
+        number = named-local k.number was.number was.number_len a;
+        name = named-local k.name was.name was.name_len b;
+        second = named-local k.second was.second was.second_len c;
+        encoding = named-local k.encoding was.encoding was.encoding_len d;
+      })
 
 -- ---- a loop that looks a name up, from `at` on, is at i, with `found` so far; p is the part at i
 
@@ -90,9 +91,9 @@ looking-start {doc} {at} {name} = record { rest = later-absent (last_of name (ta
 
 module _ {doc : List ℕ} {at : ℕ} {name : List ℕ} {i : ℕ} {found : Option Range} (inv : Looking doc at name i found) (place : ℕ) {p : Result TagPart Refusal} (e : p ≡ tag_part_at doc i place) where
   -- g is the later of the attribute there, where it has that name, and what was found
-  pub looking-on : {raw n value len next : ℕ} → p ≡ Ok (Part raw n value len next) → {g : Option Range} → Adds (piece doc raw n) value len name found g → Looking doc at name next g
-  looking-on {raw} {n} {value} {len} {next} f m =
-      record { rest = ap (later (last_of name (tag_at doc next 0).attributes)) m ∙ sym (last-with doc raw n value len (tag_at doc next 0) name found) ∙ (rw (tag-part doc i 0 (any_part doc i place 0 (sym e ∙ f))) at inv.rest) }
+  pub looking-on : {a : RawAttribute} → p ≡ Ok (Part a) → {g : Option Range} → FoundMore (raw_name doc a) a.value name found g → Looking doc at name a.next g
+  looking-on {a} f m =
+      record { rest = ap (later (last_of name (tag_at doc a.next 0).attributes)) m ∙ sym (last-with doc a (tag_at doc a.next 0) name found) ∙ (rw (tag-part doc i 0 (any_part doc i place 0 (sym e ∙ f))) at inv.rest) }
 
   pub looking-end : {ending : Ending} → p ≡ Ok (TagEnd ending) → found ≡ attribute_at doc at name
   unfolding last_of

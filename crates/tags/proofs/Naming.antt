@@ -37,23 +37,23 @@ prefix-within name =
     (λ t. rw (pick_yes (ltb colon (length name)) (colon + 1) 0 t) (omega (arith, ltb-true colon (length name) t)))
     (λ f. rw (pick_no (ltb colon (length name)) (colon + 1) 0 f) (omega arith))
 
--- w is n bytes of the document from a on, and lost what it loses
-module _ (doc : List ℕ) (a n : ℕ) {w : List ℕ} (e : w ≡ piece doc a n) {lost : ℕ} (p : lost ≡ prefix_length w) where
-  pub lost-within : lost ≤ n
-  lost-within =
-      let l : lost ≤ length w = rw p (prefix-within w) in
+-- w is n bytes of the document from a on, and prefix what it loses
+module _ (doc : List ℕ) (a n : ℕ) {w : List ℕ} (e : w ≡ piece doc a n) {prefix : ℕ} (p : prefix ≡ prefix_length w) where
+  pub local-within : prefix ≤ n
+  local-within =
+      let l : prefix ≤ length w = rw p (prefix-within w) in
       omega (arith, ap length e, length-take n (drop a doc))
 
-  pub lost-fits : a ≤ length doc → length doc < 2 ^ 64 → Fits w64 (a + lost)
-  lost-fits h k =
-      let l : lost ≤ length w = rw p (prefix-within w) in
+  pub local-fits : a ≤ length doc → length doc < 2 ^ 64 → Fits w64 (a + prefix)
+  local-fits h k =
+      let l : prefix ≤ length w = rw p (prefix-within w) in
       omega (arith, ap length e, length-take n (drop a doc), length-drop a doc)
 
   -- the local name, as a piece of w and of the document
-  pub local-of : piece w lost n ≡ local_name (piece doc a n)
+  pub local-of : piece w prefix n ≡ local_name (piece doc a n)
   local-of =
-      let l : length (drop lost w) ≤ n = omega (arith, length-drop lost w, ap length e, length-take n (drop a doc)) in
-      rw (take_all n (drop lost w) l, p, e)
+      let l : length (drop prefix w) ≤ n = omega (arith, length-drop prefix w, ap length e, length-take n (drop a doc)) in
+      rw (take_all n (drop prefix w) l, p, e)
 
 -- the local name of a range is the range that is left
 pub local-range : (doc : List ℕ) (a n : ℕ) → piece doc (a + prefix_length (piece doc a n)) (n - prefix_length (piece doc a n)) ≡ local_name (piece doc a n)

@@ -1,10 +1,12 @@
 -- Laws: a tag's parts and attributes do not depend on its place, which only refusals hold.
 use Rattle.std.proofs.Common.{Result, Ok, Err, ◌≡◌, refl, List, ℕ, zero, suc, ◌+◌, eqb, ltb, leb, length}
+use Rattle.texts.specs.declared.Range.{Range}
 use Rattle.texts.specs.Scan.{scan, until, is}
 use Rattle.texts.proofs.Choosing.{pick-both}
 use Rattle.classes.specs.Class.{is_space, is_attribute_name_end}
 use Rattle.refusals.specs.declared.Refusal.{Refusal}
 use Rattle.tags.specs.declared.part.Ending.{Ending}
+use Rattle.tags.specs.declared.part.RawAttribute.{RawAttribute}
 use Rattle.tags.specs.declared.part.TagPart.{TagPart}
 use Rattle.tags.specs.declared.part.TagPart.TheVariants.{Attribute as Part, TagEnd}
 use Rattle.tags.specs.Find.{stands}
@@ -17,20 +19,20 @@ pub record IsBad (p : Result TagPart Refusal) : Type 0 where
   pub bad : p ≡ Err why
 
 abbrev Alike : Result TagPart Refusal → Result TagPart Refusal → Type 0
-Alike (Ok (Part name n value len next)) q = q ≡ Ok (Part name n value len next)
+Alike (Ok (Part a)) q = q ≡ Ok (Part a)
 Alike (Ok (TagEnd ending)) q = q ≡ Ok (TagEnd ending)
 Alike (Err refusal) q = IsBad q
 
 module _ (doc : List ℕ) (p q : ℕ) where
-  quoted-alike : (quote name n at : ℕ) → Alike (quoted_at quote doc name n at p) (quoted_at quote doc name n at q)
+  quoted-alike : (quote : ℕ) (name : Range) (at : ℕ) → Alike (quoted_at quote doc name at p) (quoted_at quote doc name at q)
   unfolding quoted_at
-  quoted-alike quote name n at = pick-both Alike (ltb (scan (until (is quote)) doc at) (length doc)) refl (record { why = _; bad = refl })
+  quoted-alike quote name at = pick-both Alike (ltb (scan (until (is quote)) doc at) (length doc)) refl (record { why = _; bad = refl })
 
-  value-alike : (name n at : ℕ) → Alike (value_at doc name n at p) (value_at doc name n at q)
+  value-alike : (name : Range) (at : ℕ) → Alike (value_at doc name at p) (value_at doc name at q)
   unfolding value_at
-  value-alike name n at =
-      pick-both Alike (stands "\"" doc at) (quoted-alike 34 name n (at + 1))
-      (pick-both Alike (stands "'" doc at) (quoted-alike 39 name n (at + 1))
+  value-alike name at =
+      pick-both Alike (stands "\"" doc at) (quoted-alike 34 name (at + 1))
+      (pick-both Alike (stands "'" doc at) (quoted-alike 39 name (at + 1))
       (record { why = _; bad = refl }))
 
   attribute-alike : (at : ℕ) → Alike (attribute_part_at doc at p) (attribute_part_at doc at q)
@@ -39,7 +41,7 @@ module _ (doc : List ℕ) (p q : ℕ) where
       let end = scan (until is_attribute_name_end) doc at in
       let equals = scan is_space doc end in
       pick-both Alike (eqb end at) (record { why = _; bad = refl })
-      (pick-both Alike (stands "=" doc equals) (value-alike at _ (scan is_space doc (equals + 1)))
+      (pick-both Alike (stands "=" doc equals) (value-alike _ (scan is_space doc (equals + 1)))
       (record { why = _; bad = refl }))
 
   part-alike : (at : ℕ) → Alike (tag_part_at doc at p) (tag_part_at doc at q)
@@ -52,7 +54,7 @@ module _ (doc : List ℕ) (p q : ℕ) where
       (attribute-alike i)))
 
 module _ (doc : List ℕ) (at p q : ℕ) where
-  pub any_part : {name n value len next : ℕ} → tag_part_at doc at p ≡ Ok (Part name n value len next) → tag_part_at doc at q ≡ Ok (Part name n value len next)
+  pub any_part : {a : RawAttribute} → tag_part_at doc at p ≡ Ok (Part a) → tag_part_at doc at q ≡ Ok (Part a)
   any_part e = rw e at (part-alike doc p q at)
 
   pub any-end : {ending : Ending} → tag_part_at doc at p ≡ Ok (TagEnd ending) → tag_part_at doc at q ≡ Ok (TagEnd ending)
@@ -61,9 +63,9 @@ module _ (doc : List ℕ) (at p q : ℕ) where
   pub any-bad : {refusal : Refusal} → tag_part_at doc at p ≡ Err refusal → IsBad (tag_part_at doc at q)
   any-bad e = rw e at (part-alike doc p q at)
 
-with-alike : (doc : List ℕ) (name n value len : ℕ) (s t : Tag) → s.attributes ≡ t.attributes → (with_part doc name n value len s).attributes ≡ (with_part doc name n value len t).attributes
+with-alike : (doc : List ℕ) (a : RawAttribute) (s t : Tag) → s.attributes ≡ t.attributes → (with_part doc a s).attributes ≡ (with_part doc a t).attributes
 unfolding with_part
-with-alike doc name n value len s t e = rw e
+with-alike doc a s t e = rw e
 
 -- the attributes of a tag, whatever the place
 pub attributes-alike : (k : ℕ) (doc : List ℕ) (p q at : ℕ) → (tag_within no_tag k doc at p).attributes ≡ (tag_within no_tag k doc at q).attributes
@@ -71,7 +73,7 @@ unfolding tag_within
 attributes-alike zero doc p q at = refl
 attributes-alike (suc k) doc p q at =
     by_part (tag_part_at doc at p)
-    (λ name n value len next e.
-    rw (within-part no_tag k doc at p e, within-part no_tag k doc at q (any_part doc at p q e)) (with-alike doc name n value len (tag_within no_tag k doc next p) (tag_within no_tag k doc next q) (attributes-alike k doc p q next)))
+    (λ a e.
+    rw (within-part no_tag k doc at p e, within-part no_tag k doc at q (any_part doc at p q e)) (with-alike doc a (tag_within no_tag k doc a.next p) (tag_within no_tag k doc a.next q) (attributes-alike k doc p q a.next)))
     (λ ending e. rw (within_end no_tag k doc at p e, within_end no_tag k doc at q (any-end doc at p q e)))
     (λ refusal e. rw (within-bad no_tag k doc at p e, within-bad no_tag k doc at q (any-bad doc at p q e).bad))

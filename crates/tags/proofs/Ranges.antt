@@ -4,11 +4,12 @@ use Rattle.refusals.specs.declared.Refusal.{Refusal}
 use Rattle.texts.specs.declared.Range.{Range}
 use Rattle.std.proofs.Common.{Result, Option, Some, None, Ok, Err, ◌≡◌, refl, sym, ◌∙◌, Bool, true, false, not, List, [], ◌∷◌, ℕ, zero, suc, ◌+◌, ◌≤◌, ◌<◌, arith, T, length}
 use Rattle.texts.specs.Choice.{pick, ◌and◌}
-use Rattle.texts.specs.Text.{piece, same}
+use Rattle.texts.specs.Text.{same}
 use Rattle.texts.proofs.Choosing.{by-test, pick_no, pick-by, and_left, and_right}
 use Rattle.texts.proofs.Comparing.{same-equal}
 use Rattle.tags.specs.Names.{is_xmlns}
-use Rattle.tags.specs.Attributes.{tag_part_at, Attribute, Tag, with_part, no_tag, tag_within, tag_at, later, last_of, attribute_at, raw_length, raw_lengths}
+use Rattle.tags.specs.declared.part.RawAttribute.{RawAttribute}
+use Rattle.tags.specs.Attributes.{raw_name, tag_part_at, Attribute, Tag, with_part, no_tag, tag_within, tag_at, later, last_of, attribute_at, raw_length, raw_lengths}
 use Rattle.tags.proofs.Looking.{later-absent}
 use Rattle.tags.proofs.Placeless.{attributes-alike}
 use Rattle.tags.proofs.Tagging.{by_part, part-inside, within-part, within_end, within-bad}
@@ -17,18 +18,18 @@ use Rattle.tags.proofs.Tagging.{by_part, part-inside, within-part, within_end, w
 
 abbrev pub Laid : ℕ → ℕ → List Attribute → Type 0
 Laid at next [] = at ≤ next
-Laid at next (a ∷ more) = (at ≤ a.from) × Laid (a.from + a.len) next more
+Laid at next (a ∷ more) = (at ≤ a.value.from) × Laid (a.value.from + a.value.len) next more
 
 laid_from : (at next i : ℕ) (l : List Attribute) → i ≤ at → Laid at next l → Laid i next l
 laid_from at next i [] h s = omega arith
 laid_from at next i (a ∷ more) h s = (omega (arith, s.0), s.1)
 
-laid-with : (doc : List ℕ) (at name n value len to next : ℕ) (rest : Tag) → at ≤ value → value + len ≤ to → Laid to next rest.attributes → Laid at next (with_part doc name n value len rest).attributes
+laid-with : (doc : List ℕ) (at : ℕ) (a : RawAttribute) (to next : ℕ) (rest : Tag) → at ≤ a.value.from → a.value.from + a.value.len ≤ to → Laid to next rest.attributes → Laid at next (with_part doc a rest).attributes
 unfolding with_part
-laid-with doc at name n value len to next rest h k s =
-    pick-by (Laid at next) (is_xmlns (piece doc name n))
+laid-with doc at a to next rest h k s =
+    pick-by (Laid at next) (is_xmlns (raw_name doc a))
     (λ t. laid_from to next at rest.attributes (omega arith) s)
-    (λ f. (h, laid_from to next (value + len) rest.attributes k s))
+    (λ f. (h, laid_from to next (a.value.from + a.value.len) rest.attributes k s))
 
 -- the end of a tag is past its attributes, and they lie before it
 record Ended (doc : List ℕ) (at next : ℕ) (l : List Attribute) : Type 0 where
@@ -36,20 +37,20 @@ record Ended (doc : List ℕ) (at next : ℕ) (l : List Attribute) : Type 0 wher
   pub inside : next ≤ length doc
   pub laid : Laid at next l
 
-with-ending : (doc : List ℕ) (name n value len : ℕ) (t : Tag) → (with_part doc name n value len t).ending ≡ t.ending
+with-ending : (doc : List ℕ) (a : RawAttribute) (t : Tag) → (with_part doc a t).ending ≡ t.ending
 unfolding with_part
-with-ending doc name n value len t = refl
+with-ending doc a t = refl
 
 ended : (k : ℕ) (doc : List ℕ) (at place : ℕ) {ending : Ending} → (tag_within no_tag k doc at place).ending ≡ Ok ending → Ended doc at ending.next (tag_within no_tag k doc at place).attributes
 unfolding tag_within
 ended zero doc at place h = absurd (let z : ◌≡◌ {A = ℕ} 0 1 = cc in omega arith)
 ended (suc k) doc at place {ending} h =
     by_part (tag_part_at doc at place)
-    (λ name n value len to e.
+    (λ a e.
     let i = rw e at (part-inside doc at place) in
     let g = within-part no_tag k doc at place e in
-    let r = ended k doc to place (sym (with-ending doc name n value len (tag_within no_tag k doc to place)) ∙ (rw g at h)) in
-    rw g (record { past = omega (arith, r.past); inside = r.inside; laid = laid-with doc at name n value len to ending.next (tag_within no_tag k doc to place) (omega arith) (omega arith) r.laid }))
+    let r = ended k doc a.next place (sym (with-ending doc a (tag_within no_tag k doc a.next place)) ∙ (rw g at h)) in
+    rw g (record { past = omega (arith, r.past); inside = r.inside; laid = laid-with doc at a a.next ending.next (tag_within no_tag k doc a.next place) (omega arith) (omega arith) r.laid }))
     (λ here e.
     let i = rw e at (part-inside doc at place) in
     let g = within_end no_tag k doc at place e in
@@ -72,15 +73,15 @@ lies-later at i next None g h p q = q
 
 laid-to : (at next : ℕ) (l : List Attribute) → Laid at next l → at ≤ next
 laid-to at next [] s = s
-laid-to at next (a ∷ more) s = omega (arith, s.0, laid-to (a.from + a.len) next more s.1)
+laid-to at next (a ∷ more) s = omega (arith, s.0, laid-to (a.value.from + a.value.len) next more s.1)
 
 last-lies : (at next : ℕ) (l : List Attribute) (name : List ℕ) → Laid at next l → Lies at next (last_of name l)
 unfolding last_of
 last-lies at next [] name s = tt
 last-lies at next (a ∷ more) name s =
-    lies-later at (a.from + a.len) next (last_of name more) (pick (same a.name name) (Some (record { from = a.from; len = a.len })) None) (omega (arith, s.0))
-    (last-lies (a.from + a.len) next more name s.1)
-    (pick-by (Lies at next) (same a.name name) (λ t. (s.0, laid-to (a.from + a.len) next more s.1)) (λ f. tt))
+    lies-later at (a.value.from + a.value.len) next (last_of name more) (pick (same a.name name) (Some a.value) None) (omega (arith, s.0))
+    (last-lies (a.value.from + a.value.len) next more name s.1)
+    (pick-by (Lies at next) (same a.name name) (λ t. (s.0, laid-to (a.value.from + a.value.len) next more s.1)) (λ f. tt))
 
 -- ---- the raw lengths of what is found under different names
 
@@ -108,14 +109,14 @@ module _ (a : Attribute) (more : List Attribute) (x : List ℕ) where
   -- an attribute of another name
   last-other : same a.name x ≡ false → last_of x (a ∷ more) ≡ last_of x more
   unfolding last_of
-  last-other f = rw (pick_no {A = Option Range} (same a.name x) (Some (record { from = a.from; len = a.len })) None f) (later-absent (last_of x more))
+  last-other f = rw (pick_no {A = Option Range} (same a.name x) (Some a.value) None f) (later-absent (last_of x more))
 
   -- and of any
-  last-any : raw_length (last_of x (a ∷ more)) ≤ raw_length (last_of x more) + a.len
+  last-any : raw_length (last_of x (a ∷ more)) ≤ raw_length (last_of x more) + a.value.len
   unfolding last_of
   last-any =
-      let here : Option Range = pick (same a.name x) (Some (record { from = a.from; len = a.len })) None in
-      let h : raw_length here ≤ a.len = pick-by (λ f. raw_length f ≤ a.len) (same a.name x) (λ t. omega arith) (λ f. omega arith) in
+      let here : Option Range = pick (same a.name x) (Some a.value) None in
+      let h : raw_length here ≤ a.value.len = pick-by (λ f. raw_length f ≤ a.value.len) (same a.name x) (λ t. omega arith) (λ f. omega arith) in
       omega (arith, length-later (last_of x more) here)
 
 -- an attribute adds nothing under names that are not its own
@@ -128,7 +129,7 @@ lengths-other a more x (y ∷ ys) e t =
     rw (last-other a more y f, lengths-other a more x ys e (and_right (not (same x y)) (none_of x ys) t))
 
 -- and its own length at most under different names
-lengths-any : (a : Attribute) (more : List Attribute) (xs : List (List ℕ)) → T (different xs) → lengths_in (a ∷ more) xs ≤ lengths_in more xs + a.len
+lengths-any : (a : Attribute) (more : List Attribute) (xs : List (List ℕ)) → T (different xs) → lengths_in (a ∷ more) xs ≤ lengths_in more xs + a.value.len
 unfolding lengths_in
 lengths-any a more [] t = omega arith
 lengths-any a more (x ∷ xs) t =
@@ -143,7 +144,7 @@ lengths_none (x ∷ xs) = omega (arith, lengths_none xs)
 
 lengths-laid : (at next : ℕ) (l : List Attribute) (xs : List (List ℕ)) → T (different xs) → Laid at next l → lengths_in l xs + at ≤ next
 lengths-laid at next [] xs t s = omega (arith, lengths_none xs)
-lengths-laid at next (a ∷ more) xs t s = omega (arith, s.0, lengths-any a more xs t, lengths-laid (a.from + a.len) next more xs t s.1)
+lengths-laid at next (a ∷ more) xs t s = omega (arith, s.0, lengths-any a more xs t, lengths-laid (a.value.from + a.value.len) next more xs t s.1)
 
 -- ---- of a tag that ends
 

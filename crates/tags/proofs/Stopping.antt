@@ -10,7 +10,7 @@ use Rattle.classes.specs.Class.{is_space, is_tag_name_end}
 use Rattle.classes.specs.Table.{is_name_stop}
 use Rattle.tags.specs.Names.{prefix_length}
 use Rattle.tags.proofs.Searching.{scan-within}
-use Rattle.tags.proofs.Naming.{prefix-some, prefix-none, lost-within, lost-fits}
+use Rattle.tags.proofs.Naming.{prefix-some, prefix-none, local-within, local-fits}
 
 -- ---- where a scan stops, one that passes more goes on
 
@@ -128,9 +128,9 @@ module _ (doc : List ℕ) (at : ℕ) {stop : ℕ} (e : stop ≡ scan (until is_n
           (omega (arith, past, from, length-take n (drop at doc), length-drop at doc, scan-within (until is_tag_name_end) doc stop (omega arith)))
 
 -- what a raw name loses
-module _ (doc : List ℕ) (at n : ℕ) {lost : ℕ} (p : lost ≡ prefix_length (piece doc at n)) where
-  pub raw-lost : lost ≤ n
-  raw-lost = lost-within doc at n refl p
+module _ (doc : List ℕ) (at n : ℕ) {prefix : ℕ} (p : prefix ≡ prefix_length (piece doc at n)) where
+  pub raw-prefix : prefix ≤ n
+  raw-prefix = local-within doc at n refl p
 
-  pub raw-fits : at ≤ length doc → length doc < 2 ^ 64 → Fits w64 (at + lost)
-  raw-fits h l = lost-fits doc at n refl p h l
+  pub raw-fits : at ≤ length doc → length doc < 2 ^ 64 → Fits w64 (at + prefix)
+  raw-fits h l = local-fits doc at n refl p h l

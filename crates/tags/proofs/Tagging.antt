@@ -1,11 +1,13 @@
 -- Laws of a whole tag: where its parts lie, that the fuel is enough, and where the tag ends.
 use Rattle.tags.specs.declared.part.Ending.{Ending}
 use Rattle.std.proofs.Common.{Result, Ok, Err, ◌≡◌, refl, sym, ap, ◌∙◌, true, List, [], ℕ, zero, suc, ◌+◌, ◌-◌, ◌≤◌, ◌<◌, arith, add-one, T, eqb, ltb, leb, length, ltb-true}
+use Rattle.texts.specs.declared.Range.{Range}
 use Rattle.texts.specs.Text.{ascii}
 use Rattle.texts.specs.Scan.{scan, until, is}
 use Rattle.texts.proofs.Choosing.{pick-by}
 use Rattle.classes.specs.Class.{is_space, is_attribute_name_end}
 use Rattle.refusals.specs.declared.Refusal.{Refusal}
+use Rattle.tags.specs.declared.part.RawAttribute.{RawAttribute}
 use Rattle.tags.specs.declared.part.TagPart.{TagPart}
 use Rattle.tags.specs.declared.part.TagPart.TheVariants.{Attribute as Part, TagEnd}
 use Rattle.tags.specs.Find.{stands}
@@ -15,12 +17,12 @@ use Rattle.tags.proofs.Searching.{stands-within}
 -- ---- a part lies within the document, in its order
 
 abbrev pub Inside : List ℕ → ℕ → Result TagPart Refusal → Type 0
-Inside doc at (Ok (Part name n value len next)) = (at ≤ name) × (name + n ≤ value) × (value + len < next) × (next ≤ length doc)
+Inside doc at (Ok (Part a)) = (at ≤ a.name.from) × (a.name.from + a.name.len ≤ a.value.from) × (a.value.from + a.value.len < a.next) × (a.next ≤ length doc)
 Inside doc at (Ok (TagEnd ending)) = (at < ending.next) × (ending.next ≤ length doc)
 Inside doc at (Err refusal) = T true
 
-module _ (doc : List ℕ) (at name n : ℕ) (h : at ≤ name) (place : ℕ) where
-  quoted-inside : (quote value : ℕ) → name + n ≤ value → Inside doc at (quoted_at quote doc name n value place)
+module _ (doc : List ℕ) (at : ℕ) (name : Range) (h : at ≤ name.from) (place : ℕ) where
+  quoted-inside : (quote value : ℕ) → name.from + name.len ≤ value → Inside doc at (quoted_at quote doc name value place)
   unfolding quoted_at
   quoted-inside quote value k =
       let end = scan (until (is quote)) doc value in
@@ -28,7 +30,7 @@ module _ (doc : List ℕ) (at name n : ℕ) (h : at ≤ name) (place : ℕ) wher
       (λ t. (h, k, omega arith, omega (arith, ltb-true end (length doc) t)))
       (λ f. tt)
 
-  value-inside : (due : ℕ) → name + n ≤ due → Inside doc at (value_at doc name n due place)
+  value-inside : (due : ℕ) → name.from + name.len ≤ due → Inside doc at (value_at doc name due place)
   unfolding value_at
   value-inside due k =
       pick-by (Inside doc at) (stands "\"" doc due) (λ t. quoted-inside 34 (due + 1) (omega arith))
@@ -41,7 +43,7 @@ attribute-inside doc at i place h =
     let end = scan (until is_attribute_name_end) doc i in
     let equals = scan is_space doc end in
     pick-by (Inside doc at) (eqb end i) (λ t. tt)
-    (λ f. pick-by (Inside doc at) (stands "=" doc equals) (λ t. value-inside doc at i (end - i) h place (scan is_space doc (equals + 1)) (omega arith))
+    (λ f. pick-by (Inside doc at) (stands "=" doc equals) (λ t. value-inside doc at (record { from = i; len = end - i }) h place (scan is_space doc (equals + 1)) (omega arith))
     (λ g. tt))
 
 pub part-inside : (doc : List ℕ) (at place : ℕ) → Inside doc at (tag_part_at doc at place)
@@ -57,16 +59,16 @@ part-inside doc at place =
 
 pub by_part :
     {X : Type 0} (p : Result TagPart Refusal) →
-    ((name n value len next : ℕ) → p ≡ Ok (Part name n value len next) → X) →
+    ((a : RawAttribute) → p ≡ Ok (Part a) → X) →
     ((ending : Ending) → p ≡ Ok (TagEnd ending) → X) →
     ((refusal : Refusal) → p ≡ Err refusal → X) →
     X
-by_part (Ok (Part name n value len next)) f g h = f name n value len next refl
+by_part (Ok (Part a)) f g h = f a refl
 by_part (Ok (TagEnd ending)) f g h = g ending refl
 by_part (Err refusal) f g h = h refusal refl
 
 module _ (x : Tag) (k : ℕ) (doc : List ℕ) (at place : ℕ) where
-  pub within-part : {name n value len next : ℕ} → tag_part_at doc at place ≡ Ok (Part name n value len next) → tag_within x (suc k) doc at place ≡ with_part doc name n value len (tag_within x k doc next place)
+  pub within-part : {a : RawAttribute} → tag_part_at doc at place ≡ Ok (Part a) → tag_within x (suc k) doc at place ≡ with_part doc a (tag_within x k doc a.next place)
   unfolding tag_within
   within-part e = rw (e, tag_within)
 
@@ -83,19 +85,19 @@ enough : (k : ℕ) (doc : List ℕ) (at place : ℕ) → at ≤ length doc → l
 enough zero doc at place h l = absurd (omega arith)
 enough (suc k) doc at place h l =
     by_part (tag_part_at doc at place)
-    (λ name n value len next e.
+    (λ a e.
     let i = rw e at (part-inside doc at place) in
     within-part no_tag (suc k) doc at place e
-    ∙ ap (with_part doc name n value len) (enough k doc next place i.3 (omega arith))
+    ∙ ap (with_part doc a) (enough k doc a.next place i.3 (omega arith))
     ∙ sym (within-part no_tag k doc at place e))
     (λ ending e. within_end no_tag (suc k) doc at place e ∙ sym (within_end no_tag k doc at place e))
     (λ refusal e. within-bad no_tag (suc k) doc at place e ∙ sym (within-bad no_tag k doc at place e))
 
 module _ (doc : List ℕ) (at place : ℕ) where
-  pub tag-part : {name n value len next : ℕ} → tag_part_at doc at place ≡ Ok (Part name n value len next) → tag_at doc at place ≡ with_part doc name n value len (tag_at doc next place)
-  tag-part {name} {n} {value} {len} {next} e =
+  pub tag-part : {a : RawAttribute} → tag_part_at doc at place ≡ Ok (Part a) → tag_at doc at place ≡ with_part doc a (tag_at doc a.next place)
+  tag-part {a} e =
       let i = rw e at (part-inside doc at place) in
-      let m : tag_within no_tag (suc (length doc)) doc next place ≡ tag_within no_tag (length doc) doc next place = enough (length doc) doc next place i.3 (omega arith) in
+      let m : tag_within no_tag (suc (length doc)) doc a.next place ≡ tag_within no_tag (length doc) doc a.next place = enough (length doc) doc a.next place i.3 (omega arith) in
       rw (add-one, within-part no_tag (length doc) doc at place e, ← m)
 
   pub tag-end : {ending : Ending} → tag_part_at doc at place ≡ Ok (TagEnd ending) → tag_at doc at place ≡ record { attributes = []; ending = Ok ending }
@@ -113,19 +115,19 @@ pub going_start : {doc : List ℕ} {at place : ℕ} → Going doc at place at
 going_start = record { rest = refl }
 
 -- the next part is nearer to the document's end
-pub part-less : (doc : List ℕ) (i place : ℕ) {p : Result TagPart Refusal} → p ≡ tag_part_at doc i place → {name n value len next : ℕ} → p ≡ Ok (Part name n value len next) → length doc - next < length doc - i
+pub part-less : (doc : List ℕ) (i place : ℕ) {p : Result TagPart Refusal} → p ≡ tag_part_at doc i place → {a : RawAttribute} → p ≡ Ok (Part a) → length doc - a.next < length doc - i
 part-less doc i place e f =
     let z = rw (sym e ∙ f) at (part-inside doc i place) in
     omega arith
 
 -- its value lies in the document
-pub part-value : (doc : List ℕ) (i place : ℕ) {p : Result TagPart Refusal} → p ≡ tag_part_at doc i place → {name n value len next : ℕ} → p ≡ Ok (Part name n value len next) → value < length doc
+pub part-value : (doc : List ℕ) (i place : ℕ) {p : Result TagPart Refusal} → p ≡ tag_part_at doc i place → {a : RawAttribute} → p ≡ Ok (Part a) → a.value.from < length doc
 part-value doc i place e f =
     let z = rw (sym e ∙ f) at (part-inside doc i place) in
     omega arith
 
 module _ {doc : List ℕ} {at place i : ℕ} (inv : Going doc at place i) {p : Result TagPart Refusal} (e : p ≡ tag_part_at doc i place) where
-  pub going_on : {name n value len next : ℕ} → p ≡ Ok (Part name n value len next) → Going doc at place next
+  pub going_on : {a : RawAttribute} → p ≡ Ok (Part a) → Going doc at place a.next
   unfolding with_part
   going_on f = record { rest = ap (λ (t : Tag). t.ending) (sym (tag-part doc i place (sym e ∙ f))) ∙ inv.rest }
 

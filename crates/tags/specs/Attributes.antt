@@ -7,6 +7,7 @@ use Rattle.classes.specs.Class.{is_space, is_attribute_name_end}
 use Rattle.texts.specs.declared.Range.{Range}
 use Rattle.refusals.specs.declared.Refusal.{Refusal}
 use Rattle.refusals.specs.declared.Refusal.TheVariants.{OpenTag, NoAttributeName, NoEquals, NoQuote, OpenValue}
+use Rattle.tags.specs.declared.part.RawAttribute.{RawAttribute}
 use Rattle.tags.specs.declared.part.TagPart.{TagPart}
 use Rattle.tags.specs.declared.part.TagPart.TheVariants.{Attribute as Part, TagEnd}
 use Rattle.tags.specs.declared.part.Ending.{Ending}
@@ -15,26 +16,32 @@ use Rattle.tags.specs.Names.{local_name, is_xmlns}
 
 -- ---- one part of a tag, due at `at`; refusals hold `place`, the tag's '<'
 
--- the value runs from `at` to the next such quote (else 20); the raw name is n bytes at `name`
-unfoldable pub quoted_at : ℕ → List ℕ → ℕ → ℕ → ℕ → ℕ → Result TagPart Refusal
-quoted_at quote doc name n at place =
+-- the attribute whose value runs from a position to its closing quote
+abbrev pub valued : Range → ℕ → ℕ → TagPart
+valued name from end =
+    Part (record { name = name; value = record { from = from; len = end - from }; next = end + 1 })
+
+-- the value runs from `at` to the next such quote (else 20)
+unfoldable pub quoted_at : ℕ → List ℕ → Range → ℕ → ℕ → Result TagPart Refusal
+quoted_at quote doc name at place =
     let end = scan (until (is quote)) doc at in
-    pick (ltb end (length doc)) (Ok (Part name n at (end - at) (end + 1))) (Err (OpenValue at place))
+    pick (ltb end (length doc)) (Ok (valued name at end)) (Err (OpenValue at place))
 
 -- a value between two quotes (34) or two apostrophes (39) is due; 19 without one
-unfoldable pub value_at : List ℕ → ℕ → ℕ → ℕ → ℕ → Result TagPart Refusal
-value_at doc name n at place =
-    pick (stands "\"" doc at) (quoted_at 34 doc name n (at + 1) place)
-    (pick (stands "'" doc at) (quoted_at 39 doc name n (at + 1) place)
+unfoldable pub value_at : List ℕ → Range → ℕ → ℕ → Result TagPart Refusal
+value_at doc name at place =
+    pick (stands "\"" doc at) (quoted_at 34 doc name (at + 1) place)
+    (pick (stands "'" doc at) (quoted_at 39 doc name (at + 1) place)
     (Err (NoQuote at place)))
 
 -- an attribute is due: a name that is not empty (else 17), spaces, '=' (else 18), spaces, its value
 unfoldable pub attribute_part_at : List ℕ → ℕ → ℕ → Result TagPart Refusal
 attribute_part_at doc at place =
     let end = scan (until is_attribute_name_end) doc at in
+    let name : Range = record { from = at; len = end - at } in
     let equals = scan is_space doc end in
     pick (eqb end at) (Err (NoAttributeName at place))
-    (pick (stands "=" doc equals) (value_at doc at (end - at) (scan is_space doc (equals + 1)) place)
+    (pick (stands "=" doc equals) (value_at doc name (scan is_space doc (equals + 1)) place)
     (Err (NoEquals equals place)))
 
 -- behind spaces '>', '/>' or an attribute is due; 16 if the document ends
@@ -51,21 +58,24 @@ tag_part_at doc at place =
 -- an attribute that counts: its local name, and where its raw value lies in the document
 pub record Attribute : Type 0 where
   pub name : List ℕ
-  pub from : ℕ
-  pub len : ℕ
+  pub value : Range
 
 -- a tag from where its attributes begin: these, in their order, and its end or a refusal
 pub record Tag : Type 0 where
   pub attributes : List Attribute
   pub ending : Result Ending Refusal
 
+-- the raw name of an attribute
+abbrev pub raw_name : List ℕ → RawAttribute → List ℕ
+raw_name doc a = piece doc a.name.from a.name.len
+
 -- one more attribute before those of `rest`; `xmlns` and `xmlns:...` are dropped
-unfoldable pub with_part : List ℕ → ℕ → ℕ → ℕ → ℕ → Tag → Tag
-with_part doc name n value len rest =
+unfoldable pub with_part : List ℕ → RawAttribute → Tag → Tag
+with_part doc a rest =
     record {
       attributes =
-          pick (is_xmlns (piece doc name n)) rest.attributes
-          (record { name = local_name (piece doc name n); from = value; len = len } ∷ rest.attributes);
+          pick (is_xmlns (raw_name doc a)) rest.attributes
+          (record { name = local_name (raw_name doc a); value = a.value } ∷ rest.attributes);
       ending = rest.ending;
     }
 
@@ -75,7 +85,7 @@ unfoldable pub tag_within : Tag → ℕ → List ℕ → ℕ → ℕ → Tag
 tag_within spent zero doc at place = spent
 tag_within spent (suc k) doc at place =
     elim (tag_part_at doc at place) [
-      | Ok (Part name n value len next) ↦ with_part doc name n value len (tag_within spent k doc next place)
+      | Ok (Part a) ↦ with_part doc a (tag_within spent k doc a.next place)
       | Ok (TagEnd ending) ↦ record { attributes = []; ending = Ok ending }
       | Err refusal ↦ record { attributes = []; ending = Err refusal }
     ]
@@ -97,7 +107,7 @@ later None earlier = earlier
 -- the raw value of the last attribute of that name, if there is one
 unfoldable pub last_of : List ℕ → List Attribute → Option Range
 last_of name [] = None
-last_of name (a ∷ more) = later (last_of name more) (pick (same a.name name) (Some (record { from = a.from; len = a.len })) None)
+last_of name (a ∷ more) = later (last_of name more) (pick (same a.name name) (Some a.value) None)
 
 -- the same in the tag whose attributes begin at `at`. The place, here 0, matters to refusals alone
 unfoldable pub attribute_at : List ℕ → ℕ → List ℕ → Option Range

@@ -6,8 +6,7 @@
 #![tactic(auto, unfolding(swar::specs::Word::word_of, elements::specs::Elements::element_of, elements::specs::Elements::other_element_of, crate::specs::Names::prefix_length, texts::specs::Text::same, texts::specs::Lists::all, classes::specs::Class::is_tag_name_end, classes::specs::Class::is_space), using(crate::proofs::Laws::beginning))]
 
 ghost use Rattle.std.specs.Prelude.{◌≡◌, ◌+◌, ◌≤◌, length};
-ghost use Rattle.elements.specs.declared.Element.TheVariants.{Message, MessageSchema as «Schema»};
-ghost use Rattle.tags.specs.internal.Beginning.{tagged_text, KnownBeginning, KnownShort, KnownLong, BeginsAt};
+ghost use Rattle.tags.specs.internal.Beginning.{UsualAt, UsualShort, UsualLong, Prefixed, BeginsAt};
 
 use crate::scan::raw_name;
 use elements::Element::{
@@ -16,25 +15,25 @@ use elements::Element::{
 use elements::{Element, element_of};
 use swar::{stands_long, stands_short};
 
-/// A known beginning: its element, and the lengths of the raw name and of its prefix.
+/// A usual raw name: its element, its length, and that of its prefix.
 #[derive(Clone, Copy)]
-pub struct Opening {
+pub struct UsualName {
     pub element: Element,
     pub len: usize,
-    pub lost: usize,
+    pub prefix: usize,
 }
 
-/// Any beginning: where the raw name ends, the length of its prefix, and the element.
+/// The beginning of a tag: where its raw name ends, the length of its prefix, and the element.
 #[derive(Clone, Copy)]
 pub struct Beginning {
     pub end: usize,
-    pub lost: usize,
+    pub prefix: usize,
     pub element: Element,
 }
 
-/// The beginning of this element, if its raw name stands at `at` with `behind` behind it: less than
-/// eight bytes. The integers hold `behind` too; as a parameter it serves the contract alone.
-fn opening_short(
+/// The usual raw name of this element, if it stands at `at` with `behind` behind it: less than eight
+/// bytes. The integers hold `behind` too; as a parameter it serves the contract alone.
+fn usual_short(
     doc: &[u8],
     at: usize,
     behind: u8,
@@ -42,38 +41,42 @@ fn opening_short(
     len: usize,
     modulus: u64,
     front: u64,
-) -> Option<Opening>
-    requires { (at + 8 ≤ length doc.now) × KnownShort behind element len modulus front }
-    ensures { KnownBeginning behind doc.now at result }
+) -> Option<UsualName>
+    requires { (at + 8 ≤ length doc.now) × UsualShort behind element len modulus front }
+    ensures { UsualAt behind doc.now at result }
 {
     if stands_short(doc, at, modulus, front) {
-        Some(Opening {
+        Some(UsualName {
             element,
             len,
-            lost: 0,
+            prefix: 0,
         })
     } else {
         None
     }
 }
 
-/// As `opening_short`, for a text of 8 to 15 bytes.
-fn opening_long(
+/// As `usual_short`, for a text of 8 to 15 bytes.
+fn usual_long(
     doc: &[u8],
     at: usize,
     behind: u8,
     element: Element,
     len: usize,
-    lost: usize,
+    prefix: usize,
     front: u64,
     modulus: u64,
     back: u64,
-) -> Option<Opening>
-    requires { (at + 16 ≤ length doc.now) × KnownLong behind element len lost front modulus back }
-    ensures { KnownBeginning behind doc.now at result }
+) -> Option<UsualName>
+    requires { (at + 16 ≤ length doc.now) × UsualLong behind element len prefix front modulus back }
+    ensures { UsualAt behind doc.now at result }
 {
     if stands_long(doc, at, front, modulus, back) {
-        Some(Opening { element, len, lost })
+        Some(UsualName {
+            element,
+            len,
+            prefix,
+        })
     } else {
         None
     }
@@ -82,11 +85,11 @@ fn opening_long(
 /// One of the two raw names with a prefix, if it stands at `at` with `behind` behind it:
 /// "sbe:message", whose last bytes and `behind` are `back`, or "sbe:messageSchema", longer than two
 /// words, which with `behind` is `schema`.
-fn prefixed_at(doc: &[u8], at: usize, behind: u8, back: u64, schema: &[u8]) -> Option<Opening>
-    requires { (at + 16 ≤ length doc.now) × KnownLong behind Message 11 4 8319104456489001587 4294967296 back × (schema.now ≡ tagged_text behind «Schema» 4) }
-    ensures { KnownBeginning behind doc.now at result }
+fn prefixed_at(doc: &[u8], at: usize, behind: u8, back: u64, schema: &[u8]) -> Option<UsualName>
+    requires { (at + 16 ≤ length doc.now) × Prefixed behind back schema.now }
+    ensures { UsualAt behind doc.now at result }
 {
-    let message = opening_long(
+    let message = usual_long(
         doc,
         at,
         behind,
@@ -101,24 +104,24 @@ fn prefixed_at(doc: &[u8], at: usize, behind: u8, back: u64, schema: &[u8]) -> O
         return message;
     }
     if texts::starts_with(doc, at, schema) {
-        Some(Opening {
+        Some(UsualName {
             element: MessageSchema,
             len: 17,
-            lost: 4,
+            prefix: 4,
         })
     } else {
         None
     }
 }
 
-/// The known raw name at `at` with a space behind it, by its first letter.
-fn opening_by(doc: &[u8], at: usize) -> Option<Opening>
+/// The usual raw name at `at` with a space behind it, by its first letter.
+fn opening_by(doc: &[u8], at: usize) -> Option<UsualName>
     requires { at + 16 ≤ length doc.now }
-    ensures { KnownBeginning 32 doc.now at result }
+    ensures { UsualAt 32 doc.now at result }
 {
     match doc[at] {
         // "field ", "type ", "enum ", "group ", "ref "
-        b'f' => opening_short(
+        b'f' => usual_short(
             doc,
             at,
             b' ',
@@ -127,9 +130,9 @@ fn opening_by(doc: &[u8], at: usize) -> Option<Opening>
             0x1_0000_0000_0000,
             0x2064_6c65_6966,
         ),
-        b't' => opening_short(doc, at, b' ', Type, 4, 0x100_0000_0000, 0x20_6570_7974),
-        b'e' => opening_short(doc, at, b' ', Enum, 4, 0x100_0000_0000, 0x20_6d75_6e65),
-        b'g' => opening_short(
+        b't' => usual_short(doc, at, b' ', Type, 4, 0x100_0000_0000, 0x20_6570_7974),
+        b'e' => usual_short(doc, at, b' ', Enum, 4, 0x100_0000_0000, 0x20_6d75_6e65),
+        b'g' => usual_short(
             doc,
             at,
             b' ',
@@ -138,9 +141,9 @@ fn opening_by(doc: &[u8], at: usize) -> Option<Opening>
             0x1_0000_0000_0000,
             0x2070_756f_7267,
         ),
-        b'r' => opening_short(doc, at, b' ', Ref, 3, 0x1_0000_0000, 0x2066_6572),
+        b'r' => usual_short(doc, at, b' ', Ref, 3, 0x1_0000_0000, 0x2066_6572),
         // "validValue ", "composite ", "message "; "sbe:message ", "sbe:messageSchema "
-        b'v' => opening_long(
+        b'v' => usual_long(
             doc,
             at,
             b' ',
@@ -151,7 +154,7 @@ fn opening_by(doc: &[u8], at: usize) -> Option<Opening>
             0x100_0000,
             0x20_6575,
         ),
-        b'c' => opening_long(
+        b'c' => usual_long(
             doc,
             at,
             b' ',
@@ -163,14 +166,14 @@ fn opening_by(doc: &[u8], at: usize) -> Option<Opening>
             0x2065,
         ),
         b's' => prefixed_at(doc, at, b' ', 0x2065_6761, b"sbe:messageSchema "),
-        b'm' => opening_long(doc, at, b' ', Message, 7, 0, 0x2065_6761_7373_656d, 1, 0),
+        b'm' => usual_long(doc, at, b' ', Message, 7, 0, 0x2065_6761_7373_656d, 1, 0),
         _ => None,
     }
 }
 
-/// The known raw name at `at` with a space behind it. Always `None` in the last 15 bytes.
-fn opening_at(doc: &[u8], at: usize) -> Option<Opening>
-    ensures { KnownBeginning 32 doc.now at result }
+/// The usual raw name at `at` with a space behind it. Always `None` in the last 15 bytes.
+fn opening_at(doc: &[u8], at: usize) -> Option<UsualName>
+    ensures { UsualAt 32 doc.now at result }
 {
     if doc.len() < 16 || doc.len() - 16 < at {
         return None;
@@ -186,13 +189,13 @@ pub fn begin_at(doc: &[u8], name: usize) -> Beginning
     if let Some(known) = opening_at(doc, name) {
         return Beginning {
             end: name + known.len,
-            lost: known.lost,
+            prefix: known.prefix,
             element: known.element,
         };
     }
     // "types>": nearly every schema has this tag, without attributes.
     if name + 8 <= doc.len() {
-        if let Some(types) = opening_short(
+        if let Some(types) = usual_short(
             doc,
             name,
             b'>',
@@ -203,29 +206,29 @@ pub fn begin_at(doc: &[u8], name: usize) -> Beginning
         ) {
             return Beginning {
                 end: name + types.len,
-                lost: types.lost,
+                prefix: types.prefix,
                 element: types.element,
             };
         }
     }
     let raw = raw_name(doc, name);
     let n = raw.end - name;
-    let local = texts::part(doc, name + raw.lost, n - raw.lost);
+    let local = texts::part(doc, name + raw.prefix, n - raw.prefix);
     Beginning {
         end: raw.end,
-        lost: raw.lost,
+        prefix: raw.prefix,
         element: element_of(local),
     }
 }
 
-/// The known raw name at `at` with '>' behind it, by its first letter.
-fn closing_by(doc: &[u8], at: usize) -> Option<Opening>
+/// The usual raw name at `at` with '>' behind it, by its first letter.
+fn closing_by(doc: &[u8], at: usize) -> Option<UsualName>
     requires { at + 16 ≤ length doc.now }
-    ensures { KnownBeginning 62 doc.now at result }
+    ensures { UsualAt 62 doc.now at result }
 {
     match doc[at] {
         // "types>", "enum>", "group>"
-        b't' => opening_short(
+        b't' => usual_short(
             doc,
             at,
             b'>',
@@ -234,8 +237,8 @@ fn closing_by(doc: &[u8], at: usize) -> Option<Opening>
             0x1_0000_0000_0000,
             0x3e73_6570_7974,
         ),
-        b'e' => opening_short(doc, at, b'>', Enum, 4, 0x100_0000_0000, 0x3e_6d75_6e65),
-        b'g' => opening_short(
+        b'e' => usual_short(doc, at, b'>', Enum, 4, 0x100_0000_0000, 0x3e_6d75_6e65),
+        b'g' => usual_short(
             doc,
             at,
             b'>',
@@ -245,7 +248,7 @@ fn closing_by(doc: &[u8], at: usize) -> Option<Opening>
             0x3e70_756f_7267,
         ),
         // "validValue>", "composite>", "message>"; "sbe:message>", "sbe:messageSchema>"
-        b'v' => opening_long(
+        b'v' => usual_long(
             doc,
             at,
             b'>',
@@ -256,7 +259,7 @@ fn closing_by(doc: &[u8], at: usize) -> Option<Opening>
             0x100_0000,
             0x3e_6575,
         ),
-        b'c' => opening_long(
+        b'c' => usual_long(
             doc,
             at,
             b'>',
@@ -268,15 +271,15 @@ fn closing_by(doc: &[u8], at: usize) -> Option<Opening>
             0x3e65,
         ),
         b's' => prefixed_at(doc, at, b'>', 0x3e65_6761, b"sbe:messageSchema>"),
-        b'm' => opening_long(doc, at, b'>', Message, 7, 0, 0x3e65_6761_7373_656d, 1, 0),
+        b'm' => usual_long(doc, at, b'>', Message, 7, 0, 0x3e65_6761_7373_656d, 1, 0),
         _ => None,
     }
 }
 
-/// The known raw name at `at` with '>' behind it. Always `None` in the last 15 bytes. One function
+/// The usual raw name at `at` with '>' behind it. Always `None` in the last 15 bytes. One function
 /// for this and `opening_at` would have two callers, which takes 3 % more instructions.
-pub fn closing_at(doc: &[u8], at: usize) -> Option<Opening>
-    ensures { KnownBeginning 62 doc.now at result }
+pub fn closing_at(doc: &[u8], at: usize) -> Option<UsualName>
+    ensures { UsualAt 62 doc.now at result }
 {
     if doc.len() < 16 || doc.len() - 16 < at {
         return None;

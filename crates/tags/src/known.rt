@@ -6,11 +6,11 @@
 //! `back` those behind them, and `modulus` is 256 to the number of bytes in the last of the two.
 //! They are parameters, not a struct: constants at each call. The caller tests once, for all names,
 //! that sixteen bytes are there.
-#![tactic(auto, unfolding(swar::specs::Word::word_of), using(crate::proofs::Laws::telling))]
+#![tactic(auto, unfolding(swar::specs::Word::word_of), using(crate::proofs::Laws::matching))]
 
 ghost use Rattle.std.specs.Prelude.{◌≡◌, ◌+◌, ◌≤◌, length};
 ghost use Rattle.elements.specs.Keys.{keys_of};
-ghost use Rattle.tags.specs.internal.Known.{KnownAt, CodesOf, Apart, ToldShort, ToldLong, ToldText};
+ghost use Rattle.tags.specs.internal.Known.{KnownAt, CodesOf, Apart, KnownShort, KnownLong, KnownText};
 
 use elements::Element;
 use swar::{stands_long, stands_short};
@@ -96,7 +96,7 @@ fn known_short(
     modulus: u64,
     front: u64,
 ) -> Option<Known>
-    requires { (at + 8 ≤ length doc.now) × ToldShort code skip modulus front }
+    requires { (at + 8 ≤ length doc.now) × KnownShort code skip modulus front }
     ensures { KnownAt doc.now at result }
 {
     if stands_short(doc, at, modulus, front) {
@@ -116,7 +116,7 @@ fn known_long(
     modulus: u64,
     back: u64,
 ) -> Option<Known>
-    requires { (at + 16 ≤ length doc.now) × ToldLong code skip front modulus back }
+    requires { (at + 16 ≤ length doc.now) × KnownLong code skip front modulus back }
     ensures { KnownAt doc.now at result }
 {
     if stands_long(doc, at, front, modulus, back) {
@@ -128,7 +128,7 @@ fn known_long(
 
 /// As `known_short`, for the two texts that are longer than two words.
 fn known_text(doc: &[u8], at: usize, code: usize, skip: usize, text: &[u8]) -> Option<Known>
-    requires { ToldText code skip text.now }
+    requires { KnownText code skip text.now }
     ensures { KnownAt doc.now at result }
 {
     if texts::starts_with(doc, at, text) {

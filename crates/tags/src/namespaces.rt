@@ -2,7 +2,8 @@
 //! often stand in rows. This loop makes neither parts nor notes of them, which halves the time.
 #![tactic(auto, using(crate::proofs::Dropping::dropping))]
 
-ghost use Rattle.std.specs.Prelude.{◌≡◌, ℕ, ◌≤◌, length};
+ghost use Rattle.std.specs.Prelude.{◌≡◌, ◌≤◌, length};
+ghost use Rattle.texts.specs.declared.Range.{Range};
 ghost use Rattle.tags.specs.Attributes.{quoted_at, value_at};
 ghost use Rattle.tags.specs.internal.Dropping.{Unchanged, next_of};
 
@@ -14,7 +15,7 @@ use swar::byte_from;
 #[inline(always)]
 fn past_quoted(doc: &[u8], at: usize, from: usize, quote: u8) -> usize
     requires { from ≤ length doc.now }
-    ensures { (name n : ℕ) → result ≡ next_of (quoted_at quote doc.now name n from 0) at }
+    ensures { (name : Range) → result ≡ next_of (quoted_at quote doc.now name from 0) at }
 {
     if from + 1 < doc.len() {
         if doc[from] == quote {
@@ -30,7 +31,7 @@ fn past_quoted(doc: &[u8], at: usize, from: usize, quote: u8) -> usize
 
 /// The position past the quoted value that is due at `from`; `at` if there is none.
 fn past_value(doc: &[u8], at: usize, from: usize) -> usize
-    ensures { (name n : ℕ) → result ≡ next_of (value_at doc.now name n from 0) at }
+    ensures { (name : Range) → result ≡ next_of (value_at doc.now name from 0) at }
 {
     if texts::starts_with(doc, from, b"\"") {
         return past_quoted(doc, at, from + 1, b'"');

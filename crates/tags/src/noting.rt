@@ -6,18 +6,20 @@ ghost use Rattle.std.specs.Prelude.{◌≡◌, false, [], ◌+◌, ◌<◌, ◌^
 ghost use Rattle.texts.specs.Choice.{pick};
 ghost use Rattle.texts.specs.Text.{piece};
 ghost use Rattle.tags.specs.Names.{is_xmlns};
+ghost use Rattle.tags.specs.Attributes.{raw_name};
 ghost use Rattle.elements.specs.Keys.{Keys, keys, keys_of};
-ghost use Rattle.tags.specs.internal.Noting.{found_at, number_in, name_in, second_in, encoding_in, no_notes, with_value, NotedMore};
-ghost use Rattle.tags.specs.internal.Known.{known_name, CodesOf, Apart, NamedAs, Declares};
+ghost use Rattle.tags.specs.internal.Noting.{found_at, number_in, name_in, second_in, encoding_in, no_notes, with_value, NotedMore, NotedWith};
+ghost use Rattle.tags.specs.internal.Known.{known_name, CodesOf, CodesFor, Apart, NamedAs, Declares};
 
 use crate::known::{Codes, PACKAGE};
+use crate::part::RawAttribute;
 use crate::scan::{is_xmlns_at, prefix_len};
 use elements::Element;
 use texts::Range;
 
 /// What was noted of a tag: where the raw values lie that its element looks up, by what they become
-/// in an item. For each, 1 + the position of its first byte, or 0 if there is no such attribute, and
-/// its length.
+/// in an item. For each, 1 + the position of its first byte, or 0 if there is no such attribute,
+/// and its length.
 ///
 /// Plain words, since they are copied for each attribute: padding beside an enum's tag, or a pair
 /// that is loaded whole right after its halves were stored, would defeat store forwarding.
@@ -124,13 +126,6 @@ fn with_value(named: Named, value: Range, earlier: Notes) -> Notes
     }
 }
 
-/// Where an attribute's raw name and raw value lie in the document.
-#[derive(Clone, Copy)]
-pub struct RawAttribute {
-    pub name: Range,
-    pub value: Range,
-}
-
 /// The notes with one more attribute, by its local name. It declares no namespace.
 fn noted_with(
     doc: &[u8],
@@ -141,8 +136,8 @@ fn noted_with(
     encoding: &[u8],
     earlier: Notes,
 ) -> Notes
-    requires { (a.value.from < length doc.now) × (is_xmlns (piece doc.now a.name.from a.name.len) ≡ false) }
-    ensures { NotedMore (piece doc.now a.name.from a.name.len) a.value.from a.value.len (keys number.now name.now second.now encoding.now) earlier result }
+    requires { (a.value.from < length doc.now) × (is_xmlns (raw_name doc.now a) ≡ false) }
+    ensures { NotedWith doc.now a (keys number.now name.now second.now encoding.now) earlier result }
 {
     let whole = texts::part(doc, a.name.from, a.name.len);
     let prefix = prefix_len(whole);
@@ -160,7 +155,7 @@ fn noted_with(
 /// declaration changes nothing.
 pub fn noted_one(doc: &[u8], a: RawAttribute, name: &[u8], earlier: Notes) -> Notes
     requires { a.value.from < length doc.now }
-    ensures { NotedMore (piece doc.now a.name.from a.name.len) a.value.from a.value.len (keys name.now [] [] []) earlier result }
+    ensures { NotedWith doc.now a (keys name.now [] [] []) earlier result }
 {
     if is_xmlns_at(doc, a.name.from, a.name.len) {
         return earlier;
@@ -172,7 +167,7 @@ pub fn noted_one(doc: &[u8], a: RawAttribute, name: &[u8], earlier: Notes) -> No
 /// notes under the other names stay where they are.
 fn noted_known(code: usize, codes: Codes, value: Range, earlier: Notes) -> Notes
     requires { (0 < code) × (code < 18) × (value.from < 2 ^ 63) × Apart codes }
-    ensures { (k : Keys) → CodesOf k codes → NotedMore (known_name code) value.from value.len k earlier result }
+    ensures { (k : Keys) → CodesOf k codes → NotedMore (known_name code) value k earlier result }
 {
     // No element looks up a name of a later code.
     let past = PACKAGE < code;
@@ -212,10 +207,11 @@ fn noted_known(code: usize, codes: Codes, value: Range, earlier: Notes) -> Notes
     earlier
 }
 
-/// The notes with an attribute of any other name, in a tag of this element. It declares no namespace.
+/// The notes with an attribute of any other name, in a tag of this element. It declares no
+/// namespace.
 fn noted_other(doc: &[u8], a: RawAttribute, element: Element, earlier: Notes) -> Notes
-    requires { (a.value.from < length doc.now) × (is_xmlns (piece doc.now a.name.from a.name.len) ≡ false) }
-    ensures { NotedMore (piece doc.now a.name.from a.name.len) a.value.from a.value.len (keys_of element) earlier result }
+    requires { (a.value.from < length doc.now) × (is_xmlns (raw_name doc.now a) ≡ false) }
+    ensures { NotedWith doc.now a (keys_of element) earlier result }
 {
     match element {
         Element::MessageSchema => noted_with(doc, a, b"id", b"package", b"version", b"", earlier),
@@ -235,7 +231,7 @@ fn noted_other(doc: &[u8], a: RawAttribute, element: Element, earlier: Notes) ->
 
 /// Whether an attribute declares a namespace; one with a code does not.
 pub fn is_declaration(doc: &[u8], name: Range, code: Option<usize>) -> bool
-    ensures { Declares doc.now name.from name.len code result }
+    ensures { Declares (piece doc.now name.from name.len) code result }
 {
     match code {
         Some(_) => false,
@@ -252,9 +248,9 @@ pub fn noted_by(
     element: Element,
     earlier: Notes,
 ) -> Notes
-    requires value { (a.value.from < length doc.now) × CodesOf (keys_of element) codes × Apart codes }
-    requires name { NamedAs doc.now a.name.from a.name.len code × Declares doc.now a.name.from a.name.len code false }
-    ensures { NotedMore (piece doc.now a.name.from a.name.len) a.value.from a.value.len (keys_of element) earlier result }
+    requires value { (a.value.from < length doc.now) × CodesFor element codes }
+    requires name { NamedAs (raw_name doc.now a) code × Declares (raw_name doc.now a) code false }
+    ensures { NotedWith doc.now a (keys_of element) earlier result }
 {
     if let Some(known) = code {
         return noted_known(known, codes, a.value, earlier);

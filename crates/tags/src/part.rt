@@ -1,26 +1,29 @@
 //! One part of a tag: an attribute, or the tag's end.
 #![tactic(auto, using(crate::proofs::Laws::laws))]
 
-ghost use Rattle.std.specs.Prelude.{◌≡◌, ◌+◌, ◌≤◌, length};
-ghost use Rattle.tags.specs.Attributes.{quoted_at, value_at, attribute_part_at, tag_part_at};
+ghost use Rattle.std.specs.Prelude.{◌≡◌, ◌+◌, ◌^◌, ◌≤◌, ◌<◌, length};
+ghost use Rattle.tags.specs.Attributes.{valued, quoted_at, value_at, attribute_part_at, tag_part_at};
 ghost use Rattle.tags.specs.internal.Known.{QuickAt};
 
 use crate::known::known_at;
 use crate::scan::{attribute_name_end, skip_space};
 use refusals::Refusal;
 use swar::byte_from;
+use texts::Range;
 
-/// One part of a tag: an attribute, with the ranges of its raw name and raw value and the position
-/// behind it, or the tag's end. Neither is an error: a refusal is the `Err` around it.
+/// An attribute: where its raw name and its raw value lie, and the position behind it.
+#[derive(Clone, Copy)]
+pub struct RawAttribute {
+    pub name: Range,
+    pub value: Range,
+    pub next: usize,
+}
+
+/// One part of a tag: an attribute, or the tag's end. Neither is an error: a refusal is the `Err`
+/// around it.
 #[derive(Clone, Copy)]
 pub enum TagPart {
-    Attribute {
-        name: usize,
-        name_len: usize,
-        value: usize,
-        value_len: usize,
-        next: usize,
-    },
+    Attribute(RawAttribute),
     TagEnd(Ending),
 }
 
@@ -31,81 +34,70 @@ pub struct Ending {
     pub self_closed: bool,
 }
 
-/// The attribute whose raw name is the `n` bytes at `name` and whose value runs from `at` to the
-/// next `quote`. Refused (20) without one.
+/// The attribute whose value runs from `from` to its closing quote, at `end`.
+#[inline(always)]
+fn valued(name: Range, from: usize, end: usize) -> TagPart
+    requires { (from ≤ end) × (end < 2 ^ 63) }
+    ensures { result ≡ valued name from end }
+{
+    TagPart::Attribute(RawAttribute {
+        name,
+        value: Range {
+            from,
+            len: end - from,
+        },
+        next: end + 1,
+    })
+}
+
+/// The attribute whose value runs from `at` to the next `quote`. Refused (20) without one.
 fn quoted_part(
     doc: &[u8],
-    name: usize,
-    n: usize,
+    name: Range,
     at: usize,
     quote: u8,
     place: usize,
 ) -> Result<TagPart, Refusal>
-    ensures { result ≡ quoted_at quote doc.now name n at place }
+    ensures { result ≡ quoted_at quote doc.now name at place }
 {
     let end = byte_from(doc, at, quote);
     if doc.len() <= end {
         return Err(Refusal::OpenValue { offset: at, place });
     }
-    Ok(TagPart::Attribute {
-        name,
-        name_len: n,
-        value: at,
-        value_len: end - at,
-        next: end + 1,
-    })
+    Ok(valued(name, at, end))
 }
 
 /// As `quoted_part`; an empty value and one of a single byte need no search.
 fn short_or_quoted(
     doc: &[u8],
-    name: usize,
-    n: usize,
+    name: Range,
     at: usize,
     quote: u8,
     place: usize,
 ) -> Result<TagPart, Refusal>
     requires { at ≤ length doc.now }
-    ensures { result ≡ quoted_at quote doc.now name n at place }
+    ensures { result ≡ quoted_at quote doc.now name at place }
 {
     if at + 1 < doc.len() {
         if doc[at] == quote {
-            return Ok(TagPart::Attribute {
-                name,
-                name_len: n,
-                value: at,
-                value_len: 0,
-                next: at + 1,
-            });
+            return Ok(valued(name, at, at));
         }
         if doc[at + 1] == quote {
-            return Ok(TagPart::Attribute {
-                name,
-                name_len: n,
-                value: at,
-                value_len: 1,
-                next: at + 2,
-            });
+            return Ok(valued(name, at, at + 1));
         }
     }
-    quoted_part(doc, name, n, at, quote, place)
+    quoted_part(doc, name, at, quote, place)
 }
 
 /// As `quoted_part`, for a value whose opening quote is due at `at`. Refused with 19 or 20.
-fn value_part(
-    doc: &[u8],
-    name: usize,
-    n: usize,
-    at: usize,
-    place: usize,
-) -> Result<TagPart, Refusal>
-    ensures { result ≡ value_at doc.now name n at place }
+fn value_part(doc: &[u8], name: Range, at: usize, place: usize) -> Result<TagPart, Refusal>
+    ensures { result ≡ value_at doc.now name at place }
 {
     if texts::starts_with(doc, at, b"\"") {
-        return short_or_quoted(doc, name, n, at + 1, b'"', place);
+        return short_or_quoted(doc, name, at + 1, b'"', place);
     }
     if texts::starts_with(doc, at, b"'") {
-        return short_or_quoted(doc, name, n, at + 1, b'\'', place);
+        return short_or_quoted(doc, name, at + 1, b'\'', place);
     }
     Err(Refusal::NoQuote { offset: at, place })
 }
@@ -126,7 +118,11 @@ fn attribute_part(doc: &[u8], at: usize, place: usize) -> Result<TagPart, Refusa
         });
     }
     let value = skip_space(doc, equals + 1);
-    value_part(doc, at, end - at, value, place)
+    let name = Range {
+        from: at,
+        len: end - at,
+    };
+    value_part(doc, name, value, place)
 }
 
 /// The part of a tag behind the spaces at `at`. Refusals (16 to 20) hold `place`, the tag's '<'.
@@ -166,10 +162,14 @@ pub fn quick_part(doc: &[u8], at: usize, place: usize) -> Quick
     if texts::starts_with(doc, at, b" ") {
         let i = at + 1;
         if let Some(known) = known_at(doc, i) {
+            let name = Range {
+                from: i,
+                len: known.skip - 3,
+            };
             let value = at + known.skip;
             return Quick {
                 code: Some(known.code),
-                part: quoted_part(doc, i, known.skip - 3, value, b'"', place),
+                part: quoted_part(doc, name, value, b'"', place),
             };
         }
     }

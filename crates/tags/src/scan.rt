@@ -100,7 +100,7 @@ fn name_stop(doc: &[u8], at: usize) -> usize
 #[derive(Clone, Copy)]
 pub struct Raw {
     pub end: usize,
-    pub lost: usize,
+    pub prefix: usize,
 }
 
 /// The raw name at `at`. One pass finds its end and its colon, so that even a name as long as the
@@ -108,17 +108,21 @@ pub struct Raw {
 #[tactic(auto, using(crate::proofs::Laws::stopping))]
 pub fn raw_name(doc: &[u8], at: usize) -> Raw
     requires { at ≤ length doc.now }
-    ensures { (result.end ≡ scan (until is_tag_name_end) doc.now at) × (result.lost ≡ prefix_length (piece doc.now at (result.end - at))) }
+    ensures end { result.end ≡ scan (until is_tag_name_end) doc.now at }
+    ensures prefix { result.prefix ≡ prefix_length (piece doc.now at (result.end - at)) }
 {
     let stop = name_stop(doc, at);
     if stop < doc.len() {
         if doc[stop] == b':' {
             let end = tag_name_end(doc, stop);
-            let lost = stop - at + 1;
-            return Raw { end, lost };
+            let prefix = stop - at + 1;
+            return Raw { end, prefix };
         }
     }
-    Raw { end: stop, lost: 0 }
+    Raw {
+        end: stop,
+        prefix: 0,
+    }
 }
 
 /// Where the attribute name at `at` ends. "xmlns" is compared as one word, and with '=' behind it

@@ -1,4 +1,4 @@
-//! Whole tags: where they end, and the attributes that are looked up in them.
+//! NotedTag tags: where they end, and the attributes that are looked up in them.
 #![tactic(auto, using(crate::proofs::Laws::laws))]
 
 ghost use Rattle.std.specs.Prelude.{◌≡◌, false, [], ◌+◌, ◌<◌, ◌^◌, ◌≤◌, length};
@@ -11,7 +11,7 @@ ghost use Rattle.tags.specs.internal.Noting.{NotedBy};
 
 use crate::known::codes_of;
 use crate::namespaces::past_declarations;
-use crate::noting::{Notes, RawAttribute, is_declaration, noted_by, noted_one};
+use crate::noting::{Notes, is_declaration, noted_by, noted_one};
 use crate::part::{Ending, Quick, TagPart, quick_part, tag_part};
 use elements::Element;
 use refusals::Refusal;
@@ -19,16 +19,17 @@ use texts::Range;
 
 /// A tag read to its end: how it ends, and what was noted of it.
 #[derive(Clone, Copy)]
-pub struct Whole {
+pub struct NotedTag {
     pub ending: Result<Ending, Refusal>,
     pub noted: Notes,
 }
 
-/// Reads the tag whose attributes begin at `at`: how it ends, and the last raw value under each name
-/// that the element looks up. One namespace declaration is likely followed by others, which are
-/// skipped in a loop of their own.
-pub fn tag_noting(doc: &[u8], at: usize, place: usize, element: Element) -> Whole
-    ensures { (result.ending ≡ (tag_at doc.now at place).ending) × NotedBy (keys_of element) doc.now at result.noted }
+/// Reads the tag whose attributes begin at `at`: how it ends, and the last raw value under each
+/// name that the element looks up. One namespace declaration is likely followed by others, which
+/// are skipped in a loop of their own.
+pub fn tag_noting(doc: &[u8], at: usize, place: usize, element: Element) -> NotedTag
+    ensures ending { result.ending ≡ (tag_at doc.now at place).ending }
+    ensures noted { NotedBy (keys_of element) doc.now at result.noted }
 {
     let codes = codes_of(element);
     let mut i = at;
@@ -37,40 +38,22 @@ pub fn tag_noting(doc: &[u8], at: usize, place: usize, element: Element) -> Whol
     loop {
         let Quick { code, part } = quick_part(doc, i, place);
         match part {
-            Ok(
-                TagPart::Attribute {
-                    name,
-                    name_len,
-                    value,
-                    value_len,
-                    next,
-                },
-            ) => {
-                let a = RawAttribute {
-                    name: Range {
-                        from: name,
-                        len: name_len,
-                    },
-                    value: Range {
-                        from: value,
-                        len: value_len,
-                    },
-                };
+            Ok(TagPart::Attribute(a)) => {
                 if is_declaration(doc, a.name, code) {
-                    i = past_declarations(doc, next);
+                    i = past_declarations(doc, a.next);
                 } else {
                     noted = noted_by(doc, a, code, codes, element, noted);
-                    i = next;
+                    i = a.next;
                 }
             }
             Ok(TagPart::TagEnd(ending)) => {
-                return Whole {
+                return NotedTag {
                     ending: Ok(ending),
                     noted,
                 };
             }
             Err(refusal) => {
-                return Whole {
+                return NotedTag {
                     ending: Err(refusal),
                     noted,
                 };
@@ -90,27 +73,9 @@ pub fn attribute(doc: &[u8], at: usize, name: &[u8]) -> Option<Range>
     loop {
         // Only refusals hold the place, and none leaves this function.
         match tag_part(doc, i, 0) {
-            Ok(
-                TagPart::Attribute {
-                    name: raw,
-                    name_len,
-                    value,
-                    value_len,
-                    next,
-                },
-            ) => {
-                let a = RawAttribute {
-                    name: Range {
-                        from: raw,
-                        len: name_len,
-                    },
-                    value: Range {
-                        from: value,
-                        len: value_len,
-                    },
-                };
+            Ok(TagPart::Attribute(a)) => {
                 noted = noted_one(doc, a, name, noted);
-                i = next;
+                i = a.next;
             }
             Ok(TagPart::TagEnd(_)) => return noted.number(),
             Err(_) => return noted.number(),

@@ -83,23 +83,11 @@ fn name_after(doc: &[u8], at: usize, last: Option<Range>) -> Option<Range> {
     let mut i = at;
     // An attribute takes at least one byte, so `doc.len()` turns suffice.
     for _ in 0..doc.len() {
-        let Ok(
-            TagPart::Attribute {
-                name,
-                name_len,
-                next,
-                ..
-            },
-        ) = tag_part(doc, i, 0)
-        else {
+        let Ok(TagPart::Attribute(a)) = tag_part(doc, i, 0) else {
             return best;
         };
-        let this = Range {
-            from: name,
-            len: name_len,
-        };
-        best = least(doc, last, best, this);
-        i = next;
+        best = least(doc, last, best, a.name);
+        i = a.next;
     }
     best
 }
@@ -148,17 +136,16 @@ fn write_attributes(out: &mut Output<'_>, doc: &[u8], attributes: usize) {
 
 fn write_event(out: &mut Output<'_>, doc: &[u8], event: Event) {
     match event {
-        Event::Text { from, len } => write_text(out, doc, TEXT, Range { from, len }),
+        Event::Text(text) => write_text(out, doc, TEXT, text),
         Event::Open {
             name,
-            name_len,
             attributes,
             next: _,
         } => {
-            write_name(out, OPEN, part(doc, name, name_len));
+            write_name(out, OPEN, part(doc, name.from, name.len));
             write_attributes(out, doc, attributes);
         }
-        Event::Close { name, name_len } => write_name(out, CLOSE, part(doc, name, name_len)),
+        Event::Close { name } => write_name(out, CLOSE, part(doc, name.from, name.len)),
     }
 }
 

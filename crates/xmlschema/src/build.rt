@@ -28,10 +28,9 @@ fn step_value(s: State, w: &mut Work<'_, '_>, told: Told) -> Result<State, Refus
         noted,
     } = told;
     match event {
-        Event::Text { from, len } => Ok(w.on_text(s, from, len)),
+        Event::Text(text) => Ok(w.on_text(s, text.from, text.len)),
         Event::Open {
             name,
-            name_len,
             attributes,
             next,
         } => w.on_open(
@@ -39,14 +38,13 @@ fn step_value(s: State, w: &mut Work<'_, '_>, told: Told) -> Result<State, Refus
             Tag {
                 place,
                 name,
-                len: name_len,
                 element,
                 attributes,
                 next,
                 noted,
             },
         ),
-        Event::Close { name, name_len } => w.on_close(s, place, name, name_len, element),
+        Event::Close { name } => w.on_close(s, place, name, element),
     }
 }
 

@@ -191,9 +191,9 @@ pub record Ready (w : Work) (s : State) (n : ℕ) : Type 0 where
 -- what is known of a tag that was read: where it lies, its element, and what was noted of it
 pub record IsTag (doc : List ℕ) (tag : Tag) : Type 0 where
   pub tagged : Tagged doc tag.attributes tag.next
-  pub named : tag.element ≡ element_of (piece doc tag.name tag.len)
+  pub named : tag.element ≡ element_of (piece doc tag.name.from tag.name.len)
   pub noted : NotedBy (keys_of tag.element) doc tag.attributes tag.noted
-  pub inside : tag.name + tag.len ≤ length doc
+  pub inside : tag.name.from + tag.name.len ≤ length doc
 
 -- how many bytes of the text buffer a tag may take
 abbrev pub room : Tag → ℕ

@@ -19,13 +19,17 @@ use Rattle.saxlite.specs.declared.event.Owed.{Owed}
 use Rattle.saxlite.specs.declared.event.Cursor.{Cursor}
 use Rattle.saxlite.specs.declared.event.Read.{Read}
 
--- an event without notes, behind which the reader goes on at `behind`
+-- an event without notes, behind which the reader goes on at `next`
 abbrev pub bare : Found → Element → ℕ → ℕ → Read
-bare event element place behind = record { told = record { event = event; element = element; place = place; noted = no_notes }; cursor = cursor_at behind }
+bare event element place next =
+    record {
+      told = record { event = event; element = element; place = place; noted = no_notes };
+      cursor = cursor_at next;
+    }
 
 -- where the reader goes on behind an open tag: a self-closed one owes its close
-abbrev pub behind : Ending → Owed → Cursor
-behind ending o = record { at = ending.next; owed = pick ending.self_closed (Some o) None }
+abbrev pub cursor_past : Ending → Owed → Cursor
+cursor_past ending o = record { at = ending.next; owed = pick ending.self_closed (Some o) None }
 
 -- ---- what an answer says of the events that were to come
 
@@ -42,9 +46,9 @@ asked_in doc (Err refusal) = broken refusal
 
 -- how many bytes of the text buffer it may take
 abbrev pub takes : Found → ℕ
-takes (Text from len) = len
-takes (Open name n attributes end) = end - attributes
-takes (Close name n) = 0
+takes (Text at) = at.len
+takes (Open name attributes end) = end - attributes
+takes (Close name) = 0
 
 -- the tag whose attributes begin at one position ends at the other
 pub record Tagged (doc : List ℕ) (attributes end : ℕ) : Type 0 where
@@ -54,26 +58,27 @@ pub record Tagged (doc : List ℕ) (attributes end : ℕ) : Type 0 where
 
 -- where an open tag lies in the document
 abbrev pub Inside : List ℕ → Found → Type 0
-Inside doc (Text from len) = Unit {0}
-Inside doc (Open name n attributes end) = Tagged doc attributes end × (name + n ≤ length doc)
-Inside doc (Close name n) = Unit {0}
+Inside doc (Text at) = Unit {0}
+Inside doc (Open name attributes end) =
+    Tagged doc attributes end × (name.from + name.len ≤ length doc)
+Inside doc (Close name) = Unit {0}
 
 -- the element of a tag is that of its local name
 abbrev pub IsElement : List ℕ → Found → Element → Type 0
-IsElement doc (Open name n attributes end) element = element ≡ element_of (piece doc name n)
-IsElement doc (Close name n) element = element ≡ element_of (piece doc name n)
-IsElement doc (Text from len) element = Unit {0}
+IsElement doc (Open name attributes end) e = e ≡ element_of (piece doc name.from name.len)
+IsElement doc (Close name) e = e ≡ element_of (piece doc name.from name.len)
+IsElement doc (Text at) e = Unit {0}
 
 -- the notes of an open tag: the values of the four names that its element looks up
 abbrev pub NotedIn : List ℕ → Found → Element → Notes → Type 0
-NotedIn doc (Open name n attributes end) element noted = NotedBy (keys_of element) doc attributes noted
-NotedIn doc (Text from len) element noted = Unit {0}
-NotedIn doc (Close name n) element noted = Unit {0}
+NotedIn doc (Open name attributes end) e noted = NotedBy (keys_of e) doc attributes noted
+NotedIn doc (Text at) e noted = Unit {0}
+NotedIn doc (Close name) e noted = Unit {0}
 
 -- the element of an owed close too
 abbrev pub OwedElement : List ℕ → Option Owed → Type 0
 OwedElement doc None = Unit {0}
-OwedElement doc (Some o) = o.element ≡ element_of (piece doc o.name o.len)
+OwedElement doc (Some o) = o.element ≡ element_of (piece doc o.name.from o.name.len)
 
 -- a cursor as readers have it, from the document's first byte on
 pub record CursorIn (doc : List ℕ) (c : Cursor) : Type 0 where

@@ -7,7 +7,7 @@ use Rattle.tags.specs.Attributes.{tag_at}
 
 -- where an attribute ends; `at` for any other part
 abbrev pub next_of : Result TagPart Refusal → ℕ → ℕ
-next_of (Ok (Part name n value len next)) at = next
+next_of (Ok (Part a)) at = a.next
 next_of (Ok (TagEnd ending)) at = at
 next_of (Err refusal) at = at
 

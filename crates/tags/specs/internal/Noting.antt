@@ -1,4 +1,4 @@
--- What is noted of a tag as it is read: the last values of the four names that its element looks up.
+-- What is noted of a tag as it is read: the last values under the names that its element looks up.
 use Rattle.std.specs.Prelude.{◌≡◌, List, ℕ, zero, suc, ◌+◌, Option, Some, None}
 use Rattle.texts.specs.Choice.{pick}
 use Rattle.texts.specs.Text.{same}
@@ -7,7 +7,8 @@ use Rattle.elements.specs.Keys.{Keys}
 use Rattle.tags.specs.declared.noting.Notes.{Notes}
 use Rattle.tags.specs.declared.noting.Named.{Named}
 use Rattle.tags.specs.Names.{local_name, is_xmlns}
-use Rattle.tags.specs.Attributes.{later, attribute_at}
+use Rattle.tags.specs.declared.part.RawAttribute.{RawAttribute}
+use Rattle.tags.specs.Attributes.{raw_name, later, attribute_at}
 
 -- ---- what notes hold
 
@@ -53,21 +54,25 @@ pub record NotedBy (k : Keys) (doc : List ℕ) (at : ℕ) (noted : Notes) : Type
 -- ---- what one attribute adds
 
 -- an attribute's value, if its local name is `key` and its raw name declares no namespace
-abbrev pub value_if_named : List ℕ → ℕ → ℕ → List ℕ → Option Range
-value_if_named raw value len key =
+abbrev pub value_if_named : List ℕ → Range → List ℕ → Option Range
+value_if_named raw value key =
     pick (is_xmlns raw) None
-    (pick (same (local_name raw) key) (Some (record { from = value; len = len })) None)
+    (pick (same (local_name raw) key) (Some value) None)
 
 -- with that value, if it counts, what was found is r
-abbrev pub Adds : List ℕ → ℕ → ℕ → List ℕ → Option Range → Option Range → Type 0
-Adds raw value len key was r = r ≡ later (value_if_named raw value len key) was
+abbrev pub FoundMore : List ℕ → Range → List ℕ → Option Range → Option Range → Type 0
+FoundMore raw value key was r = r ≡ later (value_if_named raw value key) was
 
 -- r are the notes `was` with one more attribute, of that raw name, under the four names
-pub record NotedMore (raw : List ℕ) (value len : ℕ) (k : Keys) (was r : Notes) : Type 0 where
-  pub number : Adds raw value len k.number (number_in was) (number_in r)
-  pub name : Adds raw value len k.name (name_in was) (name_in r)
-  pub second : Adds raw value len k.second (second_in was) (second_in r)
-  pub encoding : Adds raw value len k.encoding (encoding_in was) (encoding_in r)
+pub record NotedMore (raw : List ℕ) (value : Range) (k : Keys) (was r : Notes) : Type 0 where
+  pub number : FoundMore raw value k.number (number_in was) (number_in r)
+  pub name : FoundMore raw value k.name (name_in was) (name_in r)
+  pub second : FoundMore raw value k.second (second_in was) (second_in r)
+  pub encoding : FoundMore raw value k.encoding (encoding_in was) (encoding_in r)
+
+-- with the attribute a
+abbrev pub NotedWith : List ℕ → RawAttribute → Keys → Notes → Notes → Type 0
+NotedWith doc a k was r = NotedMore (raw_name doc a) a.value k was r
 
 -- the notes with a value under each name that an attribute has
 abbrev pub with_value : Named → Range → Notes → Notes

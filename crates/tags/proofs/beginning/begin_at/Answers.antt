@@ -4,5 +4,5 @@ use Rattle.tags.proofs.beginning.begin_at.Goals as goal
 pub returns-in-Some : goal.returns-in-Some
 returns-in-Some c = known-begins c.args.doc.now c.args.name c.in-Some.ensures space-ends
 
-pub returns-in-Some-opening_short : goal.returns-in-Some-opening_short
-returns-in-Some-opening_short c = known-begins c.args.doc.now c.args.name c.in-Some-opening_short.ensures bracket-ends
+pub returns-in-Some-usual_short : goal.returns-in-Some-usual_short
+returns-in-Some-usual_short c = known-begins c.args.doc.now c.args.name c.in-Some-usual_short.ensures bracket-ends

@@ -9,11 +9,11 @@ use Rattle.tags.proofs.tag.tag_noting.Goals as goal
 pub noted_by-noted-requires : goal.noted_by-noted-requires
 noted_by-noted-requires c = let f = c.in-Ok-Attribute.is ∙ ap Ok (rw c.in-Ok-Attribute.is at c.in-Ok-Attribute.field-0-is) in search laws
 
-pub loop-name-smaller : goal.loop-name-smaller
-loop-name-smaller c = let f = c.in-Ok-Attribute.is ∙ ap Ok (rw c.in-Ok-Attribute.is at c.in-Ok-Attribute.field-0-is) in search laws
+pub loop-a-smaller : goal.loop-a-smaller
+loop-a-smaller c = let f = c.in-Ok-Attribute.is ∙ ap Ok (rw c.in-Ok-Attribute.is at c.in-Ok-Attribute.field-0-is) in search laws
 
-pub loop-name-preserved : goal.loop-name-preserved
-loop-name-preserved c =
+pub loop-a-preserved : goal.loop-a-preserved
+loop-a-preserved c =
     let f = c.in-Ok-Attribute.is ∙ ap Ok (rw c.in-Ok-Attribute.is at c.in-Ok-Attribute.field-0-is) in
     (search laws, search laws, search laws, search laws)
 
@@ -23,15 +23,15 @@ returns-in-Ok-TagEnd c = let f = c.in-Ok-TagEnd.is ∙ ap Ok (rw c.in-Ok-TagEnd.
 pub returns-in-Err : goal.returns-in-Err
 returns-in-Err c = search laws
 
-pub loop-name-smaller-then-is_declaration : goal.loop-name-smaller-then-is_declaration
-loop-name-smaller-then-is_declaration c =
+pub loop-a-smaller-then-is_declaration : goal.loop-a-smaller-then-is_declaration
+loop-a-smaller-then-is_declaration c =
     let f = c.in-Ok-Attribute.is ∙ ap Ok (rw c.in-Ok-Attribute.is at c.in-Ok-Attribute.field-0-is) in
     omega (arith, quick-less _ c.args.at _ _ c.quick_part-code.ensures f, c.past_declarations-i.ensures.forward)
 
-pub loop-name-preserved-then-is_declaration : goal.loop-name-preserved-then-is_declaration
-loop-name-preserved-then-is_declaration c =
+pub loop-a-preserved-then-is_declaration : goal.loop-a-preserved-then-is_declaration
+loop-a-preserved-then-is_declaration c =
     let f = c.in-Ok-Attribute.is ∙ ap Ok (rw c.in-Ok-Attribute.is at c.in-Ok-Attribute.field-0-is) in
     let q = c.quick_part-code.ensures in
-    let m = declares-more c.args.doc.now c.in-Ok-Attribute.name c.in-Ok-Attribute.name_len _ _ _ c.loop-name.noted (sym (c.is_declaration.ensures.yes c.if-is_declaration.true)) refl in
+    let m = declares-more _ _ _ c.loop-a.noted (sym (c.is_declaration.ensures.yes c.if-is_declaration.true)) refl in
     let u = c.past_declarations-i.ensures in
-    (going-past (quick-on _ _ _ _ q c.loop-name.invariant.0 f) u, all-past (all-on _ _ _ _ q c.loop-name.invariant.1 f m) u, c.loop-name.invariant.2, c.loop-name.invariant.3)
+    (going-past (quick-on _ _ _ _ q c.loop-a.invariant.0 f) u, all-past (all-on _ _ _ _ q c.loop-a.invariant.1 f m) u, c.loop-a.invariant.2, c.loop-a.invariant.3)

@@ -7,25 +7,25 @@ use Rattle.texts.specs.Text.{ascii, starts_with}
 use Rattle.swar.specs.Word.{word_of}
 use Rattle.swar.specs.internal.Standing.{ShortText, LongText, StandsShort, StandsLong}
 use Rattle.swar.proofs.Standing.{power-some}
-use Rattle.tags.specs.internal.Known.{known_name, known_text, IsKnown, ToldShort, ToldLong, ToldText}
+use Rattle.tags.specs.internal.Known.{known_name, known_text, IsKnown, KnownShort, KnownLong, KnownText}
 
 -- ---- the comparison with one name
 
 module _ (doc : List ℕ) (at : ℕ) {code skip : ℕ} {b : Bool} where
-  pub known-short : {modulus front : ℕ} → StandsShort doc at modulus front b → ToldShort code skip modulus front → b ≡ true → IsKnown doc at (record { code = code; skip = skip })
+  pub known-short : {modulus front : ℕ} → StandsShort doc at modulus front b → KnownShort code skip modulus front → b ≡ true → IsKnown doc at (record { code = code; skip = skip })
   known-short s t e = record { above = t.above; below = t.below; stands = sym (s.is (known_text code) t.text) ∙ e; ahead = t.ahead }
 
-  pub known-long : {front modulus back : ℕ} → StandsLong doc at front modulus back b → ToldLong code skip front modulus back → b ≡ true → IsKnown doc at (record { code = code; skip = skip })
+  pub known-long : {front modulus back : ℕ} → StandsLong doc at front modulus back b → KnownLong code skip front modulus back → b ≡ true → IsKnown doc at (record { code = code; skip = skip })
   known-long s t e = record { above = t.above; below = t.below; stands = sym (s.is (known_text code) t.text) ∙ e; ahead = t.ahead }
 
-  pub known-whole : {text : List ℕ} → b ≡ starts_with text (drop at doc) → ToldText code skip text → b ≡ true → IsKnown doc at (record { code = code; skip = skip })
+  pub known-whole : {text : List ℕ} → b ≡ starts_with text (drop at doc) → KnownText code skip text → b ≡ true → IsKnown doc at (record { code = code; skip = skip })
   known-whole e t v = record { above = t.above; below = t.below; stands = rw t.text at (sym e ∙ v); ahead = t.ahead }
 
-pub told-encoding : ToldText 7 20 (ascii "characterEncoding=\"")
-told-encoding = record { above = lit< tt; below = lit< tt; ahead = refl; text = refl }
+pub is-encoding : KnownText 7 20 (ascii "characterEncoding=\"")
+is-encoding = record { above = lit< tt; below = lit< tt; ahead = refl; text = refl }
 
-pub told-semanticversion : ToldText 17 18 (ascii "semanticVersion=\"")
-told-semanticversion = record { above = lit< tt; below = lit< tt; ahead = refl; text = refl }
+pub is-semanticversion : KnownText 17 18 (ascii "semanticVersion=\"")
+is-semanticversion = record { above = lit< tt; below = lit< tt; ahead = refl; text = refl }
 
 -- ---- a known text by its numbers, which a computation tests
 
@@ -79,20 +79,20 @@ module _ (code skip : ℕ) (t : T (known-code code skip)) where
   ahead = eqb-true skip _ (is_true _ (and_right (leb (code + 1) 18) _ (and_right (leb 1 code) _ t)))
 
 module _ {code skip : ℕ} where
-  pub told-short : {modulus front : ℕ} → T (known-code code skip and short-fits (known_text code) modulus front) → ToldShort code skip modulus front
-  told-short t =
+  pub is-short : {modulus front : ℕ} → T (known-code code skip and short-fits (known_text code) modulus front) → KnownShort code skip modulus front
+  is-short t =
       let c = and_left (known-code code skip) _ t in
       record { above = above code skip c; below = below code skip c; ahead = ahead code skip c; text = short-text (known_text code) _ _ (and_right (known-code code skip) _ t) }
 
-  pub told-long : {front modulus back : ℕ} → T (known-code code skip and long-fits (known_text code) front modulus back) → ToldLong code skip front modulus back
-  told-long t =
+  pub is-long : {front modulus back : ℕ} → T (known-code code skip and long-fits (known_text code) front modulus back) → KnownLong code skip front modulus back
+  is-long t =
       let c = and_left (known-code code skip) _ t in
       record { above = above code skip c; below = below code skip c; ahead = ahead code skip c; text = long-text (known_text code) _ _ _ (and_right (known-code code skip) _ t) }
 
 -- a power of 256 is not 0
 module _ {code skip modulus : ℕ} where
-  pub short-power : {front : ℕ} → ToldShort code skip modulus front → 0 < modulus
+  pub short-power : {front : ℕ} → KnownShort code skip modulus front → 0 < modulus
   short-power t = power-some t.text
 
-  pub long-power : {front back : ℕ} → ToldLong code skip front modulus back → 0 < modulus
+  pub long-power : {front back : ℕ} → KnownLong code skip front modulus back → 0 < modulus
   long-power t = power-some t.text.rest
