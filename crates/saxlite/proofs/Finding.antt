@@ -1,20 +1,18 @@
 -- Laws of finding where markup ends: searches, positions one by one, and scans for one byte.
 use Rattle.std.proofs.Common.{Option, Some, None, ◌≡◌, refl, sym, ap, ◌∙◌, Bool, true, false, not, List, [], ◌∷◌, ◌++◌, ℕ, zero, suc, ◌+◌, ◌-◌, ◌%◌, ◌≤◌, ◌<◌, arith, add-zero, T, eqb, ltb, lit<, length, take, drop, get_or, drop_of_length-le, length-drop, drop-cons, drop-drop, rules, eq-eqb, ne_eqb, ltb-true, ltb-false}
 use Rattle.texts.specs.Choice.{◌and◌}
-use Rattle.texts.specs.Text.{ascii, piece, starts_with}
+use Rattle.texts.specs.Text.{ascii, starts_with}
 use Rattle.texts.specs.Scan.{count_while, scan, until, is}
 use Rattle.texts.proofs.Choosing.{by-test}
 use Rattle.texts.proofs.Comparing.{starts-yes, starts-no, starts-append, front-is}
 use Rattle.texts.proofs.Scanning.{Scanning, scan-start, byte-on, byte-stop, count_yes, count_no}
-use lib.Pow.{are_bytes}
-use Rattle.swar.specs.Word.{word_of, IsHalf}
-use Rattle.swar.proofs.Digits.{word-tells, bytes-are}
 use Rattle.swar.specs.internal.Standing.{ShortText, StandsShort, Lacks}
 use Rattle.swar.proofs.Standing.{power-some}
 use Rattle.swar.proofs.Pairing.{lacks-start}
-use Rattle.tags.specs.Find.{find_in, find_from}
-use Rattle.tags.proofs.Searching.{byte-stands, find-here, find-next, find_none, search-start, search-on, found_from, found_inside, found-past}
+use Rattle.tags.specs.Find.{find_from}
+use Rattle.tags.proofs.Searching.{byte-stands, find-here, find_none, search-start, search-on, found_from, found_inside, found-past}
 use Rattle.saxlite.specs.internal.Passing.{Stands, FoundAt, FirstAt, EndsAt}
+use Rattle.saxlite.proofs.Integers.{comment-begins, short-comment-end, short-instruction-end, short-declaration-end}
 
 -- ---- a search goes on where the needle does not stand
 
@@ -126,58 +124,6 @@ module _ {x y : ℕ} {doc : List ℕ} {i : ℕ} (h : i + 2 ≤ length doc) where
 
 -- ---- a scan for one byte
 
-count-found : (b : ℕ) (s : List ℕ) (k : ℕ) → count_while (until (is b)) s < length s → find_in (b ∷ []) s k ≡ Some (k + count_while (until (is b)) s)
-unfolding starts_with
-count-found b [] k h = absurd (omega arith)
-count-found b (x ∷ s) k h =
-    by-test (eqb x b)
-    (λ t. rw (count_no (until (is b)) x s (ap not t), add-zero) (find-here (b ∷ []) (x ∷ s) k (starts-yes b x [] s t)))
-    (λ f. let c = count_yes (until (is b)) x s (ap not f) in
-    let z : k + 1 + count_while (until (is b)) s ≡ k + suc (count_while (until (is b)) s) = omega arith in
-    rw c (find-next (b ∷ []) x s k (starts-no b x [] s f) ∙ count-found b s (k + 1) (omega (arith, c)) ∙ ap Some z))
-
-count-nowhere : (b : ℕ) (s : List ℕ) (k : ℕ) → length s ≤ count_while (until (is b)) s → find_in (b ∷ []) s k ≡ None
-unfolding starts_with
-count-nowhere b [] k h = find_none (b ∷ []) k refl
-count-nowhere b (x ∷ s) k h =
-    by-test (eqb x b)
-    (λ t. absurd (omega (arith, count_no (until (is b)) x s (ap not t))))
-    (λ f. find-next (b ∷ []) x s k (starts-no b x [] s f) ∙ count-nowhere b s (k + 1) (omega (arith, count_yes (until (is b)) x s (ap not f))))
-
-pub scan-found : (b : ℕ) (doc : List ℕ) (from : ℕ) {r : ℕ} → r ≡ scan (until (is b)) doc from → FoundAt (b ∷ []) doc from r
-scan-found b doc from {r} e =
-    record {
-      is = λ h. count-found b (drop from doc) from (omega (arith, length-drop from doc)) ∙ ap Some (sym e);
-      none = λ h. count-nowhere b (drop from doc) from (omega (arith, length-drop from doc));
-    }
-
--- ---- four bytes
-
-front-stands : (t u : List ℕ) → take (length t) u ≡ t → starts_with t u ≡ true
-unfolding starts_with
-front-stands [] u e = refl
-front-stands (n ∷ t) [] e = absurd (let z : ◌≡◌ {A = ℕ} 0 1 = omega (arith, ap length e) in omega arith)
-front-stands (n ∷ t) (x ∷ u) e =
-    let p : x ≡ n = cc in
-    let q : take (length t) u ≡ t = cc in
-    starts-yes n x t u (eq-eqb x n p) ∙ front-stands t u q
-
-module _ (t : List ℕ) (b : T (are_bytes t)) (four : length t ≡ 4) (doc : List ℕ) (i : ℕ) {w : ℕ} (h : IsHalf (piece doc i 4) w) where
-  four-stand : eqb w (word_of t) ≡ starts_with t (drop i doc)
-  four-stand =
-      by-test (starts_with t (drop i doc))
-      (λ y. eq-eqb w (word_of t) (h.is ∙ ap word_of (ap (λ (n : ℕ). take n (drop i doc)) (sym four) ∙ front-is t (drop i doc) y)) ∙ sym y)
-      (λ f. ne_eqb w (word_of t) (λ e.
-      let same : piece doc i 4 ≡ t = word-tells (piece doc i 4) t (h.four ∙ sym four) h.bytes (bytes-are t b) (sym h.is ∙ e) in
-      let z : ◌≡◌ {A = ℕ} 0 1 = cc (front-stands t (drop i doc) (ap (λ (n : ℕ). take n (drop i doc)) four ∙ same)) in omega arith)
-      ∙ sym f)
-
-pub comment-begins : {doc : List ℕ} {i w : ℕ} → IsHalf (piece doc i 4) w → Stands (ascii "<!--") doc i (eqb w 757932348)
-unfolding word_of
-comment-begins {doc} {i} h = record { is = sym (four-stand (ascii "<!--") tt refl doc i h) }
-
--- ---- by the last byte
-
 -- it does not stand before the first position of a byte, and there it does
 module _ (x : ℕ) where
   unmet : (s : List ℕ) (m : ℕ) → m < count_while (until (is x)) s → starts_with (x ∷ []) (drop m s) ≡ false
@@ -199,6 +145,35 @@ module _ (x : ℕ) where
       (λ t. rw (count_no (until (is x)) b s (ap not t)) (starts-yes x b [] s t))
       (λ f. rw (count_yes (until (is x)) b s (ap not f)) (met s (omega (arith, count_yes (until (is x)) b s (ap not f)))))
 
+module _ (x : ℕ) (doc : List ℕ) (from : ℕ) {due : ℕ} (e : due ≡ scan (until (is x)) doc from) where
+  scan-lacks : Lacks (x ∷ []) doc from due
+  scan-lacks =
+      record {
+        forward = omega (arith, e);
+        none = λ k a b.
+            let z : from + (k - from) ≡ k = omega (arith, a) in
+            ap (λ (j : ℕ). starts_with (x ∷ []) (drop j doc)) (sym z)
+            ∙ ap (starts_with (x ∷ [])) (sym (drop-drop (k - from) from doc))
+            ∙ unmet x (drop from doc) (k - from) (omega (arith, e));
+      }
+
+  scan-stands : due < length doc → starts_with (x ∷ []) (drop due doc) ≡ true
+  scan-stands h =
+      ap (λ (j : ℕ). starts_with (x ∷ []) (drop j doc)) e
+      ∙ ap (starts_with (x ∷ [])) (sym (drop-drop (count_while (until (is x)) (drop from doc)) from doc))
+      ∙ met x (drop from doc) (omega (arith, e, length-drop from doc))
+
+  pub scan-found : FoundAt (x ∷ []) doc from due
+  unfolding starts_with
+  scan-found =
+      lacks-found scan-lacks
+      (record {
+        is = λ h. find-here (x ∷ []) (drop due doc) due (scan-stands h);
+        none = λ h. rw (drop_of_length-le doc h) (find_none (x ∷ []) due refl);
+      })
+
+-- ---- by the last byte
+
 -- a text in two parts
 parts : (w : List ℕ) (x : ℕ) (doc : List ℕ) (k : ℕ) → starts_with (w ++ (x ∷ [])) (drop k doc) ≡ (starts_with w (drop k doc) and starts_with (x ∷ []) (drop (k + length w) doc))
 parts w x doc k = starts-append w (x ∷ []) (drop k doc) ∙ ap (λ (u : List ℕ). starts_with w (drop k doc) and starts_with (x ∷ []) u) (drop-drop (length w) k doc)
@@ -210,24 +185,14 @@ module _ (w : List ℕ) (x : ℕ) (doc : List ℕ) (from : ℕ) {due : ℕ} (e :
       record {
         forward = omega (arith, e);
         none = λ k a b.
-            let z : from + length w + (k - from) ≡ k + length w = omega (arith, a) in
-            let f : starts_with (x ∷ []) (drop (k + length w) doc) ≡ false =
-            ap (λ (j : ℕ). starts_with (x ∷ []) (drop j doc)) (sym z)
-            ∙ ap (starts_with (x ∷ [])) (sym (drop-drop (k - from) (from + length w) doc))
-            ∙ unmet x (drop (from + length w) doc) (k - from) (omega (arith, e))
-            in
+            let f : starts_with (x ∷ []) (drop (k + length w) doc) ≡ false = (scan-lacks x doc (from + length w) e).none (k + length w) (omega arith) (omega arith) in
             parts w x doc k ∙ by-test (starts_with w (drop k doc)) (λ t. rw (t, f)) (λ g. rw g);
       }
 
   due-stands : due < length doc → starts_with w (drop (due - length w) doc) ≡ true → starts_with (w ++ (x ∷ [])) (drop (due - length w) doc) ≡ true
   due-stands h t =
-      let m = count_while (until (is x)) (drop (from + length w) doc) in
-      let z : due - length w + length w ≡ from + length w + m = omega (arith, e) in
-      let f : starts_with (x ∷ []) (drop (due - length w + length w) doc) ≡ true =
-      ap (λ (j : ℕ). starts_with (x ∷ []) (drop j doc)) z
-      ∙ ap (starts_with (x ∷ [])) (sym (drop-drop m (from + length w) doc))
-      ∙ met x (drop (from + length w) doc) (omega (arith, e, length-drop (from + length w) doc))
-      in
+      let z : due - length w + length w ≡ due = omega (arith, e) in
+      let f : starts_with (x ∷ []) (drop (due - length w + length w) doc) ≡ true = rw z (scan-stands x doc (from + length w) e h) in
       parts w x doc (due - length w) ∙ rw (t, f)
 
   due-here : due < length doc → starts_with w (drop (due - length w) doc) ≡ true → FoundAt (w ++ (x ∷ [])) doc from (due - length w)
@@ -309,19 +274,5 @@ module _ {doc : List ℕ} {from : ℕ} {o : Option ℕ} {due : ℕ} where
 -- what the loop over the first positions keeps
 abbrev pub Nearby : (doc : List ℕ) (at stop i : ℕ) → Type 0
 Nearby doc at stop i = Scanning (until (is 62)) doc at i × ((stop - i) % 4 ≡ 0) × (stop + 8 ≤ length doc)
-
--- ---- the texts as integers
-
-pub short-comment-end : ShortText (ascii "-->") 16777216 4074797
-unfolding word_of
-short-comment-end = record { few = lit< tt; power = refl; number = refl; bytes = tt }
-
-pub short-instruction-end : ShortText (ascii "?>") 65536 15935
-unfolding word_of
-short-instruction-end = record { few = lit< tt; power = refl; number = refl; bytes = tt }
-
-pub short-declaration-end : ShortText (ascii ">") 256 62
-unfolding word_of
-short-declaration-end = record { few = lit< tt; power = refl; number = refl; bytes = tt }
 
 pub ruleset finding = (ends-here, ends-later, dashes-stand, dashes-not, comment-begins, scan-start, byte-on, byte-stop, first-some, first-none, first-rest, ends-none, lacks-start, lacks-here, comment-ends, comment-later, instruction-ends, instruction-later, pair-yes, pair-no, lacks-one, lacks-two, lacks-three, lacks-four, lacks-found, occurs-found, nowhere-found, short-stands, scan-found, short-comment-end, short-instruction-end, short-declaration-end, power-some, rules)
