@@ -2,10 +2,10 @@
 use Rattle.std.proofs.Common.{◌≡◌, refl, sym, ap, ◌∙◌, true, List, [], ◌∷◌, ℕ, arith, T, eqb, lit<, length, take, drop, eq-eqb, ne_eqb}
 use Rattle.texts.specs.Text.{ascii, piece, starts_with}
 use Rattle.texts.proofs.Choosing.{by-test}
-use Rattle.texts.proofs.Comparing.{starts-yes}
+use Rattle.texts.proofs.Comparing.{starts-yes, front-is}
 use lib.Pow.{are_bytes}
 use Rattle.swar.specs.Word.{word_of, IsHalf}
-use Rattle.swar.proofs.Digits.{word-tells, bytes-are, front-is}
+use Rattle.swar.proofs.Digits.{word-tells, bytes-are}
 use Rattle.swar.specs.internal.Standing.{ShortText}
 use Rattle.saxlite.specs.internal.Passing.{Stands}
 
