@@ -4,7 +4,7 @@ use Rattle.texts.specs.Choice.{◌and◌}
 use Rattle.texts.specs.Text.{ascii, starts_with}
 use Rattle.texts.specs.Scan.{count_while, scan, until, is}
 use Rattle.texts.proofs.Choosing.{by-test}
-use Rattle.texts.proofs.Comparing.{starts-yes, starts-no, starts-append, front-is}
+use Rattle.texts.proofs.Comparing.{starts-yes, starts-no, starts-append}
 use Rattle.texts.proofs.Scanning.{Scanning, scan-start, byte-on, byte-stop, count_yes, count_no}
 use Rattle.swar.specs.internal.Standing.{ShortText, StandsShort, Lacks}
 use Rattle.swar.proofs.Standing.{power-some}
