@@ -5,12 +5,12 @@
 #![tactic(auto, using(crate::proofs::Laws::opening))]
 
 ghost use Rattle.std.specs.Prelude.{◌≡◌};
-ghost use Rattle.texts.specs.Text.{piece};
 ghost use Rattle.elements.specs.Keys.{schema_keys, type_keys, enum_keys, field_keys, keys_of};
-ghost use Rattle.saxlite.specs.Event.{attributes_in};
-ghost use Rattle.builder.specs.Builder.{open_schema, open_type, open_ref, open_composite, open_enum, open_value, open_message, open_group, open_field, open_by, opened};
-ghost use Rattle.builder.specs.internal.Layout.{builder_in, parent_composite, room, Ready, IsTag, After};
-ghost use Rattle.builder.specs.internal.Taking.{attributes_of, ReadyToOpen};
+ghost use Rattle.builder.specs.Builder.{open_schema, open_type, open_ref, open_composite, open_enum};
+ghost use Rattle.builder.specs.Builder.{open_value, open_message, open_group, open_field};
+ghost use Rattle.builder.specs.Builder.{open_by, opened};
+ghost use Rattle.builder.specs.internal.Layout.{room, Ready, IsTag};
+ghost use Rattle.builder.specs.internal.Taking.{name_of, inside, of_name, OpensBy, ReadyToOpen};
 
 use crate::state::{Current, State, Usage};
 use crate::take::{Draft, take_value};
@@ -23,7 +23,7 @@ impl<'d, 'a> Work<'d, 'a> {
     /// messageSchema: sets package, id and version.
     fn open_schema(&mut self, s: State, tag: &Tag) -> Result<State, Refusal>
         requires { ReadyToOpen schema_keys self.old s tag.now }
-        ensures { After (open_schema tag.now.place (attributes_of self.old tag.now) (builder_in self.old s)) self.old s (room tag.now) self.new result }
+        ensures { OpensBy (λ l. open_schema) self.old s tag.now self.new result }
     {
         let found = tag.found();
         let id = self.number(s, tag, found.number)?;
@@ -47,7 +47,7 @@ impl<'d, 'a> Work<'d, 'a> {
     /// type: adds a type, or inside a composite a member of the current one, if there is one.
     fn open_type(&mut self, s: State, tag: &Tag) -> Result<State, Refusal>
         requires { ReadyToOpen type_keys self.old s tag.now }
-        ensures { After (open_type self.old.limits tag.now.place (parent_composite (builder_in self.old s)) (attributes_of self.old tag.now) (builder_in self.old s)) self.old s (room tag.now) self.new result }
+        ensures { OpensBy (inside open_type) self.old s tag.now self.new result }
     {
         let found = tag.found();
         let number = self.number(s, tag, found.number)?;
@@ -73,7 +73,7 @@ impl<'d, 'a> Work<'d, 'a> {
     /// ref: adds a ref of the current composite, if there is one.
     fn open_ref(&mut self, s: State, tag: &Tag) -> Result<State, Refusal>
         requires { ReadyToOpen field_keys self.old s tag.now }
-        ensures { After (open_ref self.old.limits tag.now.place (attributes_of self.old tag.now) (builder_in self.old s)) self.old s (room tag.now) self.new result }
+        ensures { OpensBy open_ref self.old s tag.now self.new result }
     {
         let Some(owner) = s.current.composite else {
             return Ok(s);
@@ -86,7 +86,7 @@ impl<'d, 'a> Work<'d, 'a> {
     /// composite: adds it and makes it current.
     fn open_composite(&mut self, s: State, tag: &Tag) -> Result<State, Refusal>
         requires { ReadyToOpen field_keys self.old s tag.now }
-        ensures { After (open_composite self.old.limits tag.now.place (attributes_of self.old tag.now) (builder_in self.old s)) self.old s (room tag.now) self.new result }
+        ensures { OpensBy open_composite self.old s tag.now self.new result }
     {
         let found = tag.found();
         let d = Draft::new(model::COMPOSITE, 0, 0, found.name, None);
@@ -100,7 +100,7 @@ impl<'d, 'a> Work<'d, 'a> {
     /// enum: adds it and makes it current.
     fn open_enum(&mut self, s: State, tag: &Tag) -> Result<State, Refusal>
         requires { ReadyToOpen enum_keys self.old s tag.now }
-        ensures { After (open_enum self.old.limits tag.now.place (attributes_of self.old tag.now) (builder_in self.old s)) self.old s (room tag.now) self.new result }
+        ensures { OpensBy open_enum self.old s tag.now self.new result }
     {
         let found = tag.found();
         let d = Draft::new(model::ENUM, 0, 0, found.name, found.second);
@@ -114,7 +114,7 @@ impl<'d, 'a> Work<'d, 'a> {
     /// validValue: empties the collected text; in a current enum adds a value and collects text.
     fn open_value(&mut self, s: State, tag: &Tag) -> Result<State, Refusal>
         requires { ReadyToOpen field_keys self.old s tag.now }
-        ensures { After (open_value self.old.limits tag.now.place (attributes_of self.old tag.now) (builder_in self.old s)) self.old s (room tag.now) self.new result }
+        ensures { OpensBy open_value self.old s tag.now self.new result }
     {
         let usage = Usage {
             collected_from: s.usage.collected_to,
@@ -143,7 +143,7 @@ impl<'d, 'a> Work<'d, 'a> {
     /// message: adds it and makes it current.
     fn open_message(&mut self, s: State, tag: &Tag) -> Result<State, Refusal>
         requires { ReadyToOpen field_keys self.old s tag.now }
-        ensures { After (open_message self.old.limits tag.now.place (attributes_of self.old tag.now) (builder_in self.old s)) self.old s (room tag.now) self.new result }
+        ensures { OpensBy open_message self.old s tag.now self.new result }
     {
         let found = tag.found();
         let id = self.number(s, tag, found.number)?;
@@ -158,7 +158,7 @@ impl<'d, 'a> Work<'d, 'a> {
     /// group: adds it to the current message and makes it current; without one only reads its id.
     fn open_group(&mut self, s: State, tag: &Tag) -> Result<State, Refusal>
         requires { ReadyToOpen field_keys self.old s tag.now }
-        ensures { After (open_group self.old.limits tag.now.place (attributes_of self.old tag.now) (builder_in self.old s)) self.old s (room tag.now) self.new result }
+        ensures { OpensBy open_group self.old s tag.now self.new result }
     {
         let found = tag.found();
         let id = self.number(s, tag, found.number)?;
@@ -177,7 +177,7 @@ impl<'d, 'a> Work<'d, 'a> {
     /// is one. Refused (33) if the current group was opened under another message.
     fn open_field(&mut self, s: State, tag: &Tag) -> Result<State, Refusal>
         requires { ReadyToOpen field_keys self.old s tag.now }
-        ensures { After (open_field self.old.limits tag.now.place (attributes_of self.old tag.now) (builder_in self.old s)) self.old s (room tag.now) self.new result }
+        ensures { OpensBy open_field self.old s tag.now self.new result }
     {
         let found = tag.found();
         let id = self.number(s, tag, found.number)?;
@@ -199,7 +199,7 @@ impl<'d, 'a> Work<'d, 'a> {
     /// Opens the tag's element, whose name is pushed already.
     fn open_by(&mut self, s: State, tag: &Tag) -> Result<State, Refusal>
         requires { ReadyToOpen (keys_of tag.now.element) self.old s tag.now }
-        ensures { After (open_by tag.now.element self.old.limits tag.now.place (parent_composite (builder_in self.old s)) (attributes_of self.old tag.now) (builder_in self.old s)) self.old s (room tag.now) self.new result }
+        ensures { OpensBy (inside (open_by tag.now.element)) self.old s tag.now self.new result }
     {
         match tag.element {
             Element::MessageSchema => self.open_schema(s, tag),
@@ -218,7 +218,7 @@ impl<'d, 'a> Work<'d, 'a> {
     /// Takes an open tag: pushes its name, then opens its element. Refused (34) at the depth limit.
     pub fn on_open(&mut self, s: State, tag: Tag) -> Result<State, Refusal>
         requires { Ready self.old s (room tag) × IsTag self.old.doc.now tag }
-        ensures { After (opened self.old.limits tag.place (piece self.old.doc.now tag.name.from tag.name.len) (attributes_in self.old.doc.now tag.attributes) (builder_in self.old s)) self.old s (room tag) self.new result }
+        ensures { OpensBy (of_name opened (name_of self.old tag)) self.old s tag self.new result }
     {
         if self.limits.depth <= s.usage.depth {
             return Err(Refusal::TooDeep { place: tag.place });

@@ -1,5 +1,5 @@
 -- Taking texts into the text buffer, and reading numbers.
-use Rattle.std.specs.Prelude.{◌≡◌, List, ℕ, ◌+◌, ◌-◌, ◌≤◌, length, Option, Some, None, Result, Ok, Err}
+use Rattle.std.specs.Prelude.{◌≡◌, Bool, List, ℕ, ◌+◌, ◌-◌, ◌≤◌, length, Option, Some, None, Result, Ok, Err}
 use Rattle.texts.specs.Text.{piece}
 use Rattle.texts.specs.declared.Range.{Range}
 use Rattle.tags.specs.Attributes.{raw_length}
@@ -12,9 +12,10 @@ use Rattle.refusals.specs.declared.Refusal.{Refusal}
 use Rattle.refusals.specs.declared.Refusal.TheVariants.{BadNumber}
 use Rattle.model.specs.Schema.{Item}
 use Rattle.numbers.specs.Numbers.{number_of}
-use Rattle.builder.specs.Builder.{or_empty, is_given, added}
+use Rattle.builder.specs.Limits.{Limits}
+use Rattle.builder.specs.Builder.{Builder, Outcome, or_empty, is_given, added}
 use Rattle.model.specs.internal.Store.{item_of}
-use Rattle.builder.specs.internal.Layout.{Alike, Steady, builder_in, room, Sound, Ready, Tagged, Same, Makes}
+use Rattle.builder.specs.internal.Layout.{Alike, Steady, builder_in, room, Sound, Ready, Tagged, Same, Makes, parent_composite, doc_piece}
 use Rattle.model.specs.declared.Entry.{Entry}
 use Rattle.builder.specs.declared.take.Draft.{Draft}
 use Rattle.builder.specs.declared.state.State.{State}
@@ -146,3 +147,26 @@ pub record ReadyToOpen (k : Keys) (w : Work) (s : State) (tag : Tag) : Type 0 wh
   pub ready : Ready w s (room tag)
   pub tagged : Tagged w.doc.now tag.attributes tag.next
   pub noted : NotedBy k w.doc.now tag.attributes tag.noted
+
+-- ---- what opening gives
+
+-- a tag's local name
+abbrev pub name_of : Work → Tag → List ℕ
+name_of w tag = doc_piece w tag.name.from tag.name.len
+
+-- a definition of opening: by the limits, and a tag's place and attributes
+abbrev pub Opening : Type 0
+Opening = Limits → ℕ → Attributes → Builder → Outcome
+
+-- one that asks besides whether the parent is a composite
+abbrev pub inside : (Limits → ℕ → Bool → Attributes → Builder → Outcome) → Opening
+inside f l place a b = f l place (parent_composite b) a b
+
+-- one that asks besides for the tag's name
+abbrev pub of_name : (Limits → ℕ → List ℕ → Attributes → Builder → Outcome) → List ℕ → Opening
+of_name f name l place a b = f l place name a b
+
+-- r is what such a definition makes of the builder: the contract of its step
+abbrev pub OpensBy : Opening → Work → State → Tag → Work → Result State Refusal → Type 0
+OpensBy f w s tag w' r =
+    Makes (f w.limits tag.place (attributes_of w tag)) w s (room tag) w' r
