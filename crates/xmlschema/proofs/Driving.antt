@@ -72,7 +72,7 @@ module _ {r : Reader} {w : Work} {s : State} (d : Driving r w s) {r' : Reader} {
 
       pub drive-ready : Ready w s (takes t.event)
       drive-ready =
-        record { sound = d.sound; room = omega (arith, moves.grows, inside.within, d.used, d.sound.lent.document, d.sound.within.top, d.sound.within.apart) }
+          record { sound = d.sound; room = omega (arith, moves.grows, inside.within, d.used, d.sound.lent.document, d.sound.within.top, d.sound.within.apart) }
 
       pub drive-inside : Inside w.doc.now t.event
       drive-inside = rw d.doc at moves.inside
