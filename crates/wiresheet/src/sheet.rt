@@ -265,6 +265,8 @@ fn write_lines(out: &mut Output<'_>, s: &Index<'_>)
 pub fn write_sheet(out: &mut Output<'_>, schema: View<'_>)
     ensures { Wrote out.old out.new (sheet_lines (sheet schema.entry)) }
 {
+    // Proves that the array has room: a model has at most 1,024 items.
+    let _count = schema.count();
     let mut links = [0u16; LINKS_1024];
     write_lines(out, &Index::of(schema, &mut links));
 }

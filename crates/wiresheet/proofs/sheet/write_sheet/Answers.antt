@@ -5,4 +5,4 @@ use Rattle.index.proofs.Building.{blank}
 use Rattle.wiresheet.proofs.sheet.write_sheet.Goals as goal
 
 pub of-requires : goal.of-requires
-of-requires c = blank c.args.schema (per_item * 1024 + 1024) (λ most. omega arith)
+of-requires c = blank c.args.schema (per_item * 1024 + 1024) (let f = c.count-count.ensures.few in omega arith)
