@@ -9,13 +9,13 @@ const MAX_ITEMS: u32 = 1024;
 
 const MAX_DEPTH: usize = 64;
 
-/// In bytes.
+/// The longest document that is read, in bytes.
 pub const MAX_DOCUMENT: usize = 32768;
 
-/// In numbers of 32 bits.
+/// How long the record buffer has to be, in numbers of 32 bits.
 pub const MIN_RECORDS: usize = 16384;
 
-/// In bytes.
+/// How long the text buffer has to be, in bytes.
 pub const MIN_TEXT: usize = 65536;
 
 /// Where the stack of open names begins in the records: behind the items, of 15 numbers each.

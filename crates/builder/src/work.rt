@@ -11,7 +11,7 @@ ghost use Rattle.builder.specs.internal.Taking.{Finds};
 use crate::limits::{Limits, NAMES_FROM};
 use crate::state::{State, Usage};
 use elements::Element;
-use model::word;
+use model::number_at;
 use swar::same_name;
 use tags::noting::Notes;
 use texts::{Range, equal, part};
@@ -110,8 +110,8 @@ impl<'d, 'a> Work<'d, 'a> {
             return part(self.doc, 0, 0);
         }
         let k = NAMES_FROM + 2 * (depth - 1);
-        let from = word(self.records, k) as usize;
-        let len = word(self.records, k + 1) as usize;
+        let from = number_at(self.records, k) as usize;
+        let len = number_at(self.records, k + 1) as usize;
         part(self.doc, from, len)
     }
 
@@ -130,7 +130,9 @@ impl<'d, 'a> Work<'d, 'a> {
     {
         if 0 < s.usage.depth {
             let k = NAMES_FROM + 2 * (s.usage.depth - 1);
-            if word(self.records, k) as usize == name && word(self.records, k + 1) as usize == len {
+            if number_at(self.records, k) as usize == name
+                && number_at(self.records, k + 1) as usize == len
+            {
                 return true;
             }
         }

@@ -111,7 +111,7 @@ fn is_name(w: &[u8]) -> bool
 /// `is_compatible` of a name that is not empty. Out of line: most types name no encoding, and need
 /// no array.
 #[inline(never)]
-fn is_known(encoding: &[u8]) -> bool
+fn is_listed(encoding: &[u8]) -> bool
     ensures { result ≡ compatible encoding.now }
 {
     let mut letters = [0u8; 16];
@@ -128,5 +128,5 @@ pub fn is_compatible(encoding: &[u8]) -> bool
     if encoding.len() == 0 {
         return true;
     }
-    is_known(encoding)
+    is_listed(encoding)
 }

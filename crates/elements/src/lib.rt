@@ -39,7 +39,7 @@ fn other_element_of(name: &[u8]) -> Element
     }
 }
 
-/// The element of a name.
+/// The element of a local name; `Other` for a name of no other one.
 pub fn element_of(name: &[u8]) -> Element
     ensures { result ≡ element_of name.now }
 {

@@ -3,8 +3,8 @@ use Rattle.std.proofs.Common.{◌≡◌, refl, sym, ap, ◌∙◌, Bool, true, f
 use Rattle.model.specs.Schema.{Schema, item_at, a_type}
 use Rattle.model.proofs.Records.{by_less}
 use Rattle.std.specs.declared.cmp.Ordering.TheVariants.{Less, Equal, Greater}
-use Rattle.index.specs.Declarations.{declares, declaration_of, number_of}
-use Rattle.index.specs.internal.Sorted.{order, number_in, worth, name_at, Rising, Placed, Inserted, Ordered, Meeting}
+use Rattle.index.specs.Declarations.{declares, declaration_of, declaration_code}
+use Rattle.index.specs.internal.Sorted.{order, code_in, worth, name_at, Rising, Placed, Inserted, Ordered, Meeting}
 use Rattle.index.proofs.Comparing.{order-refl, greater-less}
 use Rattle.index.proofs.Numbering.{by_equal, number-none, number-all, number-aside, number-other, number-fresh, number-kept}
 
@@ -76,7 +76,7 @@ module _ (s : Schema) (i : ℕ) (names : List ℕ) (n : ℕ) (o : Ordered s i na
             none = λ name g. number-other s i h name (absent name g) ∙ o.none name g;
           }
         where
-          one : number_in s i (name_at s names p) ≡ 1
+          one : code_in s i (name_at s names p) ≡ 1
           one = sym (o.is p l) ∙ rw f
 
       module _ (t : eqb (item_at s (get_or names p 0)).kind a_type ≡ true) {new : List ℕ} (en : new ≡ set names p i) where
@@ -92,7 +92,7 @@ module _ (s : Schema) (i : ℕ) (names : List ℕ) (n : ℕ) (o : Ordered s i na
         named : (a : ℕ) → name_at s new a ≡ name_at s names a
         named a = by_equal a p (λ q. rw q (ap (λ x. (item_at s x).name) at_p ∙ sym e)) (λ q. ap (λ x. (item_at s x).name) (at_other a q))
 
-        fresh : number_in s i (item_at s i).name ≡ 1 → ⊥
+        fresh : code_in s i (item_at s i).name ≡ 1 → ⊥
         fresh q = let w : get_or names p 0 + 2 ≡ 1 = (rw (t, e) at (o.is p l)) ∙ q in omega arith
 
         replaced : Ordered s (i + 1) new n
@@ -104,8 +104,8 @@ module _ (s : Schema) (i : ℕ) (names : List ℕ) (n : ℕ) (o : Ordered s i na
               rising = record { long = rw (en, length-set) o.rising.long; up = λ a b k m. rw (named a, named b) (o.rising.up a b k m) };
               below = λ a k. by_equal a p (λ q. rw q (let b = at_p in omega arith)) (λ q. let w = at_other a q in let b = o.below a k in omega arith);
               is = λ a k. by_equal a p
-                  (λ q. rw q (ap (worth s) at_p ∙ sym (number-fresh s i h (item_at s i).name d refl fresh) ∙ ap (λ x. number_in s (i + 1) (item_at s x).name) (sym at_p)))
-                  (λ q. ap (worth s) (at_other a q) ∙ o.is a k ∙ sym (number-other s i h (name_at s names a) (other a k q)) ∙ ap (number_in s (i + 1)) (sym (named a)));
+                  (λ q. rw q (ap (worth s) at_p ∙ sym (number-fresh s i h (item_at s i).name d refl fresh) ∙ ap (λ x. code_in s (i + 1) (item_at s x).name) (sym at_p)))
+                  (λ q. ap (worth s) (at_other a q) ∙ o.is a k ∙ sym (number-other s i h (name_at s names a) (other a k q)) ∙ ap (code_in s (i + 1)) (sym (named a)));
               none = λ name g. let g' : (a : ℕ) → a < n → name_at s names a ≡ name → ⊥ = λ a k q. g a k (named a ∙ q) in number-other s i h name (absent name g') ∙ o.none name g';
             }
 
@@ -114,7 +114,7 @@ module _ (s : Schema) (i : ℕ) (names : List ℕ) (n : ℕ) (o : Ordered s i na
       unmet : (a : ℕ) → a < n → name_at s names a ≡ (item_at s i).name → ⊥
       unmet a l = by_less a p (λ b. less-apart (name_at s names a) (item_at s i).name (less a b)) (λ b. greater-apart (name_at s names a) (item_at s i).name (greater a b l))
 
-      unheard : number_in s i (item_at s i).name ≡ 1 → ⊥
+      unheard : code_in s i (item_at s i).name ≡ 1 → ⊥
       unheard q = let z = o.none (item_at s i).name unmet in omega arith
 
       low-name : (a : ℕ) → a < p → name_at s new a ≡ name_at s names a
@@ -144,11 +144,11 @@ module _ (s : Schema) (i : ℕ) (names : List ℕ) (n : ℕ) (o : Ordered s i na
           q)
           l
 
-      fresh-worth : worth s (get_or new p 0) ≡ number_in s (i + 1) (name_at s new p)
-      fresh-worth = ap (worth s) v.here ∙ sym (number-fresh s i h (item_at s i).name d refl unheard) ∙ ap (number_in s (i + 1)) (sym here-name)
+      fresh-worth : worth s (get_or new p 0) ≡ code_in s (i + 1) (name_at s new p)
+      fresh-worth = ap (worth s) v.here ∙ sym (number-fresh s i h (item_at s i).name d refl unheard) ∙ ap (code_in s (i + 1)) (sym here-name)
 
-      old-worth : (a b : ℕ) → a < n → get_or new b 0 ≡ get_or names a 0 → worth s (get_or new b 0) ≡ number_in s (i + 1) (name_at s new b)
-      old-worth a b l q = ap (worth s) q ∙ o.is a l ∙ sym (number-other s i h (name_at s names a) (λ z. unmet a l (sym z))) ∙ ap (λ x. number_in s (i + 1) (item_at s x).name) (sym q)
+      old-worth : (a b : ℕ) → a < n → get_or new b 0 ≡ get_or names a 0 → worth s (get_or new b 0) ≡ code_in s (i + 1) (name_at s new b)
+      old-worth a b l q = ap (worth s) q ∙ o.is a l ∙ sym (number-other s i h (name_at s names a) (λ z. unmet a l (sym z))) ∙ ap (λ x. code_in s (i + 1) (item_at s x).name) (sym q)
 
       inserted : Ordered s (i + 1) new (n + 1)
       inserted =
@@ -161,7 +161,7 @@ module _ (s : Schema) (i : ℕ) (names : List ℕ) (n : ℕ) (o : Ordered s i na
                 (λ c k. let b = o.below c (omega arith) in let q = v.low c k in omega arith)
                 (let q = v.here in omega arith)
                 (λ c k j. let b = o.below c j in let q = v.high c k j in omega arith);
-            is = λ a l. by-slot {X = λ a. worth s (get_or new a 0) ≡ number_in s (i + 1) (name_at s new a)} a l
+            is = λ a l. by-slot {X = λ a. worth s (get_or new a 0) ≡ code_in s (i + 1) (name_at s new a)} a l
                 (λ c k. old-worth c c (omega arith) (v.low c k))
                 fresh-worth
                 (λ c k j. old-worth c (c + 1) j (v.high c k j));
@@ -211,7 +211,7 @@ module _ (s : Schema) (i : ℕ) (names : List ℕ) (n p : ℕ) (x : Meeting s i 
 
 -- ---- what a name is declared as
 
-pub number-nothing : (s : Schema) (names name : List ℕ) {n : ℕ} → Ordered s (length s.items) names n → {r : Result ℕ ℕ} → Placed s names n name r → {p : ℕ} → r ≡ Err p → 0 ≡ number_of (declaration_of s name)
+pub number-nothing : (s : Schema) (names name : List ℕ) {n : ℕ} → Ordered s (length s.items) names n → {r : Result ℕ ℕ} → Placed s names n name r → {p : ℕ} → r ≡ Err p → 0 ≡ declaration_code (declaration_of s name)
 number-nothing s names name {n} o pl {p} q =
     let b = pl.before p q in
     sym (o.none name (λ a l. by_less a p (λ k. less-apart (name_at s names a) name (b.1 a k)) (λ k. greater-apart (name_at s names a) name (b.2 a k l)))) ∙ number-all s name
@@ -224,12 +224,12 @@ module _ (s : Schema) (names name : List ℕ) {n : ℕ} (o : Ordered s (length s
     pub placed_below : j < 1024
     placed_below = let b = o.below p placed-in in let most = o.most in omega arith
 
-    worth-is : worth s j ≡ number_of (declaration_of s name)
-    worth-is = ap (worth s) ej ∙ o.is p placed-in ∙ ap (number_in s (length s.items)) (pl.at p q).1 ∙ number-all s name
+    worth-is : worth s j ≡ declaration_code (declaration_of s name)
+    worth-is = ap (worth s) ej ∙ o.is p placed-in ∙ ap (code_in s (length s.items)) (pl.at p q).1 ∙ number-all s name
 
     module _ {k : ℕ} (f : k ≡ (item_at s j).kind) where
-      pub number-type : k ≡ 1 → j + 2 ≡ number_of (declaration_of s name)
+      pub number-type : k ≡ 1 → j + 2 ≡ declaration_code (declaration_of s name)
       number-type z = rw (eq-eqb (item_at s j).kind a_type (sym f ∙ z)) at worth-is
 
-      pub number-named : (k ≡ 1 → ⊥) → 1 ≡ number_of (declaration_of s name)
+      pub number-named : (k ≡ 1 → ⊥) → 1 ≡ declaration_code (declaration_of s name)
       number-named z = rw (ne_eqb (item_at s j).kind a_type (λ q. z (f ∙ q))) at worth-is

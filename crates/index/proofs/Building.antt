@@ -4,10 +4,10 @@ use lib.ListN.{length-replicate, get_or-replicate, get_or-eq_default}
 use Rattle.model.proofs.Records.{by_less}
 use Rattle.model.specs.Schema.{Schema, item_at, a_field}
 use Rattle.texts.specs.Choice.{pick}
-use Rattle.index.specs.Declarations.{declares, declaration_of, number_of}
-use Rattle.index.specs.Declarations.{declaration_of, number_of}
+use Rattle.index.specs.Declarations.{declares, declaration_of, declaration_code}
+use Rattle.index.specs.Declarations.{declaration_of, declaration_code}
 use Rattle.index.specs.Blank.{kinds, per_item, mask_of, Blank}
-use Rattle.index.specs.internal.Index.{fronted, place, HeadOf, Chained, Naming, Settling, Indexed}
+use Rattle.index.specs.internal.Index.{fronted, chain_of, HeadOf, Chained, Naming, Settling, Indexed}
 use Rattle.index.proofs.Fronting.{fronted-length, fronted-other}
 use Rattle.index.proofs.Linking.{linked-start, linked_on, linked-off, linked-frame}
 use Rattle.index.proofs.Chaining.{chained-start, chained-on, chained-off, chained-aside, chained-frame}
@@ -45,7 +45,7 @@ module _ (s : Schema) (i : ℕ) {k : ℕ} (f : k ≡ (item_at s i).kind) (ix : L
 
   pub name-on : b ≡ true → {w : List ℕ} → w ≡ (item_at s i).name → {p : ℕ} → HeadOf s w p → {ix' : List ℕ} → ix' ≡ fronted ix p (per_item * i + 1) i → Naming s (i + 1) ix'
   name-on t {w} n {p} ep {ix'} q =
-      let z : p ≡ per_item * length s.items + place s (item_at s i).name = ep.is ∙ ap (λ x. per_item * length s.items + place s x) n in
+      let z : p ≡ per_item * length s.items + chain_of s (item_at s i).name = ep.is ∙ ap (λ x. per_item * length s.items + chain_of s x) n in
       let low = rw n at ep.low in
       let on = chained-on s ix i c.chained h c.long (told ∙ t) low in
       record {
@@ -130,13 +130,13 @@ module _ (s : Schema) (i : ℕ) {k : ℕ} (f : k ≡ (item_at s i).kind) (ix : L
         resolved = record { is = λ j a l d. by_less i j (λ b. c.resolved.is j (omega arith) l d) (λ b. let q : j ≡ i = omega arith in absurd (n (f ∙ (rw q at d)))) };
       }
 
-  pub resolve-on : k ≡ 9 → i < length s.items → {w : List ℕ} → w ≡ (item_at s i).second → {d : ℕ} → (d ≡ number_of (declaration_of s w)) × (d < 1026) → {ix' : List ℕ} → ix' ≡ set ix (per_item * i + 1) d → Settling s (i + 1) i ix'
+  pub resolve-on : k ≡ 9 → i < length s.items → {w : List ℕ} → w ≡ (item_at s i).second → {d : ℕ} → (d ≡ declaration_code (declaration_of s w)) × (d < 1026) → {ix' : List ℕ} → ix' ≡ set ix (per_item * i + 1) d → Settling s (i + 1) i ix'
   resolve-on ek h {w} ew {d} ed {ix'} q =
       record {
         long = rw (q, length-set) c.long;
         linked = linked-frame s (i + 1) ix ix' (λ a o ha. rw q (get_or-set_other ix (per_item * i + 1) (per_item * o + 2 + a) d 0 (λ x. omega arith))) (λ j. rw q (get_or-set_other ix (per_item * i + 1) (per_item * j) d 0 (λ x. omega arith))) c.linked;
         chained = rw q (chained-aside s (length s.items) ix i d h aside c.chained);
-        resolved = record { is = λ j a l b. by_less i j (λ o. rw q (get_or-set_other ix (per_item * i + 1) (per_item * j + 1) d 0 (λ x. omega arith) ∙ c.resolved.is j (omega arith) l b)) (λ o. let z : j ≡ i = omega arith in rw (z, q) (here ∙ ed.0 ∙ ap (λ x. number_of (declaration_of s x)) ew)) };
+        resolved = record { is = λ j a l b. by_less i j (λ o. rw q (get_or-set_other ix (per_item * i + 1) (per_item * j + 1) d 0 (λ x. omega arith) ∙ c.resolved.is j (omega arith) l b)) (λ o. let z : j ≡ i = omega arith in rw (z, q) (here ∙ ed.0 ∙ ap (λ x. declaration_code (declaration_of s x)) ew)) };
       }
     where
       here : get_or (set ix (per_item * i + 1) d) (per_item * i + 1) 0 ≡ d

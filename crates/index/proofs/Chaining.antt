@@ -8,7 +8,7 @@ use Rattle.index.specs.Declarations.{declares}
 use Rattle.index.specs.internal.Sorted.{last_by}
 use Rattle.index.proofs.Numbering.{by_equal}
 use Rattle.index.specs.Blank.{per_item, mask_of}
-use Rattle.index.specs.internal.Index.{code, fronted, place, hashed, last_hashed, Chained}
+use Rattle.index.specs.internal.Index.{code, fronted, chain_of, hashed, last_hashed, Chained}
 use Rattle.index.proofs.Fronting.{fronted-head, fronted-at, fronted-other}
 
 -- ---- the last of the first n items that pass a test
@@ -61,45 +61,45 @@ chained-start s ix few z =
       chain = λ j h b t. absurd (omega arith);
     }
 
-is-hashed : (s : Schema) (it : Item) → declares it.kind ≡ true → hashed s (place s it.name) it ≡ true
+is-hashed : (s : Schema) (it : Item) → declares it.kind ≡ true → hashed s (chain_of s it.name) it ≡ true
 unfolding hashed
-is-hashed s it d = rw (d, eq-eqb (place s it.name) (place s it.name) refl)
+is-hashed s it d = rw (d, eq-eqb (chain_of s it.name) (chain_of s it.name) refl)
 
-pub hashed-as : (s : Schema) (it : Item) (b : ℕ) → hashed s b it ≡ true → (declares it.kind ≡ true) × (place s it.name ≡ b)
+pub hashed-as : (s : Schema) (it : Item) (b : ℕ) → hashed s b it ≡ true → (declares it.kind ≡ true) × (chain_of s it.name ≡ b)
 unfolding hashed
-hashed-as s it b t = let e = both_true (declares it.kind) (eqb (place s it.name) b) t in (e.0, eqb-true (place s it.name) b e.1)
+hashed-as s it b t = let e = both_true (declares it.kind) (eqb (chain_of s it.name) b) t in (e.0, eqb-true (chain_of s it.name) b e.1)
 
 module _ (s : Schema) (ix : List ℕ) (n : ℕ) (c : Chained s n ix) (h : n < length s.items) where
-  unhashed : (b : ℕ) → (declares (item_at s n).kind ≡ true → place s (item_at s n).name ≡ b → ⊥) → hashed s b (item_at s n) ≡ false
+  unhashed : (b : ℕ) → (declares (item_at s n).kind ≡ true → chain_of s (item_at s n).name ≡ b → ⊥) → hashed s b (item_at s n) ≡ false
   unhashed b f = by-test (hashed s b (item_at s n)) (λ t. let e = hashed-as s (item_at s n) b t in absurd (f e.0 e.1)) (λ g. g)
 
   head-kept : (b : ℕ) → b ≤ mask_of (length s.items) → hashed s b (item_at s n) ≡ false → get_or ix (per_item * length s.items + b) 0 ≡ code (last_hashed b (n + 1) s)
   unfolding last_hashed
   head-kept b l f = c.head b l ∙ ap code (sym (last-no (hashed s b) s n h f))
 
-  head-new : declares (item_at s n).kind ≡ true → last_hashed (place s (item_at s n).name) (n + 1) s ≡ Some n
+  head-new : declares (item_at s n).kind ≡ true → last_hashed (chain_of s (item_at s n).name) (n + 1) s ≡ Some n
   unfolding last_hashed
-  head-new d = last-yes (hashed s (place s (item_at s n).name)) s n h (is-hashed s (item_at s n) d)
+  head-new d = last-yes (hashed s (chain_of s (item_at s n).name)) s n h (is-hashed s (item_at s n) d)
 
-  module _ (big : per_item * length s.items + mask_of (length s.items) < length ix) (d : declares (item_at s n).kind ≡ true) (low : place s (item_at s n).name ≤ mask_of (length s.items)) where
-    chained-head : (b : ℕ) → b ≤ mask_of (length s.items) → get_or (fronted ix (per_item * length s.items + place s (item_at s n).name) (per_item * n + 1) n) (per_item * length s.items + b) 0 ≡ code (last_hashed b (n + 1) s)
+  module _ (big : per_item * length s.items + mask_of (length s.items) < length ix) (d : declares (item_at s n).kind ≡ true) (low : chain_of s (item_at s n).name ≤ mask_of (length s.items)) where
+    chained-head : (b : ℕ) → b ≤ mask_of (length s.items) → get_or (fronted ix (per_item * length s.items + chain_of s (item_at s n).name) (per_item * n + 1) n) (per_item * length s.items + b) 0 ≡ code (last_hashed b (n + 1) s)
     chained-head b l =
-        by_equal b (place s (item_at s n).name)
-        (λ e. rw e (fronted-head ix (per_item * length s.items + place s (item_at s n).name) (per_item * n + 1) n (omega arith) ∙ ap code (sym (head-new d))))
-        (λ f. fronted-other ix (per_item * length s.items + place s (item_at s n).name) (per_item * n + 1) n (per_item * length s.items + b) (λ e. f (omega arith)) (λ e. omega arith) ∙ head-kept b l (unhashed b (λ _ e. f (sym e))))
+        by_equal b (chain_of s (item_at s n).name)
+        (λ e. rw e (fronted-head ix (per_item * length s.items + chain_of s (item_at s n).name) (per_item * n + 1) n (omega arith) ∙ ap code (sym (head-new d))))
+        (λ f. fronted-other ix (per_item * length s.items + chain_of s (item_at s n).name) (per_item * n + 1) n (per_item * length s.items + b) (λ e. f (omega arith)) (λ e. omega arith) ∙ head-kept b l (unhashed b (λ _ e. f (sym e))))
 
-    chained-this : (b : ℕ) → T (hashed s b (item_at s n)) → get_or (fronted ix (per_item * length s.items + place s (item_at s n).name) (per_item * n + 1) n) (per_item * n + 1) 0 ≡ code (last_hashed b n s)
+    chained-this : (b : ℕ) → T (hashed s b (item_at s n)) → get_or (fronted ix (per_item * length s.items + chain_of s (item_at s n).name) (per_item * n + 1) n) (per_item * n + 1) 0 ≡ code (last_hashed b n s)
     chained-this b t =
         let e = (hashed-as s (item_at s n) b (is_true (hashed s b (item_at s n)) t)).1 in
-        fronted-at ix (per_item * length s.items + place s (item_at s n).name) (per_item * n + 1) n (omega arith) (λ q. omega arith) ∙ c.head (place s (item_at s n).name) low ∙ ap (λ x. code (last_hashed x n s)) e
+        fronted-at ix (per_item * length s.items + chain_of s (item_at s n).name) (per_item * n + 1) n (omega arith) (λ q. omega arith) ∙ c.head (chain_of s (item_at s n).name) low ∙ ap (λ x. code (last_hashed x n s)) e
 
-    pub chained-on : Chained s (n + 1) (fronted ix (per_item * length s.items + place s (item_at s n).name) (per_item * n + 1) n)
+    pub chained-on : Chained s (n + 1) (fronted ix (per_item * length s.items + chain_of s (item_at s n).name) (per_item * n + 1) n)
     chained-on =
         record {
           few = c.few;
           head = chained-head;
           chain = λ j l b t. by_less j n
-              (λ m. fronted-other ix (per_item * length s.items + place s (item_at s n).name) (per_item * n + 1) n (per_item * j + 1) (λ e. omega arith) (λ e. omega arith) ∙ c.chain j m b t)
+              (λ m. fronted-other ix (per_item * length s.items + chain_of s (item_at s n).name) (per_item * n + 1) n (per_item * j + 1) (λ e. omega arith) (λ e. omega arith) ∙ c.chain j m b t)
               (λ m. let e : j ≡ n = omega arith in rw e (chained-this b (rw e at t)));
         }
 

@@ -7,7 +7,7 @@ use Rattle.model.proofs.Records.{by_less}
 use Rattle.model.proofs.Searching.{ahead-none, ahead-some}
 use Rattle.model.specs.Schema.{is_under}
 use Rattle.index.specs.Blank.{kinds, per_item}
-use Rattle.index.specs.Declarations.{declaration_of, number_of}
+use Rattle.index.specs.Declarations.{declaration_of, declaration_code}
 use Rattle.index.specs.declared.declaration.Declaration.{Declaration}
 use Rattle.index.specs.declared.declaration.Declaration.TheVariants.{Named, Typed}
 use Rattle.index.specs.internal.Index.{code, Indexed}
@@ -43,17 +43,17 @@ under-some kind owner from s {i} e = ahead-some (is_under kind owner) s from i e
 
 -- ---- type names
 
-pub declaration-none : {n : ℕ} → n ≡ 0 → (d : Option Declaration) → n ≡ number_of d → None ≡ d
+pub declaration-none : {n : ℕ} → n ≡ 0 → (d : Option Declaration) → n ≡ declaration_code d → None ≡ d
 declaration-none h None e = refl
 declaration-none h (Some Named) e = absurd (omega arith)
 declaration-none h (Some (Typed i)) e = absurd (omega arith)
 
-pub declaration-named : {n : ℕ} → n ≡ 1 → (d : Option Declaration) → n ≡ number_of d → Some Named ≡ d
+pub declaration-named : {n : ℕ} → n ≡ 1 → (d : Option Declaration) → n ≡ declaration_code d → Some Named ≡ d
 declaration-named h None e = absurd (omega arith)
 declaration-named h (Some Named) e = refl
 declaration-named h (Some (Typed i)) e = absurd (omega arith)
 
-pub declaration-typed : {n : ℕ} → (n ≡ 0 → ⊥) → (n ≡ 1 → ⊥) → (d : Option Declaration) → n ≡ number_of d → Some (Typed (n - 2)) ≡ d
+pub declaration-typed : {n : ℕ} → (n ≡ 0 → ⊥) → (n ≡ 1 → ⊥) → (d : Option Declaration) → n ≡ declaration_code d → Some (Typed (n - 2)) ≡ d
 declaration-typed a b None e = absurd (a e)
 declaration-typed a b (Some Named) e = absurd (b e)
 declaration-typed {n} a b (Some (Typed i)) e = let z : n - 2 ≡ i = omega arith in rw z
@@ -61,5 +61,5 @@ declaration-typed {n} a b (Some (Typed i)) e = let z : n - 2 ≡ i = omega arith
 pub field-within : (s : Schema) (i : ℕ) (ix : List ℕ) → Indexed s ix → (item_at s i).kind ≡ 9 → per_item * i + 1 < length ix
 field-within s i ix x k = omega (arith, inside s i k, x.long)
 
-pub field-number : (s : Schema) (i : ℕ) (ix : List ℕ) → Indexed s ix → (item_at s i).kind ≡ 9 → {w : ℕ} → w ≡ get_or ix (per_item * i + 1) 0 → w ≡ number_of (declaration_of s (item_at s i).second)
+pub field-number : (s : Schema) (i : ℕ) (ix : List ℕ) → Indexed s ix → (item_at s i).kind ≡ 9 → {w : ℕ} → w ≡ get_or ix (per_item * i + 1) 0 → w ≡ declaration_code (declaration_of s (item_at s i).second)
 field-number s i ix x k ew = ew ∙ x.types.is i (omega arith) (inside s i k) k

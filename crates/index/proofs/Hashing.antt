@@ -6,7 +6,7 @@ use Rattle.texts.specs.Text.{piece}
 use Rattle.model.specs.Schema.{Schema}
 use Rattle.swar.specs.Word.{IsWord, IsHalf}
 use Rattle.index.specs.Blank.{per_item, mask_of}
-use Rattle.index.specs.internal.Index.{short_word, mix, words_from, long_word, narrowed, hash, HashOf, place, HeadOf}
+use Rattle.index.specs.internal.Index.{short_word, mix, words_from, long_word, narrowed, hash, HashOf, chain_of, HeadOf}
 
 -- ---- less than 8 bytes
 
@@ -97,7 +97,7 @@ pub masked-few : (h : ℕ) {n : ℕ} → n ≤ 128 → (bit_and h 127 ≡ bit_an
 masked-few h e = (ap (bit_and h) (mask-few e), and_le_l h 127)
 
 pub head-is : (s : Schema) (name : List ℕ) {n : ℕ} → n ≡ length s.items → {h : ℕ} → HashOf name h → {k : ℕ} → (k ≡ bit_and h (mask_of n)) × (k ≤ h) → HeadOf s name (per_item * n + k)
-unfolding place
+unfolding chain_of
 head-is s name {n} en {h} eh {k} ek =
     record {
       is = rw (ek.0, eh.is, en);

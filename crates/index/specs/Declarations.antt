@@ -27,7 +27,7 @@ declaration_of s name =
 
 -- the number that the index holds for it: 1 for an enum or composite, otherwise 2 more than the
 -- position of the type, 0 for none
-abbrev pub number_of : Option Declaration → ℕ
-number_of None = 0
-number_of (Some Named) = 1
-number_of (Some (Typed i)) = i + 2
+abbrev pub declaration_code : Option Declaration → ℕ
+declaration_code None = 0
+declaration_code (Some Named) = 1
+declaration_code (Some (Typed i)) = i + 2

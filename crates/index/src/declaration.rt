@@ -1,6 +1,6 @@
 //! What a type name is declared as.
 ghost use Rattle.std.specs.Prelude.{◌≡◌, Option};
-ghost use Rattle.index.specs.Declarations.{declares, declaration_of, number_of};
+ghost use Rattle.index.specs.Declarations.{declares, declaration_of, declaration_code};
 ghost use Rattle.index.specs.declared.declaration.Declaration.{Declaration};
 
 use model::view::View;
@@ -34,7 +34,7 @@ pub(crate) const TYPED: u32 = 2;
 /// The declaration of a number.
 #[inline(always)]
 pub(crate) fn numbered(n: u32) -> Option<Declaration>
-    ensures { (d : Option Declaration) → n ≡ number_of d → result ≡ d }
+    ensures { (d : Option Declaration) → n ≡ declaration_code d → result ≡ d }
 {
     match n {
         0 => None,

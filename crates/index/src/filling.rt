@@ -7,7 +7,7 @@ ghost use Rattle.index.specs.internal.Index.{Chained, Naming, Next, Numbers, Set
 
 use crate::declaration::{NAMED, is_declaring};
 use crate::sorted::Names;
-use crate::{CHAIN, EACH, FIRST, LAST_KIND, STEPS, head_of, kept_at, put_front, word};
+use crate::{CHAIN, EACH, FIRST, LAST_KIND, STEPS, declared_so_far, head_of, number_at, put_front};
 use model::FIELD;
 use model::view::View;
 
@@ -60,18 +60,18 @@ fn resolved(v: &View<'_>, ix: &[u16], name: &[u8]) -> Option<u32>
     ensures { IfSome result (Numbers v.now name.now) }
 {
     let mut kept = 0;
-    let mut p = word(ix, head_of(v, name));
+    let mut p = number_at(ix, head_of(v, name));
     for _ in 0..STEPS {
         if p == 0 {
             return Some(kept);
         }
         let i = p - 1;
-        kept = kept_at(v, i, name, kept);
+        kept = declared_so_far(v, i, name, kept);
         let settled = kept == NAMED;
         if settled {
             return Some(kept);
         }
-        p = word(ix, EACH * (i as usize) + CHAIN);
+        p = number_at(ix, EACH * (i as usize) + CHAIN);
     }
     if p == 0 { Some(kept) } else { None }
 }
@@ -98,7 +98,7 @@ fn order_item(v: &View<'_>, names: &Names<'_>, i: u32, ix: &mut [u16])
     ensures { Settling v.now (i + 1) i ix.new }
 {
     if v.kind(i) == FIELD {
-        let d = names.number_of(v.second(i));
+        let d = names.declaration_code(v.second(i));
         let at = EACH * (i as usize) + CHAIN;
         ix[at] = d as u16;
     }
@@ -124,8 +124,8 @@ pub(crate) fn put_settled(v: &View<'_>, ix: &mut [u16])
     ensures { Settling v.now 0 0 ix.new }
 {
     for i in (0..v.count()).rev() {
-        let told = resolve_item(v, i, ix);
-        if !told {
+        let settled = resolve_item(v, i, ix);
+        if !settled {
             put_rest(v, i + 1, ix);
             return;
         }

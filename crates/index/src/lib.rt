@@ -15,7 +15,7 @@ ghost use Rattle.std.specs.Prelude.{◌≡◌, ◌+◌, ◌≤◌, ◌<◌, leng
 ghost use Rattle.std.specs.Int.Bits.{bit_and};
 ghost use Rattle.model.specs.Schema.{item_at};
 ghost use Rattle.index.specs.Blank.{mask_of, Blank};
-ghost use Rattle.index.specs.internal.Index.{kept_by, fronted, short_word, mix, long_word, narrowed, HashOf, HeadOf, Indexed};
+ghost use Rattle.index.specs.internal.Index.{so_far_by, fronted, short_word, mix, long_word, narrowed, HashOf, HeadOf, Indexed};
 
 use crate::declaration::{NAMED, TYPED};
 use crate::filling::{put_names, put_settled};
@@ -175,7 +175,7 @@ fn put_front(ix: &mut [u16], head: usize, at: usize, i: u32)
 
 /// Number `k` of the index, or 0 past its end.
 #[tactic(auto, using(crate::proofs::Laws::hashing))]
-fn word(ix: &[u16], k: usize) -> u32
+fn number_at(ix: &[u16], k: usize) -> u32
     ensures { result ≡ get_or ix.now k 0 }
 {
     if k < ix.len() { ix[k] as u32 } else { 0 }
@@ -184,9 +184,9 @@ fn word(ix: &[u16], k: usize) -> u32
 /// One step of a walk along a chain, which begins with its last item: what `name` is declared as by
 /// item `i` and those passed so far, which say `kept`, as a declaration's number; 0 is nothing yet.
 /// An enum or composite wins over types, and of types the first met, declared last.
-fn kept_at(v: &View<'_>, i: u32, name: &[u8], kept: u32) -> u32
+fn declared_so_far(v: &View<'_>, i: u32, name: &[u8], kept: u32) -> u32
     requires { (i < 1024) × (kept < 1026) }
-    ensures { (result ≡ kept_by (item_at v.now i) i name.now kept) × (result < 1026) }
+    ensures { (result ≡ so_far_by (item_at v.now i) i name.now kept) × (result < 1026) }
 {
     if v.kind(i) == TYPE {
         if 0 < kept {

@@ -7,7 +7,7 @@ ghost use Rattle.model.specs.Search.{ahead, is_of};
 ghost use Rattle.index.specs.Children.{left};
 ghost use Rattle.index.specs.Blank.{Blank, kinds};
 ghost use Rattle.index.specs.internal.Index.{code};
-ghost use Rattle.index.specs.Declarations.{declaration_of, number_of};
+ghost use Rattle.index.specs.Declarations.{declaration_of, declaration_code};
 ghost use Rattle.index.specs.declared.declaration.Declaration.{Declaration};
 
 use crate::declaration::{Declaration, declaration_in, numbered};
@@ -93,21 +93,21 @@ impl<'a> Index<'a> {
         self.view.kind(i)
     }
 
-    /// The position of the item that holds item `i`.
+    /// The position of the item that holds item `i`; 0 past the last item.
     pub fn owner(&self, i: u32) -> u32
         ensures { result ≡ (item_at self.now i).owner }
     {
         self.view.owner(i)
     }
 
-    /// The name of item `i`.
+    /// The name of item `i`; empty past the last item.
     pub fn name(&self, i: u32) -> &'a [u8]
         ensures { result.now ≡ (item_at self.now i).name }
     {
         self.view.name(i)
     }
 
-    /// The second text of item `i`, as in `View::second`.
+    /// The second text of item `i`, as in `View::second`; empty past the last item.
     pub fn second(&self, i: u32) -> &'a [u8]
         ensures { result.now ≡ (item_at self.now i).second }
     {
@@ -121,7 +121,7 @@ impl<'a> Index<'a> {
         self.view.encoding(i)
     }
 
-    /// The length or id of item `i`.
+    /// The length or id of item `i`; 0 past the last item.
     pub fn number(&self, i: u32) -> u32
         ensures { result ≡ (item_at self.now i).number }
     {

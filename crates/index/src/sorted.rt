@@ -15,14 +15,14 @@ const SIZE: usize = MOST_ITEMS as usize;
 
 /// Positions of items, sorted by name: the first `count` of the array.
 #[derive(Drop)]
-struct Places {
+struct Slots {
     names: [u16; SIZE],
     count: usize,
 }
 
-impl Places {
+impl Slots {
     /// Bisects: `Ok` with where the name stands, or `Err` with where it would be inserted.
-    fn place_of(&self, v: &View<'_>, name: &[u8]) -> Result<usize, usize>
+    fn slot_of(&self, v: &View<'_>, name: &[u8]) -> Result<usize, usize>
         requires { Rising v.now self.now.names self.now.count }
         ensures { Placed v.now self.now.names self.now.count name.now result }
     {
@@ -70,7 +70,7 @@ impl Places {
         ensures { Ordered v.now (i + 1) self.new.names self.new.count }
     {
         if is_declaring(v.kind(i)) {
-            match self.place_of(v, v.name(i)) {
+            match self.slot_of(v, v.name(i)) {
                 Ok(p) => self.meet(v, p, i),
                 Err(p) => self.insert(p, i),
             }
@@ -82,7 +82,7 @@ impl Places {
 #[derive(Drop)]
 pub(crate) struct Names<'a> {
     view: &'a View<'a>,
-    places: Places,
+    places: Slots,
 }
 
 impl<'a> Model for Names<'a> {
@@ -101,7 +101,7 @@ impl<'a> Names<'a> {
     pub(crate) fn of(view: &'a View<'a>) -> Names<'a>
         ensures { result ≡ view.now }
     {
-        let mut places = Places {
+        let mut places = Slots {
             names: [0; SIZE],
             count: 0,
         };
@@ -112,11 +112,11 @@ impl<'a> Names<'a> {
     }
 
     /// The number of what a name is declared as.
-    pub(crate) fn number_of(&self, name: &[u8]) -> u32
+    pub(crate) fn declaration_code(&self, name: &[u8]) -> u32
         ensures { Numbers self.now name.now result }
     {
         let v = self.view;
-        let Ok(p) = self.places.place_of(v, name) else {
+        let Ok(p) = self.places.slot_of(v, name) else {
             return 0;
         };
         let i = self.places.names[p] as u32;

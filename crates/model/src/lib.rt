@@ -129,7 +129,7 @@ pub struct Model {
 }
 
 /// Word `i` of the records, or 0 past their end.
-pub fn word(rec: &[u32], i: usize) -> u32
+pub fn number_at(rec: &[u32], i: usize) -> u32
     ensures { result ≡ get_or rec.now i 0 }
 {
     if i < rec.len() { rec[i] } else { 0 }
@@ -141,16 +141,16 @@ pub fn entry_at(rec: &[u32], i: u32) -> Entry
 {
     let k = 15 * (i as usize);
     Entry {
-        kind: word(rec, k),
-        owner: word(rec, k + 1),
-        name: word(rec, k + 2),
-        nlen: word(rec, k + 3),
-        second: word(rec, k + 4),
-        slen: word(rec, k + 5),
-        number: word(rec, k + 6),
-        given: word(rec, k + 7),
-        encoding: word(rec, k + 8),
-        elen: word(rec, k + 9),
+        kind: number_at(rec, k),
+        owner: number_at(rec, k + 1),
+        name: number_at(rec, k + 2),
+        nlen: number_at(rec, k + 3),
+        second: number_at(rec, k + 4),
+        slen: number_at(rec, k + 5),
+        number: number_at(rec, k + 6),
+        given: number_at(rec, k + 7),
+        encoding: number_at(rec, k + 8),
+        elen: number_at(rec, k + 9),
     }
 }
 

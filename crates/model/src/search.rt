@@ -62,7 +62,7 @@ impl<'a> Test for Named<'a> {
     }
 }
 
-/// The first item from `from` on that passes.
+/// The position of the first item from `from` on that passes; `None` if there is none.
 pub fn next<T: Test>(v: &View<'_>, by: &T, from: u32) -> Option<u32>
     ensures is { result ≡ first (ahead (T.test by.now) from v.now) }
     ensures within { IfSome result (λ i. i < 1024) }
@@ -75,7 +75,7 @@ pub fn next<T: Test>(v: &View<'_>, by: &T, from: u32) -> Option<u32>
     None
 }
 
-/// The last item that passes, searched from the end.
+/// The position of the last item that passes, searched from the end; `None` if there is none.
 pub fn last<T: Test>(v: &View<'_>, by: &T) -> Option<u32>
     ensures { result ≡ last (positions_from 0 (T.test by.now) v.now.items) }
 {
@@ -111,14 +111,14 @@ impl<'a, T: Test + Drop> Iterator for Walk<'a, T> {
 }
 
 impl<'a> View<'a> {
-    /// The last item of a kind that has a name.
+    /// The position of the last item of a kind that has a name; `None` if there is none.
     pub fn last_named(&self, kind: u32, name: &[u8]) -> Option<u32>
         ensures { result ≡ last_named kind name.now self.now }
     {
         last(self, &Named { kind, name })
     }
 
-    /// The last item of a kind under an owner.
+    /// The position of the last item of a kind under an owner; `None` if there is none.
     pub fn last_under(&self, kind: u32, owner: u32) -> Option<u32>
         ensures { result ≡ last_under kind owner self.now.items }
     {

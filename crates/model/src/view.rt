@@ -8,7 +8,7 @@ ghost use Rattle.texts.specs.Text.{piece};
 ghost use Rattle.model.specs.Schema.{item_at};
 ghost use Rattle.model.specs.internal.Store.{entry_at, item_of, schema_of};
 
-use crate::{Entry, Model, word};
+use crate::{Entry, Model, number_at};
 
 /// A model over its two buffers. Contracts see it as a schema.
 #[derive(Drop)]
@@ -36,7 +36,7 @@ fn pair(rec: &[u32], i: usize) -> (u32, u32)
     if i + 1 < rec.len() {
         return (rec[i], rec[i + 1]);
     }
-    (word(rec, i), word(rec, i + 1))
+    (number_at(rec, i), number_at(rec, i + 1))
 }
 
 /// The crate's `entry_at`, two words a test. Once inlined into an accessor, only the words that it
@@ -51,8 +51,8 @@ fn entry_by_pairs(rec: &[u32], i: u32) -> Entry
     let (number, given) = pair(rec, k + 6);
     let (encoding, elen) = pair(rec, k + 8);
     Entry {
-        kind: word(rec, k),
-        owner: word(rec, k + 1),
+        kind: number_at(rec, k),
+        owner: number_at(rec, k + 1),
         name,
         nlen,
         second,

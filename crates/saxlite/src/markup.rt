@@ -57,20 +57,20 @@ fn read_any_close(doc: &[u8], at: usize) -> Result<Read, Refusal>
     })
 }
 
-/// The close tag at `at`. A known name needs no scan.
+/// The close tag at `at`. A usual name needs no scan.
 fn read_close(doc: &[u8], at: usize) -> Result<Read, Refusal>
     requires { at + 2 ≤ length doc.now }
     ensures { Here (close_at (events_from doc.now) doc.now at) doc.now at result }
 {
     let start = at + 2;
-    if let Some(known) = closing_at(doc, start) {
+    if let Some(usual) = closing_at(doc, start) {
         let name = Range {
-            from: start + known.prefix,
-            len: known.len - known.prefix,
+            from: start + usual.prefix,
+            len: usual.len - usual.prefix,
         };
-        let next = start + known.len + 1;
+        let next = start + usual.len + 1;
         let event = Event::Close { name };
-        return Ok(Read::bare(event, known.element, at, next));
+        return Ok(Read::bare(event, usual.element, at, next));
     }
     read_any_close(doc, at)
 }

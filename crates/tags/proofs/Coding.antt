@@ -20,8 +20,8 @@ use Rattle.elements.specs.declared.Element.TheVariants.{MessageSchema, «Type»,
 use Rattle.elements.specs.Keys.{Keys, schema_keys, type_keys, enum_keys, field_keys, keys_of}
 use Rattle.tags.specs.Names.{prefix_length, local_name, is_xmlns}
 use Rattle.tags.specs.Attributes.{raw_name, tag_part_at, tag_at, attribute_at}
-use Rattle.tags.specs.internal.Noting.{no_notes, found_at, number_in, name_in, second_in, encoding_in, with_value, FoundMore, NotedMore, NotedBy}
-use Rattle.tags.specs.internal.Known.{known_name, codes, CodesOf, differ, Apart, QuickAt, NamedAs, Declares}
+use Rattle.tags.specs.internal.Noting.{no_notes, found_at, noted_number, noted_name, noted_second, noted_encoding, with_value, FoundMore, NotedMore, NotedBy}
+use Rattle.tags.specs.internal.Known.{known_name, codes, CodesOf, differ, Apart, QuickAt, NamedAs, IsNamespace}
 use Rattle.tags.proofs.Tagging.{Going, part-less, part-value, going_on, going_end, going-bad}
 use Rattle.tags.proofs.Looking.{found-value, Looking, looking-start, looking-on, looking-end, looking-bad}
 use Rattle.tags.proofs.Knowing.{up-each, count-to, goes, plain_name, known-plain, goes-all, goes_other}
@@ -167,10 +167,10 @@ module _ (raw : List ℕ) (value : Range) {e : Element} {was r : Notes} where
 -- ---- the loop of `tag_noting` is at i; q is the part there
 
 pub record LookingAll (doc : List ℕ) (at : ℕ) (k : Keys) (i : ℕ) (noted : Notes) : Type 0 where
-  pub number : Looking doc at k.number i (number_in noted)
-  pub name : Looking doc at k.name i (name_in noted)
-  pub second : Looking doc at k.second i (second_in noted)
-  pub encoding : Looking doc at k.encoding i (encoding_in noted)
+  pub number : Looking doc at k.number i (noted_number noted)
+  pub name : Looking doc at k.name i (noted_name noted)
+  pub second : Looking doc at k.second i (noted_second noted)
+  pub encoding : Looking doc at k.encoding i (noted_encoding noted)
 
 pub all_start : (doc : List ℕ) (at : ℕ) (k : Keys) {noted : Notes} → noted ≡ no_notes → LookingAll doc at k at noted
 unfolding found_at
@@ -233,14 +233,14 @@ module _ {doc : List ℕ} {at : ℕ} {name : List ℕ} {i : ℕ} {found : Option
 
 -- whether an attribute declares a namespace
 module _ {raw : List ℕ} {code : Option ℕ} where
-  pub declares-known : {k : ℕ} → code ≡ Some k → Declares raw code false
+  pub declares-known : {k : ℕ} → code ≡ Some k → IsNamespace raw code false
   declares-known e = record { yes = λ h. absurd (let z : ◌≡◌ {A = ℕ} 0 1 = cc in omega arith); no = λ h f. absurd (let z : ◌≡◌ {A = ℕ} 0 1 = cc in omega arith) }
 
-  pub declares-tested : {b : Bool} → b ≡ is_xmlns raw → Declares raw code b
+  pub declares-tested : {b : Bool} → b ≡ is_xmlns raw → IsNamespace raw code b
   declares-tested e = record { yes = λ h. sym e ∙ h; no = λ h f. sym e ∙ h }
 
-  pub declares-none : {b : Bool} → Declares raw code b → b ≡ false → code ≡ None → is_xmlns raw ≡ false
+  pub declares-none : {b : Bool} → IsNamespace raw code b → b ≡ false → code ≡ None → is_xmlns raw ≡ false
   declares-none d f e = d.no f e
 
-  pub declares-not : {b : Bool} → Declares raw code b → b ≡ false → Declares raw code false
+  pub declares-not : {b : Bool} → IsNamespace raw code b → b ≡ false → IsNamespace raw code false
   declares-not d f = rw f at d

@@ -186,11 +186,11 @@ pub fn begin_at(doc: &[u8], name: usize) -> Beginning
     requires { name ≤ length doc.now }
     ensures { BeginsAt doc.now name result }
 {
-    if let Some(known) = opening_at(doc, name) {
+    if let Some(usual) = opening_at(doc, name) {
         return Beginning {
-            end: name + known.len,
-            prefix: known.prefix,
-            element: known.element,
+            end: name + usual.len,
+            prefix: usual.prefix,
+            element: usual.element,
         };
     }
     // "types>": nearly every schema has this tag, without attributes.

@@ -44,7 +44,7 @@ fn past_value(doc: &[u8], at: usize, from: usize) -> usize
 
 /// The position past the attribute at `at` if it declares a namespace, else `at`. Gives `at` as
 /// well where fewer than 16 bytes are left: the general way reads those.
-fn past_declaration(doc: &[u8], at: usize) -> usize
+fn past_namespace(doc: &[u8], at: usize) -> usize
     ensures { Unchanged doc.now at result }
 {
     let i = skip_space(doc, at);
@@ -80,7 +80,7 @@ fn past_row(doc: &[u8], at: usize) -> usize
     let mut i = at;
     // `loop`: each turn consumes an attribute.
     loop {
-        let next = past_declaration(doc, i);
+        let next = past_namespace(doc, i);
         if next == i {
             return i;
         }
@@ -90,7 +90,7 @@ fn past_row(doc: &[u8], at: usize) -> usize
 
 /// As `past_row`. A function of its own because the compiler keeps a slice in memory throughout a
 /// function that passes it to a call, and otherwise that would be the hot loop over a tag.
-pub fn past_declarations(doc: &[u8], at: usize) -> usize
+pub fn past_namespaces(doc: &[u8], at: usize) -> usize
     ensures { Unchanged doc.now at result }
 {
     past_row(doc, at)

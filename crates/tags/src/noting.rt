@@ -8,8 +8,8 @@ ghost use Rattle.texts.specs.Text.{piece};
 ghost use Rattle.tags.specs.Names.{is_xmlns};
 ghost use Rattle.tags.specs.Attributes.{raw_name};
 ghost use Rattle.elements.specs.Keys.{Keys, keys, keys_of};
-ghost use Rattle.tags.specs.internal.Noting.{found_at, number_in, name_in, second_in, encoding_in, no_notes, with_value, NotedMore, NotedWith};
-ghost use Rattle.tags.specs.internal.Known.{known_name, CodesOf, CodesFor, Apart, NamedAs, Declares};
+ghost use Rattle.tags.specs.internal.Noting.{found_at, noted_number, noted_name, noted_second, noted_encoding, no_notes, with_value, NotedMore, NotedWith};
+ghost use Rattle.tags.specs.internal.Known.{known_name, CodesOf, CodesFor, Apart, NamedAs, IsNamespace};
 
 use crate::known::{Codes, PACKAGE};
 use crate::part::RawAttribute;
@@ -64,28 +64,28 @@ impl Notes {
 
     /// The value of id, or of a type's length.
     pub fn number(&self) -> Option<Range>
-        ensures { result ≡ number_in self.now }
+        ensures { result ≡ noted_number self.now }
     {
         found(self.number, self.number_len)
     }
 
     /// The value of name, or of a schema's package.
     pub fn name(&self) -> Option<Range>
-        ensures { result ≡ name_in self.now }
+        ensures { result ≡ noted_name self.now }
     {
         found(self.name, self.name_len)
     }
 
     /// The value of type, primitiveType or encodingType, or of a schema's version.
     pub fn second(&self) -> Option<Range>
-        ensures { result ≡ second_in self.now }
+        ensures { result ≡ noted_second self.now }
     {
         found(self.second, self.second_len)
     }
 
     /// The value of characterEncoding.
     pub fn encoding(&self) -> Option<Range>
-        ensures { result ≡ encoding_in self.now }
+        ensures { result ≡ noted_encoding self.now }
     {
         found(self.encoding, self.encoding_len)
     }
@@ -230,8 +230,8 @@ fn noted_other(doc: &[u8], a: RawAttribute, element: Element, earlier: Notes) ->
 }
 
 /// Whether an attribute declares a namespace; one with a code does not.
-pub fn is_declaration(doc: &[u8], name: Range, code: Option<usize>) -> bool
-    ensures { Declares (piece doc.now name.from name.len) code result }
+pub fn is_namespace(doc: &[u8], name: Range, code: Option<usize>) -> bool
+    ensures { IsNamespace (piece doc.now name.from name.len) code result }
 {
     match code {
         Some(_) => false,
@@ -249,7 +249,7 @@ pub fn noted_by(
     earlier: Notes,
 ) -> Notes
     requires value { (a.value.from < length doc.now) × CodesFor element codes }
-    requires name { NamedAs (raw_name doc.now a) code × Declares (raw_name doc.now a) code false }
+    requires name { NamedAs (raw_name doc.now a) code × IsNamespace (raw_name doc.now a) code false }
     ensures { NotedWith doc.now a (keys_of element) earlier result }
 {
     if let Some(known) = code {

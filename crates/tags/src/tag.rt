@@ -1,4 +1,4 @@
-//! NotedTag tags: where they end, and the attributes that are looked up in them.
+//! Whole tags: where they end, and the attributes that are looked up in them.
 #![tactic(auto, using(crate::proofs::Laws::laws))]
 
 ghost use Rattle.std.specs.Prelude.{◌≡◌, false, [], ◌+◌, ◌<◌, ◌^◌, ◌≤◌, length};
@@ -10,8 +10,8 @@ ghost use Rattle.elements.specs.Keys.{keys_of};
 ghost use Rattle.tags.specs.internal.Noting.{NotedBy};
 
 use crate::known::codes_of;
-use crate::namespaces::past_declarations;
-use crate::noting::{Notes, is_declaration, noted_by, noted_one};
+use crate::namespaces::past_namespaces;
+use crate::noting::{Notes, is_namespace, noted_by, noted_one};
 use crate::part::{Ending, Quick, TagPart, quick_part, tag_part};
 use elements::Element;
 use refusals::Refusal;
@@ -39,8 +39,8 @@ pub fn tag_noting(doc: &[u8], at: usize, place: usize, element: Element) -> Note
         let Quick { code, part } = quick_part(doc, i, place);
         match part {
             Ok(TagPart::Attribute(a)) => {
-                if is_declaration(doc, a.name, code) {
-                    i = past_declarations(doc, a.next);
+                if is_namespace(doc, a.name, code) {
+                    i = past_namespaces(doc, a.next);
                 } else {
                     noted = noted_by(doc, a, code, codes, element, noted);
                     i = a.next;

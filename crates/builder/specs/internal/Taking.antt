@@ -5,7 +5,7 @@ use Rattle.texts.specs.declared.Range.{Range}
 use Rattle.tags.specs.Attributes.{raw_length}
 use Rattle.saxlite.specs.Event.{Attributes, value_in, attributes_in}
 use Rattle.elements.specs.Keys.{Keys}
-use Rattle.tags.specs.internal.Noting.{number_in, name_in, second_in, encoding_in, NotedBy}
+use Rattle.tags.specs.internal.Noting.{noted_number, noted_name, noted_second, noted_encoding, NotedBy}
 use Rattle.tags.specs.declared.noting.Notes.{Notes}
 use Rattle.builder.specs.declared.work.Found.{Found}
 use Rattle.refusals.specs.declared.Refusal.{Refusal}
@@ -93,7 +93,7 @@ MadeOf d doc high text e text' = Made (drafted_item d doc) (draft_length d) high
 
 -- the ranges of the values that are noted
 abbrev pub found_in : Notes → Found
-found_in n = record { number = number_in n; name = name_in n; second = second_in n; encoding = encoding_in n }
+found_in n = record { number = noted_number n; name = noted_name n; second = noted_second n; encoding = noted_encoding n }
 
 -- f has those of a tag
 pub record Finds (tag : Tag) (f : Found) : Type 0 where

@@ -12,7 +12,7 @@ use Rattle.swar.specs.Word.{word_of}
 use Rattle.model.specs.Schema.{Item, Schema, item_at, positions_from, last, next_under, a_type, a_field}
 use Rattle.index.specs.Declarations.{declares}
 use Rattle.index.specs.Blank.{kinds, per_item, mask_of}
-use Rattle.index.specs.Declarations.{declaration_of, number_of}
+use Rattle.index.specs.Declarations.{declaration_of, declaration_code}
 
 -- a position as the index holds it
 abbrev pub code : Option ℕ → ℕ
@@ -76,17 +76,17 @@ pub record HashOf (name : List ℕ) (b : ℕ) : Type 0 where
   pub low : b < 1024
 
 -- the chain that a name is in, by its hash and the number of items
-unfoldable pub place : Schema → List ℕ → ℕ
-place s name = bit_and (hash name) (mask_of (length s.items))
+unfoldable pub chain_of : Schema → List ℕ → ℕ
+chain_of s name = bit_and (hash name) (mask_of (length s.items))
 
 -- p is where the head of a name's chain stands
 pub record HeadOf (s : Schema) (name : List ℕ) (p : ℕ) : Type 0 where
-  pub is : p ≡ per_item * length s.items + place s name
-  pub low : place s name ≤ mask_of (length s.items)
+  pub is : p ≡ per_item * length s.items + chain_of s name
+  pub low : chain_of s name ≤ mask_of (length s.items)
 
 -- an item that declares a name in chain b
 unfoldable pub hashed : Schema → ℕ → Item → Bool
-hashed s b it = declares it.kind and eqb (place s it.name) b
+hashed s b it = declares it.kind and eqb (chain_of s it.name) b
 
 -- the last of the first n items that is in chain b
 unfoldable pub last_hashed : ℕ → ℕ → Schema → Option ℕ
@@ -104,8 +104,8 @@ pub record Chained (s : Schema) (n : ℕ) (ix : List ℕ) : Type 0 where
 -- one step along a chain from its head: what the name is declared as by the item `it` at position i
 -- and those passed before, which say `kept`: 1 for an enum or composite, otherwise the first type
 -- met
-abbrev pub kept_by : Item → ℕ → List ℕ → ℕ → ℕ
-kept_by it i name kept =
+abbrev pub so_far_by : Item → ℕ → List ℕ → ℕ → ℕ
+so_far_by it i name kept =
     pick (eqb it.kind a_type)
     (pick (ltb 0 kept) kept (pick (same it.name name) (i + 2) 0))
     (pick (same it.name name) 1 kept)
@@ -114,12 +114,12 @@ kept_by it i name kept =
 
 -- n is the number of what a name is declared as, and small
 abbrev pub Numbers : Schema → List ℕ → ℕ → Type 0
-Numbers s name n = (n ≡ number_of (declaration_of s name)) × (n < 1026)
+Numbers s name n = (n ≡ declaration_code (declaration_of s name)) × (n < 1026)
 
 -- the fields from n on hold what their type names are declared as
 pub record Resolved (s : Schema) (n : ℕ) (ix : List ℕ) : Type 0 where
   pub is : (j : ℕ) → n ≤ j → j < length s.items → (item_at s j).kind ≡ a_field
-      → get_or ix (per_item * j + 1) 0 ≡ number_of (declaration_of s (item_at s j).second)
+      → get_or ix (per_item * j + 1) 0 ≡ declaration_code (declaration_of s (item_at s j).second)
 
 -- ---- the whole index
 

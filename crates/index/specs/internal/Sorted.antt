@@ -2,7 +2,7 @@
 use Rattle.std.specs.Prelude.{Option, Result, Ok, Err, ◌≡◌, Bool, true, false, List, [], ◌∷◌, ℕ, ◌+◌, ◌≤◌, ◌<◌, eqb, ltb, length, get_or, take}
 use Rattle.texts.specs.Choice.{pick}
 use Rattle.model.specs.Schema.{Item, Schema, is_named, item_at, positions_from, last, a_type, a_composite, an_enum}
-use Rattle.index.specs.Declarations.{declares, declared_by, number_of}
+use Rattle.index.specs.Declarations.{declares, declared_by, declaration_code}
 use Rattle.std.specs.declared.cmp.Ordering.{Ordering}
 use Rattle.std.specs.declared.cmp.Ordering.TheVariants.{Less, Equal, Greater}
 
@@ -23,10 +23,10 @@ abbrev pub last_by : (Item → Bool) → ℕ → Schema → Option ℕ
 last_by p n s = last (positions_from 0 p (take n s.items))
 
 -- what a name is declared as among the first k items
-unfoldable pub number_in : Schema → ℕ → List ℕ → ℕ
-number_in s k name =
+unfoldable pub code_in : Schema → ℕ → List ℕ → ℕ
+code_in s k name =
     let last_of : ℕ → Option ℕ = λ kind. last_by (is_named kind name) k s in
-    number_of (declared_by (last_of an_enum) (last_of a_composite) (last_of a_type))
+    declaration_code (declared_by (last_of an_enum) (last_of a_composite) (last_of a_type))
 
 -- what the item at i declares its name as, if it declares one
 abbrev pub worth : Schema → ℕ → ℕ
@@ -67,9 +67,9 @@ pub record Ordered (s : Schema) (k : ℕ) (names : List ℕ) (n : ℕ) : Type 0 
   pub few : n ≤ k
   pub rising : Rising s names n
   pub below : (a : ℕ) → a < n → get_or names a 0 < k
-  pub is : (a : ℕ) → a < n → worth s (get_or names a 0) ≡ number_in s k (name_at s names a)
+  pub is : (a : ℕ) → a < n → worth s (get_or names a 0) ≡ code_in s k (name_at s names a)
   pub none : (name : List ℕ) → ((a : ℕ) → a < n → name_at s names a ≡ name → ⊥)
-      → number_in s k name ≡ 0
+      → code_in s k name ≡ 0
 
 -- all names that the schema declares, in order
 abbrev pub InOrder : Schema → List ℕ → ℕ → Type 0

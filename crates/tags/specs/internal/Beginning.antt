@@ -1,4 +1,4 @@
--- How a tag begins: its raw name, of which some are known.
+-- How a tag begins: its raw name, of which some are usual.
 use Rattle.std.specs.Prelude.{◌≡◌, true, List, [], ◌∷◌, ◌++◌, ℕ, ◌+◌, ◌-◌, T, length, take, drop, Option, Some, None}
 use Rattle.texts.specs.Lists.{all}
 use Rattle.texts.specs.Text.{ascii, piece, starts_with}
@@ -12,7 +12,7 @@ use Rattle.tags.specs.declared.beginning.UsualName.{UsualName}
 use Rattle.tags.specs.declared.beginning.Beginning.{Beginning}
 use Rattle.tags.specs.Names.{prefix_length, local_name}
 
--- the local name of a known raw name, by its element; "types" is the known one that is Other
+-- the local name of a usual raw name, by its element; "types" is the usual one that is Other
 abbrev pub usual_name : Element → List ℕ
 usual_name MessageSchema = ascii "messageSchema"
 usual_name «Type» = ascii "type"
@@ -33,7 +33,7 @@ usual_raw element prefix = take prefix (ascii "sbe:") ++ usual_name element
 abbrev pub tagged_text : ℕ → Element → ℕ → List ℕ
 tagged_text behind element prefix = usual_raw element prefix ++ behind ∷ []
 
--- a known raw name: nothing in it ends it; its length, that of its prefix, and its element
+-- a usual raw name: nothing in it ends it; its length, that of its prefix, and its element
 pub record Says (element : Element) (len prefix : ℕ) : Type 0 where
   pub plain : T (all (until is_tag_name_end) (usual_raw element prefix))
   pub long : len ≡ length (usual_raw element prefix)
@@ -45,7 +45,7 @@ pub record IsUsual (behind : ℕ) (doc : List ℕ) (at : ℕ) (k : UsualName) : 
   pub stands : starts_with (tagged_text behind k.element k.prefix) (drop at doc) ≡ true
   pub says : Says k.element k.len k.prefix
 
--- none, or a known beginning at `at`
+-- none, or a usual beginning at `at`
 abbrev pub UsualAt : ℕ → List ℕ → ℕ → Option UsualName → Type 0
 UsualAt behind doc at None = Unit {0}
 UsualAt behind doc at (Some k) = IsUsual behind doc at k

@@ -115,6 +115,6 @@ pub record NamedAs (raw : List ℕ) (code : Option ℕ) : Type 0 where
   pub named : (k : ℕ) → code ≡ Some k → (0 < k) × (k < 18) × (raw ≡ known_name k)
 
 -- true says that the raw name declares a namespace; false, without a code, that it does not
-pub record Declares (raw : List ℕ) (code : Option ℕ) (r : Bool) : Type 0 where
+pub record IsNamespace (raw : List ℕ) (code : Option ℕ) (r : Bool) : Type 0 where
   pub yes : r ≡ true → is_xmlns raw ≡ true
   pub no : r ≡ false → code ≡ None → is_xmlns raw ≡ false

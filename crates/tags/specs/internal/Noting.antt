@@ -18,17 +18,17 @@ found_at zero len = None
 found_at (suc from) len = Some (record { from = from; len = len })
 
 -- the four values
-abbrev pub number_in : Notes → Option Range
-number_in n = found_at n.number n.number_len
+abbrev pub noted_number : Notes → Option Range
+noted_number n = found_at n.number n.number_len
 
-abbrev pub name_in : Notes → Option Range
-name_in n = found_at n.name n.name_len
+abbrev pub noted_name : Notes → Option Range
+noted_name n = found_at n.name n.name_len
 
-abbrev pub second_in : Notes → Option Range
-second_in n = found_at n.second n.second_len
+abbrev pub noted_second : Notes → Option Range
+noted_second n = found_at n.second n.second_len
 
-abbrev pub encoding_in : Notes → Option Range
-encoding_in n = found_at n.encoding n.encoding_len
+abbrev pub noted_encoding : Notes → Option Range
+noted_encoding n = found_at n.encoding n.encoding_len
 
 -- none
 abbrev pub no_notes : Notes
@@ -46,10 +46,10 @@ no_notes =
 
 -- they are what a look-up of the four names finds in the tag whose attributes begin at `at`
 pub record NotedBy (k : Keys) (doc : List ℕ) (at : ℕ) (noted : Notes) : Type 0 where
-  pub number : number_in noted ≡ attribute_at doc at k.number
-  pub name : name_in noted ≡ attribute_at doc at k.name
-  pub second : second_in noted ≡ attribute_at doc at k.second
-  pub encoding : encoding_in noted ≡ attribute_at doc at k.encoding
+  pub number : noted_number noted ≡ attribute_at doc at k.number
+  pub name : noted_name noted ≡ attribute_at doc at k.name
+  pub second : noted_second noted ≡ attribute_at doc at k.second
+  pub encoding : noted_encoding noted ≡ attribute_at doc at k.encoding
 
 -- ---- what one attribute adds
 
@@ -65,10 +65,10 @@ FoundMore raw value key was r = r ≡ later (value_if_named raw value key) was
 
 -- r are the notes `was` with one more attribute, of that raw name, under the four names
 pub record NotedMore (raw : List ℕ) (value : Range) (k : Keys) (was r : Notes) : Type 0 where
-  pub number : FoundMore raw value k.number (number_in was) (number_in r)
-  pub name : FoundMore raw value k.name (name_in was) (name_in r)
-  pub second : FoundMore raw value k.second (second_in was) (second_in r)
-  pub encoding : FoundMore raw value k.encoding (encoding_in was) (encoding_in r)
+  pub number : FoundMore raw value k.number (noted_number was) (noted_number r)
+  pub name : FoundMore raw value k.name (noted_name was) (noted_name r)
+  pub second : FoundMore raw value k.second (noted_second was) (noted_second r)
+  pub encoding : FoundMore raw value k.encoding (noted_encoding was) (noted_encoding r)
 
 -- with the attribute a
 abbrev pub NotedWith : List ℕ → RawAttribute → Keys → Notes → Notes → Type 0

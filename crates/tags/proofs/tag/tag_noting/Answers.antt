@@ -23,15 +23,15 @@ returns-in-Ok-TagEnd c = let f = c.in-Ok-TagEnd.is ∙ ap Ok (rw c.in-Ok-TagEnd.
 pub returns-in-Err : goal.returns-in-Err
 returns-in-Err c = search laws
 
-pub loop-a-smaller-then-is_declaration : goal.loop-a-smaller-then-is_declaration
-loop-a-smaller-then-is_declaration c =
+pub loop-a-smaller-then-is_namespace : goal.loop-a-smaller-then-is_namespace
+loop-a-smaller-then-is_namespace c =
     let f = c.in-Ok-Attribute.is ∙ ap Ok (rw c.in-Ok-Attribute.is at c.in-Ok-Attribute.field-0-is) in
-    omega (arith, quick-less _ c.args.at _ _ c.quick_part-code.ensures f, c.past_declarations-i.ensures.forward)
+    omega (arith, quick-less _ c.args.at _ _ c.quick_part-code.ensures f, c.past_namespaces-i.ensures.forward)
 
-pub loop-a-preserved-then-is_declaration : goal.loop-a-preserved-then-is_declaration
-loop-a-preserved-then-is_declaration c =
+pub loop-a-preserved-then-is_namespace : goal.loop-a-preserved-then-is_namespace
+loop-a-preserved-then-is_namespace c =
     let f = c.in-Ok-Attribute.is ∙ ap Ok (rw c.in-Ok-Attribute.is at c.in-Ok-Attribute.field-0-is) in
     let q = c.quick_part-code.ensures in
-    let m = declares-more _ _ _ c.loop-a.noted (sym (c.is_declaration.ensures.yes c.if-is_declaration.true)) refl in
-    let u = c.past_declarations-i.ensures in
+    let m = declares-more _ _ _ c.loop-a.noted (sym (c.is_namespace.ensures.yes c.if-is_namespace.true)) refl in
+    let u = c.past_namespaces-i.ensures in
     (going-past (quick-on _ _ _ _ q c.loop-a.invariant.0 f) u, all-past (all-on _ _ _ _ q c.loop-a.invariant.1 f m) u, c.loop-a.invariant.2, c.loop-a.invariant.3)

@@ -1,7 +1,7 @@
 use Rattle.std.proofs.Common.{arith, refl, ◌∙◌}
 use Rattle.index.proofs.Comparing.{order-is}
 use Rattle.index.proofs.Placing.{halving-less, halving-same, halving-greater}
-use Rattle.index.proofs.sorted.Places.place_of.Goals as goal
+use Rattle.index.proofs.sorted.Slots.slot_of.Goals as goal
 
 pub loop-low-preserved-in-Less : goal.loop-low-preserved-in-Less
 loop-low-preserved-in-Less c = halving-less _ _ c.requires _ c.loop-low.invariant (omega arith) (omega arith) refl c.name.ensures (c.cmp.ensures ∙ order-is _ _) c.in-Less.is
