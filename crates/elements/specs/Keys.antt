@@ -1,11 +1,12 @@
--- Rules: The builder. The attributes that each element looks up, by their names.
+-- Rules: The builder. The names whose values are noted of a tag, by its element: at least those that
+-- it looks up (what becomes of them is said in Builder.antt of builder).
 use Rattle.std.specs.Prelude.{List, [], ℕ}
 use Rattle.texts.specs.Text.{ascii}
 use Rattle.elements.specs.declared.Element.{Element}
 use Rattle.elements.specs.declared.Element.TheVariants.{MessageSchema, «Type», Ref, Composite, Enum, ValidValue, Message, Group, Field, Other}
 
--- four names, by what their values become in an item; [] where an element looks up fewer. A
--- schema's name is its package, its second text its version
+-- four names, by what their values become in an item; [] where fewer are noted. A schema's name is
+-- its package, its second text its version
 pub record Keys : Type 0 where
   pub number : List ℕ
   pub name : List ℕ

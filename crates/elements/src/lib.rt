@@ -1,5 +1,5 @@
-//! The elements that the builder knows, by name (specs/Elements.antt), and which attributes each
-//! looks up (specs/Keys.antt).
+//! The elements that the builder knows, by name (specs/Elements.antt), and the names whose values
+//! are noted of its tag (specs/Keys.antt).
 #![tactic(auto, using(crate::proofs::Laws::laws))]
 
 ghost use Rattle.std.specs.Prelude.{◌≡◌};

@@ -98,7 +98,7 @@ fn order_item(v: &View<'_>, names: &Names<'_>, i: u32, ix: &mut [u16])
     ensures { Settling v.now (i + 1) i ix.new }
 {
     if v.kind(i) == FIELD {
-        let d = names.declaration_code(v.second(i));
+        let d = names.code_of(v.second(i));
         let at = EACH * (i as usize) + CHAIN;
         ix[at] = d as u16;
     }

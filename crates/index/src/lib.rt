@@ -1,8 +1,8 @@
 //! An index over a schema: children by links, declarations by hash chains.
 //!
-//! `Index::of` fills a lent array in two passes over the items of any schema. `child` then promises
-//! what the model's `next_under` does, and `declared` what its `last_named` does for a field's type
-//! name, without a walk over all items. A chain that eight items do not settle, as with names made
+//! `Index::of` fills a lent array in two passes over the items of any schema. `children` then gives
+//! what the model's `under` does, and `declared` what its `last_named` says of a field's type name,
+//! without a walk over all items. A chain that eight items do not settle, as with names made
 //! to collide, is left to the sorted names.
 #![tactic(auto)]
 

@@ -112,7 +112,7 @@ impl<'a> Names<'a> {
     }
 
     /// The number of what a name is declared as.
-    pub(crate) fn declaration_code(&self, name: &[u8]) -> u32
+    pub(crate) fn code_of(&self, name: &[u8]) -> u32
         ensures { Numbers self.now name.now result }
     {
         let v = self.view;

@@ -46,7 +46,7 @@ text-told doc at h f {end} e k =
     rw k
     (record {
       is = rw (← e) refl;
-      moves = record { grows = omega arith; less = omega arith; sound = λ l. record { within = w; owed = tt }; inside = tt; element = λ l. tt; noted = tt };
+      moves = record { grows = omega arith; less = omega arith; sound = λ l. record { within = w; owed = tt }; inside = tt; element = λ l. refl; noted = tt };
     })
 
 -- ---- a close tag

@@ -6,7 +6,7 @@ use Rattle.classes.specs.Class.{is_space, is_tag_name_end, is_attribute_name_end
 use Rattle.tags.specs.Names.{prefix_length, is_xmlns}
 use Rattle.tags.specs.Attributes.{quoted_at, value_at, attribute_part_at, tag_part_at, with_part, tag_within, last_of, attribute_at}
 
--- of equal names the last counts, the prefix is prefix, and xmlns is dropped
+-- of equal names the last counts, the prefix is dropped, and xmlns is dropped
 pub tag : List ℕ
 tag = ascii "<a x='1' p:x='22' xmlns:y='3' xmlns='4' z=''>"
 

@@ -100,7 +100,7 @@ fn if_named(named: bool, this: usize, earlier: usize) -> usize
 
 /// Which of the four names an attribute has.
 #[derive(Clone, Copy)]
-struct Named {
+struct Matches {
     number: bool,
     name: bool,
     second: bool,
@@ -108,7 +108,7 @@ struct Named {
 }
 
 /// The notes with one more value, under each name that it has.
-fn with_value(named: Named, value: Range, earlier: Notes) -> Notes
+fn with_value(named: Matches, value: Range, earlier: Notes) -> Notes
     requires { value.from < 2 ^ 63 }
     ensures { result ≡ with_value named value earlier }
 {
@@ -142,7 +142,7 @@ fn noted_with(
     let whole = texts::part(doc, a.name.from, a.name.len);
     let prefix = prefix_len(whole);
     let local = texts::part(whole, prefix, a.name.len);
-    let named = Named {
+    let named = Matches {
         number: texts::equal(local, number),
         name: texts::equal(local, name),
         second: texts::equal(local, second),

@@ -1,5 +1,5 @@
 -- The index over a schema's items, as an array. Internal: the crates above are promised the model's
--- own searches (`next_under`, `last_named`).
+-- own lists and searches (`under`, `last_named`).
 --
 -- The numbers of an item: the next item of its kind and owner; the item before it in its hash
 -- chain or, for a field, what its type name is declared as; and for each kind the first

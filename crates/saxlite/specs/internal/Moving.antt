@@ -14,6 +14,7 @@ use Rattle.saxlite.specs.Event.{Events, done, broken}
 use Rattle.saxlite.specs.Reader.{cursor_at, to_come, told_before}
 use Rattle.saxlite.specs.declared.event.Event.{Event as Found}
 use Rattle.saxlite.specs.declared.event.Event.TheVariants.{Text, Open, Close}
+use Rattle.elements.specs.declared.Element.TheVariants.{Other}
 use Rattle.saxlite.specs.declared.event.Told.{Told}
 use Rattle.saxlite.specs.declared.event.Owed.{Owed}
 use Rattle.saxlite.specs.declared.event.Cursor.{Cursor}
@@ -67,7 +68,7 @@ Inside doc (Close name) = Unit {0}
 abbrev pub IsElement : List ℕ → Found → Element → Type 0
 IsElement doc (Open name attributes end) e = e ≡ element_of (piece doc name.from name.len)
 IsElement doc (Close name) e = e ≡ element_of (piece doc name.from name.len)
-IsElement doc (Text at) e = Unit {0}
+IsElement doc (Text at) e = e ≡ Other
 
 -- the notes of an open tag: the values of the four names that its element looks up
 abbrev pub NotedIn : List ℕ → Found → Element → Notes → Type 0

@@ -50,12 +50,12 @@ abbrev pub UsualAt : ℕ → List ℕ → ℕ → Option UsualName → Type 0
 UsualAt behind doc at None = Unit {0}
 UsualAt behind doc at (Some k) = IsUsual behind doc at k
 
--- such a text of at most one word, by its integers
+-- such a text of fewer than eight bytes, by its integers
 pub record UsualShort (behind : ℕ) (element : Element) (len modulus front : ℕ) : Type 0 where
   pub says : Says element len 0
   pub text : ShortText (tagged_text behind element 0) modulus front
 
--- and one of two words
+-- and one of 8 to 15 bytes
 pub record UsualLong (behind : ℕ) (element : Element) (len prefix front modulus back : ℕ) : Type 0 where
   pub says : Says element len prefix
   pub text : LongText (tagged_text behind element prefix) front modulus back

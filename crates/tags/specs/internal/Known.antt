@@ -40,14 +40,14 @@ abbrev pub KnownAt : List ℕ → ℕ → Option Known → Type 0
 KnownAt doc at None = Unit {0}
 KnownAt doc at (Some k) = IsKnown doc at k
 
--- such a text of at most one word, by its integers
+-- such a text of fewer than eight bytes, by its integers
 pub record KnownShort (code skip modulus front : ℕ) : Type 0 where
   pub above : 0 < code
   pub below : code < 18
   pub ahead : skip ≡ length (known_name code) + 3
   pub text : ShortText (known_text code) modulus front
 
--- one of two words
+-- one of 8 to 15 bytes
 pub record KnownLong (code skip front modulus back : ℕ) : Type 0 where
   pub above : 0 < code
   pub below : code < 18

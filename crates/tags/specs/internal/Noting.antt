@@ -5,7 +5,7 @@ use Rattle.texts.specs.Text.{same}
 use Rattle.texts.specs.declared.Range.{Range}
 use Rattle.elements.specs.Keys.{Keys}
 use Rattle.tags.specs.declared.noting.Notes.{Notes}
-use Rattle.tags.specs.declared.noting.Named.{Named}
+use Rattle.tags.specs.declared.noting.Matches.{Matches}
 use Rattle.tags.specs.Names.{local_name, is_xmlns}
 use Rattle.tags.specs.declared.part.RawAttribute.{RawAttribute}
 use Rattle.tags.specs.Attributes.{raw_name, later, attribute_at}
@@ -75,7 +75,7 @@ abbrev pub NotedWith : List ℕ → RawAttribute → Keys → Notes → Notes �
 NotedWith doc a k was r = NotedMore (raw_name doc a) a.value k was r
 
 -- the notes with a value under each name that an attribute has
-abbrev pub with_value : Named → Range → Notes → Notes
+abbrev pub with_value : Matches → Range → Notes → Notes
 with_value n value was =
     record {
       number = pick n.number (value.from + 1) was.number;

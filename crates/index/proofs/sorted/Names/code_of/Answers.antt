@@ -1,6 +1,6 @@
 use Rattle.std.proofs.Common.{arith, refl}
 use Rattle.index.proofs.Adding.{number-nothing, placed-in, placed_below, number-type, number-named}
-use Rattle.index.proofs.sorted.Names.declaration_code.Goals as goal
+use Rattle.index.proofs.sorted.Names.code_of.Goals as goal
 
 pub returns-in_default : goal.returns-in_default
 returns-in_default c =
