@@ -6,7 +6,7 @@ ghost use Rattle.index.specs.Blank.{Blank};
 ghost use Rattle.index.specs.internal.Index.{Chained, Naming, Next, Numbers, Settling};
 
 use crate::declaration::{NAMED, is_declaring};
-use crate::sorted::Names;
+use crate::sorted::{Names, Slots};
 use crate::{CHAIN, EACH, FIRST, LAST_KIND, STEPS, declared_so_far, head_of, number_at, put_front};
 use model::FIELD;
 use model::view::View;
@@ -110,7 +110,8 @@ fn put_rest(v: &View<'_>, from: u32, ix: &mut [u16])
     requires { Settling v.now from from ix.old × (from ≤ length v.now.items) }
     ensures { Settling v.now 0 0 ix.new }
 {
-    let names = Names::of(v);
+    let slots = Slots::of(v);
+    let names = Names::of(v, &slots);
     for i in (0..from).rev() {
         order_item(v, &names, i, ix);
         link_item(v, i, ix);

@@ -2,7 +2,7 @@
 //! comparisons, whatever the names are.
 ghost use Rattle.std.specs.Prelude.{◌≡◌, ◌+◌, ◌<◌, ◌≤◌, length, set};
 ghost use Rattle.index.specs.internal.Index.{Numbers};
-ghost use Rattle.index.specs.internal.Sorted.{Rising, Placed, Inserted, Ordered, Meeting};
+ghost use Rattle.index.specs.internal.Sorted.{Rising, Placed, Inserted, Ordered, Meeting, InOrder};
 
 use crate::declaration::{NAMED, TYPED, is_declaring};
 use model::view::View;
@@ -15,7 +15,7 @@ const SIZE: usize = MOST_ITEMS as usize;
 
 /// Positions of items, sorted by name: the first `count` of the array.
 #[derive(Drop)]
-struct Slots {
+pub(crate) struct Slots {
     names: [u16; SIZE],
     count: usize,
 }
@@ -40,7 +40,7 @@ impl Slots {
         Err(low)
     }
 
-    /// Inserts item `i` at place `p`; those from there on move up by one.
+    /// Inserts item `i` at slot `p`; those from there on move up by one.
     fn insert(&mut self, p: usize, i: u32)
         requires { (p ≤ self.old.count) × (self.old.count < 1024) × (i < 1024) }
         ensures names { Inserted self.old.names self.old.count p i self.new.names }
@@ -76,13 +76,28 @@ impl Slots {
             }
         }
     }
+
+    /// Sorts the names that a schema declares.
+    pub(crate) fn of(v: &View<'_>) -> Slots
+        ensures { InOrder v.now result.names result.count }
+    {
+        let mut slots = Slots {
+            names: [0; SIZE],
+            count: 0,
+        };
+        for i in 0..v.count() {
+            slots.add(v, i);
+        }
+        slots
+    }
 }
 
-/// The names that a schema declares, sorted. Contracts see them as the schema.
+/// The names that a schema declares, sorted. Contracts see them as the schema. The array is lent, as
+/// 2 KiB would be copied to move it.
 #[derive(Drop)]
 pub(crate) struct Names<'a> {
     view: &'a View<'a>,
-    places: Slots,
+    slots: &'a Slots,
 }
 
 impl<'a> Model for Names<'a> {
@@ -93,22 +108,16 @@ impl<'a> Model for Names<'a> {
 
     ghost view = { λ a. a.view.now };
 
-    ghost invariant = { λ a. InOrder a.view.now a.places.names a.places.count };
+    ghost invariant = { λ a. InOrder a.view.now a.slots.now.names a.slots.now.count };
 }
 
 impl<'a> Names<'a> {
-    /// Sorts the names that a schema declares.
-    pub(crate) fn of(view: &'a View<'a>) -> Names<'a>
+    /// The names that `slots` has in order.
+    pub(crate) fn of(view: &'a View<'a>, slots: &'a Slots) -> Names<'a>
+        requires { InOrder view.now slots.now.names slots.now.count }
         ensures { result ≡ view.now }
     {
-        let mut places = Slots {
-            names: [0; SIZE],
-            count: 0,
-        };
-        for i in 0..view.count() {
-            places.add(view, i);
-        }
-        Names { view, places }
+        Names { view, slots }
     }
 
     /// The number of what a name is declared as.
@@ -116,10 +125,10 @@ impl<'a> Names<'a> {
         ensures { Numbers self.now name.now result }
     {
         let v = self.view;
-        let Ok(p) = self.places.slot_of(v, name) else {
+        let Ok(p) = self.slots.slot_of(v, name) else {
             return 0;
         };
-        let i = self.places.names[p] as u32;
+        let i = self.slots.names[p] as u32;
         if v.kind(i) == TYPE { i + TYPED } else { NAMED }
     }
 }
