@@ -63,16 +63,16 @@ module _ (doc : List ℕ) (c : Cursor) where
 
 -- a reader, by what is read at its cursor
 module _ {r r' : Reader} {a : Result (Option Read) Refusal} (x : Asked r.doc.now r.cursor a) (d : r'.doc ≡ r.doc) where
-  pub yields-bad : {q : Refusal} → a ≡ Err q → Yields r r' (Err q)
-  yields-bad e = record { doc = d; is = (rw e at x).is }
+  pub yields-bad : {q : Refusal} → a ≡ Err q → r'.cursor ≡ r.cursor → Yields r r' (Err q)
+  yields-bad e c = record { doc = d; is = (rw e at x).is; stays = c }
 
-  pub yields-none : {o : Option Read} → a ≡ Ok o → o ≡ None → Yields r r' (Ok None)
-  yields-none e f = record { doc = d; is = (rw (e ∙ ap Ok f) at x).is }
+  pub yields-none : {o : Option Read} → a ≡ Ok o → o ≡ None → r'.cursor ≡ r.cursor → Yields r r' (Ok None)
+  yields-none e f c = record { doc = d; is = (rw (e ∙ ap Ok f) at x).is; stays = c }
 
   pub yields-told : {o : Option Read} → a ≡ Ok o → {k : Read} → o ≡ Some k → r'.cursor ≡ k.cursor → Yields r r' (Ok (Some k.told))
   yields-told e f c =
       let y = rw (e ∙ ap Ok f) at x in
-      record { doc = d; is = y.is ∙ rw c refl }
+      record { doc = d; is = y.is ∙ rw c refl; stays = tt }
 
 -- and that it has moved on
 module _ {doc : List ℕ} {c : Cursor} {a : Result (Option Read) Refusal} (x : Asked doc c a) where

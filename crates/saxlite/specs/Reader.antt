@@ -42,7 +42,14 @@ yielded_in doc (Ok None) more = done
 yielded_in doc (Ok (Some t)) more = told_before doc t more
 yielded_in doc (Err refusal) more = broken refusal
 
+-- an event moves the reader on; the end and a refusal leave it where it stood
+abbrev pub Stays : Cursor → Cursor → Result (Option Told) Refusal → Type 0
+Stays c c' (Ok None) = c' ≡ c
+Stays c c' (Ok (Some t)) = Unit {0}
+Stays c c' (Err refusal) = c' ≡ c
+
 -- the reader r yields o and is r' then: what was to come for r is o, then what is to come for r'
 pub record Yields (r r' : Reader) (o : Result (Option Told) Refusal) : Type 0 where
   pub doc : r'.doc ≡ r.doc
   pub is : to_come r.doc.now r.cursor ≡ yielded_in r.doc.now o (to_come r.doc.now r'.cursor)
+  pub stays : Stays r.cursor r'.cursor o
