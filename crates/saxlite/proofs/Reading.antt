@@ -19,7 +19,7 @@ module _ (doc : List ℕ) (c : Cursor) where
       rw e
       (record {
         is = rw t refl;
-        moves = record { grows = omega arith; less = omega (arith, ap owing t); sound = λ h. record { within = h.within; owed = tt }; inside = tt; element = λ h. rw t at h.owed; noted = tt };
+        moves = record { grows = omega arith; less = omega (arith, ap owing t); sound = λ h. record { within = h.within; owed = tt }; inside = tt; element = λ h. rw t at h; noted = tt };
       })
 
   -- where none is owed, past markup that is no event
@@ -56,7 +56,7 @@ module _ (doc : List ℕ) (c : Cursor) where
                     less = omega (arith, passed.0.forward, m.less, z);
                     sound = λ l. m.sound (record { within = passed.0.within l.within; owed = tt });
                     inside = m.inside;
-                    element = λ l. m.element (record { within = passed.0.within l.within; owed = tt });
+                    element = rw t m.element;
                     noted = m.noted;
                   };
             }

@@ -46,7 +46,7 @@ text-told doc at h f {end} e k =
     rw k
     (record {
       is = rw (← e) refl;
-      moves = record { grows = omega arith; less = omega arith; sound = λ l. record { within = w; owed = tt }; inside = tt; element = λ l. refl; noted = tt };
+      moves = record { grows = omega arith; less = omega arith; sound = λ l. record { within = w; owed = tt }; inside = tt; element = refl; noted = tt };
     })
 
 -- ---- a close tag
@@ -130,7 +130,7 @@ module _ (doc : List ℕ) (at : ℕ) (h : at + 1 ≤ length doc) {b : Beginning}
                 less = rw k (omega (arith, owing-most ending.self_closed owes));
                 sound = λ z. rw k (record { within = i; owed = owed-right doc owes ending.self_closed a.element });
                 inside = (record { place = at; closed = ending.self_closed; is = g }, omega arith);
-                element = λ z. a.element;
+                element = a.element;
                 noted = u;
               };
         }

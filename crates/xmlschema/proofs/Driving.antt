@@ -2,10 +2,14 @@
 use Rattle.std.proofs.Common.{◌≡◌, refl, sym, ap, subst, ◌∙◌, List, ℕ, ◌≤◌, ◌<◌, arith, length, Option, Some, None, Result, Ok, Err, lt-ltb, le-ltb}
 use Rattle.refusals.specs.declared.Refusal.{Refusal}
 use Rattle.refusals.specs.declared.Refusal.TheVariants.{OpenElements}
+use Rattle.elements.specs.declared.Element.{Element}
 use Rattle.saxlite.specs.Event.{Event, Events, broken, done, next}
 use Rattle.saxlite.specs.Events.{events}
 use Rattle.saxlite.specs.Reader.{cursor_at, event_in, to_come, Yields}
-use Rattle.saxlite.specs.internal.Moving.{takes, Inside, IsElement, NotedIn, left, CursorIn, Moves, Advances}
+use Rattle.saxlite.specs.internal.Moving.{takes, Inside, IsElement, NotedIn, OwedElement, TellsElement, left, CursorIn, Moves, Advances}
+use Rattle.saxlite.specs.declared.event.Event.{Event as Found}
+use Rattle.saxlite.specs.declared.event.Event.TheVariants.{Text, Open, Close}
+use Rattle.saxlite.specs.declared.event.Owed.{Owed}
 use Rattle.saxlite.specs.declared.event.Told.{Told}
 use Rattle.saxlite.specs.declared.reader.Reader.{Reader}
 use Rattle.model.specs.internal.Store.{items_of, schema_of}
@@ -23,6 +27,12 @@ pub drive-start : {r : Reader} {w : Work} → Sound w initial → r.doc.now ≡ 
 unfolding schema_of items_of stack_of
 drive-start k d c =
     record { doc = d; sound = k; used = rw c (omega arith); cursor = rw c (record { within = omega arith; owed = tt }); same = rw (d, c) refl }
+
+-- the element of any event, by that of an owed close
+element-told : (doc : List ℕ) (o : Option Owed) (event : Found) (e : Element) → TellsElement doc o event e → OwedElement doc o → IsElement doc event e
+element-told doc o (Open name attributes end) e t h = t
+element-told doc o (Close name) e t h = t h
+element-told doc o (Text at) e t h = t
 
 -- ---- what events make
 
@@ -78,7 +88,7 @@ module _ {r : Reader} {w : Work} {s : State} (d : Driving r w s) {r' : Reader} {
       drive-inside = rw d.doc at moves.inside
 
       pub drive-element : IsElement w.doc.now t.event t.element
-      drive-element = rw d.doc at (moves.element sound)
+      drive-element = rw d.doc at (element-told r.doc.now r.cursor.owed t.event t.element moves.element sound.owed)
 
       pub drive-noted : NotedIn w.doc.now t.event t.element t.noted
       drive-noted = rw d.doc at moves.noted

@@ -81,6 +81,13 @@ abbrev pub OwedElement : List ℕ → Option Owed → Type 0
 OwedElement doc None = Unit {0}
 OwedElement doc (Some o) = o.element ≡ element_of (piece doc o.name.from o.name.len)
 
+-- the element told is right: of text and of an open tag for every reader, of a close if the element
+-- of a close that was owed is right
+abbrev pub TellsElement : List ℕ → Option Owed → Found → Element → Type 0
+TellsElement doc o (Open name attributes end) e = IsElement doc (Open name attributes end) e
+TellsElement doc o (Close name) e = OwedElement doc o → IsElement doc (Close name) e
+TellsElement doc o (Text at) e = IsElement doc (Text at) e
+
 -- a cursor as readers have it, from the document's first byte on
 pub record CursorIn (doc : List ℕ) (c : Cursor) : Type 0 where
   pub within : c.at ≤ length doc
@@ -100,7 +107,7 @@ pub record Moves (doc : List ℕ) (c : Cursor) (t : Told) (c' : Cursor) : Type 0
   pub less : left doc c' < left doc c
   pub sound : CursorIn doc c → CursorIn doc c'
   pub inside : Inside doc t.event
-  pub element : CursorIn doc c → IsElement doc t.event t.element
+  pub element : TellsElement doc c.owed t.event t.element
   pub noted : NotedIn doc t.event t.element t.noted
 
 -- ---- what functions over the document and a place promise
