@@ -19,7 +19,7 @@ module _ (doc : List ℕ) (c : Cursor) where
       rw e
       (record {
         is = rw t refl;
-        moves = record { grows = omega arith; less = omega (arith, ap owing t); sound = λ h. record { within = h.within; owed = tt }; inside = tt; element = λ h. rw t at h; noted = tt };
+        moves = record { grows = omega arith; less = omega (arith, ap owing t); sound = λ h. record { within = h.within; owed = tt }; inside = tt; closes = λ h. rw t at h; owes = tt; element = λ h. rw t at h; noted = tt };
       })
 
   -- where none is owed, past markup that is no event
@@ -56,6 +56,8 @@ module _ (doc : List ℕ) (c : Cursor) where
                     less = omega (arith, passed.0.forward, m.less, z);
                     sound = λ l. m.sound (record { within = passed.0.within l.within; owed = tt });
                     inside = m.inside;
+                    closes = rw t m.closes;
+                    owes = m.owes;
                     element = rw t m.element;
                     noted = m.noted;
                   };

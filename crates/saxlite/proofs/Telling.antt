@@ -27,7 +27,7 @@ use Rattle.elements.specs.Elements.{element_of}
 use Rattle.elements.specs.Keys.{keys_of}
 use Rattle.elements.specs.declared.Element.{Element}
 use Rattle.elements.specs.declared.Element.TheVariants.{Other}
-use Rattle.saxlite.specs.internal.Moving.{bare, cursor_past, owing, OwedElement, Here}
+use Rattle.saxlite.specs.internal.Moving.{bare, cursor_past, owing, OwedElement, OwedInside, Here}
 use Rattle.saxlite.specs.declared.event.Event.TheVariants.{Text, Open, Close}
 use Rattle.saxlite.specs.declared.event.Owed.{Owed}
 use Rattle.saxlite.specs.declared.event.Cursor.{Cursor}
@@ -46,7 +46,7 @@ text-told doc at h f {end} e k =
     rw k
     (record {
       is = rw (← e) refl;
-      moves = record { grows = omega arith; less = omega arith; sound = λ l. record { within = w; owed = tt }; inside = tt; element = refl; noted = tt };
+      moves = record { grows = omega arith; less = omega arith; sound = λ l. record { within = w; owed = tt }; inside = omega arith; closes = tt; owes = tt; element = refl; noted = tt };
     })
 
 -- ---- a close tag
@@ -63,7 +63,7 @@ module _ (doc : List ℕ) (at : ℕ) {end : ℕ} (e : end ≡ scan (until is_tag
       rw k
       (record {
         is = rw (← e, ← d, ← s, t) (ap (λ m. next at (closes m) (events_from doc (due + 1))) (sym n));
-        moves = record { grows = omega arith; less = omega arith; sound = λ z. record { within = h; owed = tt }; inside = tt; element = λ z. i ∙ ap element_of u; noted = tt };
+        moves = record { grows = omega arith; less = omega arith; sound = λ z. record { within = h; owed = tt }; inside = tt; closes = λ z. omega (arith, local-within doc (at + 2) (end - (at + 2)) p l); owes = tt; element = λ z. i ∙ ap element_of u; noted = tt };
       })
 
   pub close-open : b ≡ false → Here (close_at (events_from doc) doc at) doc at (Err (NoCloseTagEnd due at))
@@ -85,6 +85,10 @@ owing-most false o = omega arith
 owed-right : (doc : List ℕ) (o : Owed) (closed : Bool) → o.element ≡ element_of (piece doc o.name.from o.name.len) → OwedElement doc (pick closed (Some o) None)
 owed-right doc o true e = e
 owed-right doc o false e = tt
+
+owed-inside : (doc : List ℕ) (o : Owed) (closed : Bool) → o.name.from + o.name.len ≤ length doc → OwedInside doc (pick closed (Some o) None)
+owed-inside doc o true l = l
+owed-inside doc o false l = tt
 
 owed-behind : (doc : List ℕ) (at : ℕ) (name : List ℕ) (o : Owed) (closed : Bool) (more : Events) → o.place ≡ at → piece doc o.name.from o.name.len ≡ name
     → pick closed (next at (closes name) more) more ≡ owed_before doc (pick closed (Some o) None) more
@@ -130,6 +134,8 @@ module _ (doc : List ℕ) (at : ℕ) (h : at + 1 ≤ length doc) {b : Beginning}
                 less = rw k (omega (arith, owing-most ending.self_closed owes));
                 sound = λ z. rw k (record { within = i; owed = owed-right doc owes ending.self_closed a.element });
                 inside = (record { place = at; closed = ending.self_closed; is = g }, omega arith);
+                closes = tt;
+                owes = rw k (owed-inside doc owes ending.self_closed (omega arith));
                 element = a.element;
                 noted = u;
               };

@@ -57,9 +57,9 @@ pub record Tagged (doc : List ℕ) (attributes end : ℕ) : Type 0 where
   pub closed : Bool
   pub is : (tag_at doc attributes place).ending ≡ Ok (record { next = end; self_closed = closed })
 
--- where an open tag lies in the document
+-- where text or an open tag lies in the document
 abbrev pub Inside : List ℕ → Found → Type 0
-Inside doc (Text at) = Unit {0}
+Inside doc (Text at) = at.from + at.len ≤ length doc
 Inside doc (Open name attributes end) =
     Tagged doc attributes end × (name.from + name.len ≤ length doc)
 Inside doc (Close name) = Unit {0}
@@ -88,6 +88,17 @@ TellsElement doc o (Open name attributes end) e = IsElement doc (Open name attri
 TellsElement doc o (Close name) e = OwedElement doc o → IsElement doc (Close name) e
 TellsElement doc o (Text at) e = IsElement doc (Text at) e
 
+-- the name of an owed close lies in the document
+abbrev pub OwedInside : List ℕ → Option Owed → Type 0
+OwedInside doc None = Unit {0}
+OwedInside doc (Some o) = o.name.from + o.name.len ≤ length doc
+
+-- the name of a close lies there, if that of a close that was owed does
+abbrev pub ClosesInside : List ℕ → Option Owed → Found → Type 0
+ClosesInside doc o (Close name) = OwedInside doc o → name.from + name.len ≤ length doc
+ClosesInside doc o (Text at) = Unit {0}
+ClosesInside doc o (Open name attributes end) = Unit {0}
+
 -- a cursor as readers have it, from the document's first byte on
 pub record CursorIn (doc : List ℕ) (c : Cursor) : Type 0 where
   pub within : c.at ≤ length doc
@@ -107,6 +118,8 @@ pub record Moves (doc : List ℕ) (c : Cursor) (t : Told) (c' : Cursor) : Type 0
   pub less : left doc c' < left doc c
   pub sound : CursorIn doc c → CursorIn doc c'
   pub inside : Inside doc t.event
+  pub closes : ClosesInside doc c.owed t.event
+  pub owes : OwedInside doc c'.owed
   pub element : TellsElement doc c.owed t.event t.element
   pub noted : NotedIn doc t.event t.element t.noted
 
