@@ -52,10 +52,11 @@ impl<'d, 'a> Work<'d, 'a> {
     }
 
     /// Closes a validValue: the collected text, trimmed, is given to the last value of the current
-    /// enum, then emptied, and text is collected no more.
+    /// enum, then emptied, and text is collected no more. The text buffer is not written to.
     fn close_value(&mut self, s: State) -> State
         requires { Sound self.old s }
-        ensures { Turns close_value self.old s 0 self.new result }
+        ensures is { Turns close_value self.old s 0 self.new result }
+        ensures text { self.new.text.now ≡ self.old.text.now }
     {
         let cleared = State {
             usage: Usage {
@@ -76,10 +77,11 @@ impl<'d, 'a> Work<'d, 'a> {
         cleared
     }
 
-    /// Closes the element `e`, whose name is popped already.
+    /// Closes the element `e`, whose name is popped already. The text buffer is not written to.
     fn close_by(&mut self, s: State, e: Element) -> State
         requires { Sound self.old s }
-        ensures { Turns (close_by e) self.old s 0 self.new result }
+        ensures is { Turns (close_by e) self.old s 0 self.new result }
+        ensures text { self.new.text.now ≡ self.old.text.now }
     {
         let current = match e {
             Element::ValidValue => {
@@ -107,7 +109,7 @@ impl<'d, 'a> Work<'d, 'a> {
     }
 
     /// Takes a close tag of this name and its element, whose `<` is at `place`: pops the innermost
-    /// open name. Refused (30) if that is another one.
+    /// open name. Refused (30) if that is another one. The text buffer is not written to.
     pub fn on_close(
         &mut self,
         s: State,
@@ -116,7 +118,8 @@ impl<'d, 'a> Work<'d, 'a> {
         element: Element,
     ) -> Result<State, Refusal>
         requires { Sound self.old s × (element ≡ element_of (doc_piece self.old name.from name.len)) }
-        ensures { Makes (closed place (doc_piece self.old name.from name.len)) self.old s 0 self.new result }
+        ensures is { Makes (closed place (doc_piece self.old name.from name.len)) self.old s 0 self.new result }
+        ensures text { self.new.text.now ≡ self.old.text.now }
     {
         if !self.is_open(s, name.from, name.len) {
             return Err(Refusal::WrongClose { place });
@@ -124,10 +127,12 @@ impl<'d, 'a> Work<'d, 'a> {
         Ok(self.close_by(s.popped(), element))
     }
 
-    /// Takes the text of `len` bytes at `from`: while text is collected, appends it, decoded.
+    /// Takes the text of `len` bytes at `from`: while text is collected, appends it, decoded. The
+    /// record buffer is not written to.
     pub fn on_text(&mut self, s: State, from: usize, len: usize) -> State
         requires { Ready self.old s len }
-        ensures { Turns (collect (text_at self.old from len)) self.old s len self.new result }
+        ensures is { Turns (collect (text_at self.old from len)) self.old s len self.new result }
+        ensures records { self.new.records.now ≡ self.old.records.now }
     {
         if s.current.collecting {
             let n = decode_room(self.doc, from, len, self.text, s.usage.collected_to);
