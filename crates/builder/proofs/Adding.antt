@@ -60,7 +60,7 @@ after-then p a = record { is = a.is; sound = a.sound; used = a.used; same = same
 
 -- ---- the first state
 
-pub initial_sound : {w : Work} → Suffice w.doc.now w.records.now w.text.now → Sound w initial
+pub initial_sound : {w : Work} → Suffice w.records.now w.text.now → Sound w initial
 unfolding schema_of items_of
 initial_sound h =
     record {
@@ -128,7 +128,7 @@ module _ (w : Work) (s : State) (place : ℕ) (e : Entry) (k : Sound w s) where
         record {
           is = rw (n, lt-leb w.limits.items s.usage.items c, schema-now w.text.now alike_self, sk);
           sound =
-              record { within = record { deep = k.within.deep; many = omega arith; begun = k.within.begun; apart = h; top = omega (arith, k.within.top) }; lent = record { document = k.lent.document; records = rw (length-sets w.records.now (15 * s.usage.items) (words_of e)) k.lent.records; bytes = k.lent.bytes }; stable = λ t a. schema-now t a ∙ sym (schema-now w.text.now alike_self) };
+              record { within = record { deep = k.within.deep; many = omega arith; begun = k.within.begun; apart = h; top = omega (arith, k.within.top) }; lent = record { records = rw (length-sets w.records.now (15 * s.usage.items) (words_of e)) k.lent.records; bytes = k.lent.bytes }; stable = λ t a. schema-now t a ∙ sym (schema-now w.text.now alike_self) };
           used = omega (arith, k.within.top);
           same = record { limits = refl; doc = refl; records = refl; text = refl };
         }

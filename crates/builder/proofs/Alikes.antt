@@ -38,7 +38,7 @@ module _ (w : Work) (s : State) (t : List ℕ) (k : Sound w s) (a : Alike s.usag
 
   pub sound-alike : length t ≡ length w.text.now → Sound (texted w t) s
   sound-alike l =
-      record { within = k.within; lent = record { document = k.lent.document; records = k.lent.records; bytes = omega (arith, k.lent.bytes) }; stable = λ u b. k.stable u (alike-trans a b) ∙ sym (k.stable t a) }
+      record { within = k.within; lent = record { records = k.lent.records; bytes = omega (arith, k.lent.bytes) }; stable = λ u b. k.stable u (alike-trans a b) ∙ sym (k.stable t a) }
 
 -- a value of the tag has room where the tag has
 pub tag-room : (doc : List ℕ) (attributes next : ℕ) → Tagged doc attributes next → (keys : List (List ℕ)) → T (different keys) → raw_lengths doc attributes keys ≤ next - attributes

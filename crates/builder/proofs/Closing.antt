@@ -131,7 +131,7 @@ module _ {w : Work} {s : State} (k : Sound w s) where
       (record {
         is = ap on (rw (o, valued-stack w s k v z owner, valued-schema w s k v z owner w.text.now alike_self) (value-some (builder_in w s) e));
         sound =
-            record { within = record { deep = k.within.deep; many = k.within.many; begun = omega arith; apart = k.within.apart; top = k.within.top }; lent = record { document = k.lent.document; records = rw (valued-long w s k v z owner) k.lent.records; bytes = k.lent.bytes }; stable = λ t b. valued-schema w s k v z owner t b ∙ sym (valued-schema w s k v z owner w.text.now alike_self) };
+            record { within = record { deep = k.within.deep; many = k.within.many; begun = omega arith; apart = k.within.apart; top = k.within.top }; lent = record { records = rw (valued-long w s k v z owner) k.lent.records; bytes = k.lent.bytes }; stable = λ t b. valued-schema w s k v z owner t b ∙ sym (valued-schema w s k v z owner w.text.now alike_self) };
         used = omega arith;
         same = record { limits = refl; doc = refl; records = refl; text = refl };
       })
@@ -215,7 +215,7 @@ module _ {w : Work} {s : State} (from len : ℕ) (r : Ready w s len) where
         record {
           is = ap on (z ∙ collect-on (decoded (piece w.doc.now from len)) (builder_in w s) f);
           sound =
-              record { within = record { deep = k.within.deep; many = k.within.many; begun = omega (arith, k.within.begun); apart = omega (arith, short, r.room); top = k.within.top }; lent = record { document = k.lent.document; records = k.lent.records; bytes = rw (et, length-sets w.text.now s.usage.collected_to (decoded (piece w.doc.now from len))) k.lent.bytes }; stable = λ u b. k.stable u (alike-trans alike (alike-lower t u s.usage.collected_to (s.usage.collected_to + n) s.usage.taken_from (omega arith) b)) ∙ sym (k.stable t alike) };
+              record { within = record { deep = k.within.deep; many = k.within.many; begun = omega (arith, k.within.begun); apart = omega (arith, short, r.room); top = k.within.top }; lent = record { records = k.lent.records; bytes = rw (et, length-sets w.text.now s.usage.collected_to (decoded (piece w.doc.now from len))) k.lent.bytes }; stable = λ u b. k.stable u (alike-trans alike (alike-lower t u s.usage.collected_to (s.usage.collected_to + n) s.usage.taken_from (omega arith) b)) ∙ sym (k.stable t alike) };
           used = omega (arith, short);
           same = record { limits = refl; doc = refl; records = refl; text = refl };
         }

@@ -95,7 +95,7 @@ module _ {w : Work} {s : State} {tag : Tag} (o : ReadyToOpen schema_keys w s tag
                 ∙ schema-by tag.place (attributes_of w tag) (builder_in w₂ s) id version (is_number o ef m ex) (sym said ∙ number-ok tag.place _ (sym ey ∙ n.is))
                 ∙ ap (open_schema tag.place (attributes_of w tag)) b;
             sound =
-                record { within = record { deep = k.within.deep; many = k.within.many; begun = k.within.begun; apart = low; top = omega (arith, q.start, k.within.top) }; lent = record { document = k.lent.document; records = k.lent.records; bytes = omega (arith, q.long, k.lent.bytes) }; stable = λ u a. schema-now u a ∙ sym (schema-now t alike_self) };
+                record { within = record { deep = k.within.deep; many = k.within.many; begun = k.within.begun; apart = low; top = omega (arith, q.start, k.within.top) }; lent = record { records = k.lent.records; bytes = omega (arith, q.long, k.lent.bytes) }; stable = λ u a. schema-now u a ∙ sym (schema-now t alike_self) };
             used = omega (arith, q.start, k.within.top, name-room o ef);
             same = same-trans m.same (same-trans n.same (record { limits = refl; doc = refl; records = refl; text = refl }));
           }

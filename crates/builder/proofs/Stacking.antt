@@ -67,7 +67,7 @@ module _ (w : Work) (s : State) (from len n : ℕ) (r : Ready w s n) (d : s.usag
       let k = r.sound in
       record {
         sound =
-            record { within = record { deep = omega arith; many = k.within.many; begun = k.within.begun; apart = k.within.apart; top = k.within.top }; lent = record { document = k.lent.document; records = rw (length-set, length-set) k.lent.records; bytes = k.lent.bytes }; stable = λ t a. schema t ∙ k.stable t a ∙ sym (schema w.text.now) };
+            record { within = record { deep = omega arith; many = k.within.many; begun = k.within.begun; apart = k.within.apart; top = k.within.top }; lent = record { records = rw (length-set, length-set) k.lent.records; bytes = k.lent.bytes }; stable = λ t a. schema t ∙ k.stable t a ∙ sym (schema w.text.now) };
         room = r.room;
       }
 

@@ -1,9 +1,9 @@
 //! What the builder borrows, what it learns of a tag, and the stack of open names.
 #![tactic(auto, using(crate::proofs::Laws::stacking))]
 
-ghost use Rattle.std.specs.Prelude.{◌≡◌, ◌+◌, ◌≤◌, ◌<◌, length};
+ghost use Rattle.std.specs.Prelude.{◌≡◌, ◌+◌, ◌≤◌, ◌<◌};
 ghost use Rattle.texts.specs.Text.{same};
-ghost use Rattle.builder.specs.Limits.{max_depth};
+ghost use Rattle.builder.specs.Limits.{max_depth, max_document};
 ghost use Rattle.builder.specs.Builder.{top};
 ghost use Rattle.builder.specs.internal.Layout.{stack_of, builder_in, pushed, with_name, initial, parent_composite, Sound, doc_piece, Suffice, lent};
 ghost use Rattle.builder.specs.internal.Taking.{Finds};
@@ -68,7 +68,7 @@ impl<'d, 'a> Work<'d, 'a> {
         records: &'a mut [u32],
         text: &'a mut [u8],
     ) -> Work<'d, 'a>
-        requires { Suffice doc.now records.old text.old }
+        requires { Suffice records.old text.old }
         ensures is { result ≡ lent limits doc.entry records.entry text.entry }
         ensures sound { Sound result initial }
     {
@@ -84,7 +84,7 @@ impl<'d, 'a> Work<'d, 'a> {
     pub(crate) fn push(&mut self, s: State, from: usize, len: usize) -> State
         requires sound { Sound self.old s }
         requires above { s.usage.depth < max_depth }
-        requires inside { from + len ≤ length self.old.doc.now }
+        requires inside { from + len ≤ max_document }
         ensures state { result ≡ pushed s }
         ensures names { self.new ≡ with_name self.old s from len }
     {

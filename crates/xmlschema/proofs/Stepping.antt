@@ -1,5 +1,5 @@
 -- Laws of one step, by event.
-use Rattle.std.proofs.Common.{◌≡◌, List, ℕ, ◌-◌, Result}
+use Rattle.std.proofs.Common.{◌≡◌, List, ℕ, ◌-◌, ◌≤◌, arith, length, Result}
 use Rattle.texts.specs.declared.Range.{Range}
 use Rattle.texts.specs.Text.{piece}
 use Rattle.refusals.specs.declared.Refusal.{Refusal}
@@ -13,6 +13,7 @@ use Rattle.saxlite.specs.internal.Moving.{takes, Inside, IsElement, NotedIn}
 use Rattle.saxlite.specs.declared.event.Event.{Event}
 use Rattle.saxlite.specs.declared.event.Event.TheVariants.{Text, Open, Close}
 use Rattle.builder.specs.Builder.{Builder, on, opened, closed, collect}
+use Rattle.builder.specs.Limits.{max_document}
 use Rattle.builder.specs.internal.Layout.{Ready, IsTag, After}
 use Rattle.builder.specs.declared.state.State.{State}
 use Rattle.builder.specs.declared.work.Work.{Work}
@@ -38,11 +39,11 @@ module _ (w : Work) (ev : Event) (s : State) (k : Ready w s (takes ev)) where
   tag-ready e = rw e at k
 
 pub tag-is :
-    (doc : List ℕ) (place : ℕ) (ev : Event) {name : Range} {attributes next : ℕ} → ev ≡ Open name attributes next → Inside doc ev → {element : Element} → IsElement doc ev element → {noted : Notes} → NotedIn doc ev element noted
+    (doc : List ℕ) (place : ℕ) (ev : Event) {name : Range} {attributes next : ℕ} → ev ≡ Open name attributes next → Inside doc ev → length doc ≤ max_document → {element : Element} → IsElement doc ev element → {noted : Notes} → NotedIn doc ev element noted
     → IsTag doc (record { place = place; name = name; element = element; attributes = attributes; next = next; noted = noted })
-tag-is doc place ev e i {element} q {noted} m =
+tag-is doc place ev e i h {element} q {noted} m =
     let a = rw e at i in
-    record { tagged = a.0; named = rw e at q; noted = rw e at m; inside = a.1 }
+    record { tagged = a.0; named = rw e at q; noted = rw e at m; inside = omega (arith, a.1, h) }
 
 pub close-is : (doc : List ℕ) (ev : Event) {name : Range} → ev ≡ Close name → {element : Element} → IsElement doc ev element → element ≡ element_of (piece doc name.from name.len)
 close-is doc ev e q = rw e at q

@@ -152,9 +152,8 @@ abbrev pub IsCollected : Work → State → Range → Type 0
 IsCollected w s r =
     TrimmedTo w.text.now s.usage.collected_from (s.usage.collected_to - s.usage.collected_from) r
 
--- the document is not too long, and the two buffers are long enough for what is read of it
-pub record Suffice (doc rec text : List ℕ) : Type 0 where
-  pub document : length doc ≤ max_document
+-- the two buffers are long enough for what is read of a document
+pub record Suffice (rec text : List ℕ) : Type 0 where
   pub records : min_records ≤ length rec
   pub bytes : min_text ≤ length text
 
@@ -175,7 +174,7 @@ pub record Within (u : Usage) : Type 0 where
 -- every text that is alike, so nothing has to be said of where the texts of each item lie
 pub record Sound (w : Work) (s : State) : Type 0 where
   pub within : Within s.usage
-  pub lent : Suffice w.doc.now w.records.now w.text.now
+  pub lent : Suffice w.records.now w.text.now
   pub stable : (t : List ℕ) → Alike s.usage.collected_to s.usage.taken_from w.text.now t
       → schema_of (model_in s) w.records.now t ≡ schema_of (model_in s) w.records.now w.text.now
 
@@ -188,12 +187,13 @@ pub record Ready (w : Work) (s : State) (n : ℕ) : Type 0 where
   pub sound : Sound w s
   pub room : s.usage.collected_to + n ≤ s.usage.taken_from
 
--- what is known of a tag that was read: where it lies, its element, and what was noted of it
+-- what is known of a tag that was read: where it lies, its element, what was noted of it, and that
+-- its name ends where a document may still reach
 pub record IsTag (doc : List ℕ) (tag : Tag) : Type 0 where
   pub tagged : Tagged doc tag.attributes tag.next
   pub named : tag.element ≡ element_of (piece doc tag.name.from tag.name.len)
   pub noted : NotedBy (keys_of tag.element) doc tag.attributes tag.noted
-  pub inside : tag.name.from + tag.name.len ≤ length doc
+  pub inside : tag.name.from + tag.name.len ≤ max_document
 
 -- how many bytes of the text buffer a tag may take
 abbrev pub room : Tag → ℕ
