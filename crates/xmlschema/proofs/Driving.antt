@@ -36,11 +36,11 @@ element-told doc o (Text at) e t h = t
 
 -- ---- what events make
 
-built-on : (l : Limits) (place : ℕ) (e : Event) (more : Events) (b b' : Builder) → step l place e b ≡ on b' → built l (next place e more) b ≡ built l more b'
+pub built-on : (l : Limits) (place : ℕ) (e : Event) (more : Events) (b b' : Builder) → step l place e b ≡ on b' → built l (next place e more) b ≡ built l more b'
 unfolding built
 built-on l place e more b b' q = rw (built, q) refl
 
-built-refused : (l : Limits) (place : ℕ) (e : Event) (more : Events) (b : Builder) (r : Refusal) → step l place e b ≡ refused r → built l (next place e more) b ≡ refused r
+pub built-refused : (l : Limits) (place : ℕ) (e : Event) (more : Events) (b : Builder) (r : Refusal) → step l place e b ≡ refused r → built l (next place e more) b ≡ refused r
 unfolding built
 built-refused l place e more b r q = rw (built, q) refl
 

@@ -4,17 +4,21 @@
 -- and a validValue is open above the nearest open enum, the items hold a value of the current enum.
 -- It holds of the empty builder (`track-empty`), every event keeps it (`track`), and so it holds
 -- wherever events lead (`reached-tracked`).
-use Rattle.std.proofs.Common.{append-nil, ◌≡◌, refl, sym, ap, ◌∙◌, Bool, true, false, List, [], ◌∷◌, ◌++◌, Option, Some, None, ℕ, zero, suc, ◌+◌, arith, leb, eqb, length, get_or, set, eq-eqb}
+use Rattle.std.proofs.Common.{append-nil, ◌≡◌, refl, sym, ap, ◌∙◌, Bool, true, false, List, [], ◌∷◌, ◌++◌, Option, Some, None, ℕ, zero, suc, ◌+◌, arith, leb, ltb, eqb, length, get_or, set, eq-eqb}
 use Rattle.texts.specs.Choice.{pick, ◌and◌}
 use Rattle.texts.specs.Text.{ascii, same}
 use Rattle.texts.proofs.Choosing.{by-test}
 use Rattle.texts.proofs.Comparing.{same-equal}
-use Rattle.saxlite.specs.Event.{Event, Events, text, opens, closes, next}
+use Rattle.refusals.specs.declared.Refusal.{Refusal}
+use Rattle.refusals.specs.declared.Refusal.TheVariants.{OpenElements}
+use Rattle.saxlite.specs.Event.{Event, Events, text, opens, closes, done, broken, next}
+use Rattle.saxlite.specs.Events.{events}
 use Rattle.model.specs.Schema.{Item, Schema, no_item, item_at, positions_from, under, last, a_value}
 use Rattle.builder.specs.Builder.{if_current, Builder, Outcome, on, refused, Attributes, text_in, number_in, with_stack, with_text, with_schema, with_items, with_second, now_composite, now_enum, now_message, now_group, next_position, added, and_then, with_number, plain_item, open_schema, open_type, open_ref, open_composite, open_enum, open_value, open_message, open_group, field_in, open_field, open_by, opened, top, rest, with_second_at, value_of_enum, close_value, close_by, closed, collect}
 use Rattle.model.proofs.Searching.{last_snoc, positions-snoc}
-use Rattle.xmlschema.specs.Whole.{step, empty}
-use Rattle.xmlschema.specs.Tracking.{Reached, start, further, HasValue, ValuesFound}
+use Rattle.xmlschema.specs.Whole.{step, built, empty, refused_by, accepted, ending}
+use Rattle.xmlschema.proofs.Driving.{built-on, built-refused}
+use Rattle.xmlschema.specs.Tracking.{Reached, start, further, HasValue, ValuesFound, Comes, AcceptedReached, ReachedOn}
 use Rattle.builder.specs.Limits.{Limits}
 use Rattle.elements.specs.Elements.{element_of, other_element_of}
 use Rattle.elements.specs.declared.Element.{Element}
@@ -235,3 +239,28 @@ values_found l doc place name more b e r v t q = go b.stack refl t
     go : (st : List (List ℕ)) → b.stack ≡ st → same name (top st) ≡ true → HasValue e b.schema
     go [] p u = absurd (let z : element.ValidValue ≡ element.Other = sym v ∙ ap element_of (same-equal name [] u) ∙ nameless in let y : ◌≡◌ {A = ℕ} 0 1 = cc in omega arith)
     go (m ∷ ms) p u = value_found b m ms e (reached-tracked l doc (next place (closes name) more) b r) p (ap element_of (sym (same-equal name m u)) ∙ v) q
+
+-- ---- what is reached, and what a whole document makes
+
+pub reached_on : ReachedOn
+reached_on l doc more b start = refl
+reached_on l doc rest c (further place event more b b' r q) =
+    sym (built-on l place event more b b' q) ∙ reached_on l doc (next place event more) b r
+
+module _ (l : Limits) (doc : List ℕ) (s : Schema) where
+  ends : (b : Builder) → Reached l doc done b → (t : Bool) (r : Refusal) → pick t (refused_by r) (accepted b.schema) ≡ accepted s → Comes l doc s
+  ends b h true r q = absurd (let y : ◌≡◌ {A = ℕ} 0 1 = cc in omega arith)
+  ends b h false r q = record { builder = b; reached = h; is = cc }
+
+  comes : (more : Events) (b : Builder) → Reached l doc more b → ending doc (built l more b) ≡ accepted s → Comes l doc s
+  unfolding built ending
+  comes done b h q = ends b h (ltb 0 (length b.stack)) (OpenElements (length doc)) q
+  comes (broken r) b h q = absurd (let y : ◌≡◌ {A = ℕ} 0 1 = cc in omega arith)
+  comes (next place event more) b h q = go (λ b'. comes more b') (step l place event b) refl
+    where
+      go : ((b' : Builder) → Reached l doc more b' → ending doc (built l more b') ≡ accepted s → Comes l doc s) → (o : Outcome) → step l place event b ≡ o → Comes l doc s
+      go again (on b') e = again b' (further place event more b b' h e) (ap (ending doc) (sym (built-on l place event more b b' e)) ∙ q)
+      go again (refused r) e = absurd (let z : refused_by r ≡ accepted s = sym (ap (ending doc) (built-refused l place event more b r e)) ∙ q in let y : ◌≡◌ {A = ℕ} 0 1 = cc in omega arith)
+
+pub accepted_reached : AcceptedReached
+accepted_reached l doc s q = comes l doc s (events doc) empty start q

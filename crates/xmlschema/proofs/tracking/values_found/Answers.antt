@@ -1,5 +1,5 @@
-use Rattle.xmlschema.proofs.Reached.{values_found}
+use Rattle.xmlschema.proofs.Reached.{values_found, accepted_reached, reached_on}
 use Rattle.xmlschema.proofs.tracking.values_found.Goals as goal
 
 pub returns : goal.returns
-returns c = values_found
+returns c = record { found = values_found; accepted = accepted_reached; reached = reached_on }
