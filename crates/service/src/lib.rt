@@ -91,27 +91,38 @@ pub fn reply<'a>(
     }
 }
 
-/// Writes all of `text`, or a prefix of it if a write fails. A write that takes no bytes fails with
-/// `WriteZero`.
+/// How many more writes than a text has bytes `write_whole` makes at most.
+const INTERRUPTIONS: usize = 64;
+
+/// Writes all of `text`, or a prefix of it if a write fails. After an interrupted write it goes on,
+/// as std's `write_all` does for the standard output, until its writes are used up. A write that
+/// takes no bytes fails with `WriteZero`.
 fn write_whole<W: Write>(output: &mut W, text: &[u8]) -> io::Result<()>
     ensures all { OnOk result (Appends (W.contents output.old) (W.contents output.new) text.now) }
     ensures front { OnErr result
         ((n : ℕ) × Front (W.contents output.old) (W.contents output.new) text.now n) }
 {
     let mut done = 0;
+    let mut calls = text.len().saturating_add(INTERRUPTIONS);
     // `while`: a write may take fewer bytes than given, so the step is not 1.
     while done < text.len() {
-        let n = output.write(&text[done..])?;
-        if n == 0 {
-            return Err(io::Error::from(ErrorKind::WriteZero));
+        if calls == 0 {
+            return Err(io::Error::from(ErrorKind::Interrupted));
         }
-        done += n;
+        calls -= 1;
+        match output.write(&text[done..]) {
+            Ok(0) => return Err(io::Error::from(ErrorKind::WriteZero)),
+            Ok(n) => done += n,
+            Err(e) if e.kind() == ErrorKind::Interrupted => {}
+            Err(e) => return Err(e),
+        }
     }
     Ok(())
 }
 
-/// Reads a document from `input`, and writes the reply to `output`. Fails with their first error:
-/// after one of `input` nothing is written, after one of `output` a prefix of the reply.
+/// Reads a document from `input`, and writes the reply to `output`. Fails with their first error,
+/// but for interrupted writes, of which there may be 64 at least: after an error of `input` nothing
+/// is written, after one of `output` a prefix of the reply.
 pub fn serve<R: Read, W: Write>(input: &mut R, output: &mut W) -> io::Result<()>
     ensures served { OnOk result (Served (R.remaining input.old) (R.remaining input.new)
         (W.contents output.old) (W.contents output.new)) }

@@ -4,15 +4,15 @@
 //! has the name and the document's length, what is printed for it, and how many of its bytes were
 //! not read.
 //!
-//! A read gives at most 1,000 bytes, and a write takes at most 100, as with a pipe. Proved safe and
-//! terminating, and no more.
+//! A read gives at most 1,000 bytes, and a write takes at most 100, as with a pipe; every second
+//! write is interrupted. Proved safe and terminating, and no more.
 #![tactic(auto)]
 
 use inputs::read_full;
 use numbers::number_of;
 use printing::Output;
 use service::serve;
-use std::io::{self, Read, Write};
+use std::io::{self, ErrorKind, Read, Write};
 use test_replaying::{ends_line, written};
 
 /// A reader over a document that gives at most 1,000 bytes at a time.
@@ -28,14 +28,20 @@ impl Read for SlowReader<'_> {
     }
 }
 
-/// A writer that takes at most 100 bytes at a time.
+/// A writer that takes at most 100 bytes at a time, and whose every second write is interrupted,
+/// the first one too.
 #[derive(Drop)]
 struct SlowWriter<W: Write + Drop> {
     output: W,
+    is_interrupted: bool,
 }
 
 impl<W: Write + Drop> Write for SlowWriter<W> {
     fn write(&mut self, buf: &[u8]) -> io::Result<usize> {
+        self.is_interrupted = !self.is_interrupted;
+        if self.is_interrupted {
+            return Err(io::Error::from(ErrorKind::Interrupted));
+        }
         let most = buf.len().min(100);
         self.output.write(&buf[..most])
     }
@@ -74,6 +80,7 @@ fn replay(rt: &HostRuntime, line: &[u8]) -> io::Result<()> {
     let mut input = SlowReader { rest: document };
     let mut output = SlowWriter {
         output: rt.stdout(),
+        is_interrupted: false,
     };
     serve(&mut input, &mut output)?;
     let left = input.rest.len();
