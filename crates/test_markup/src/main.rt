@@ -9,7 +9,7 @@
 
 use printing::Output;
 use std::io;
-use test_replaying::{print_answer, replay_lines, write_document, written};
+use test_replaying::{document_end, print_answer, replay_lines, write_document, written};
 use texts::part;
 
 fn replay(rt: &HostRuntime, line: &[u8]) -> io::Result<()> {
@@ -22,5 +22,5 @@ fn replay(rt: &HostRuntime, line: &[u8]) -> io::Result<()> {
 }
 
 fn main(rt: HostRuntime) -> io::Result<()> {
-    replay_lines(&rt, replay)
+    replay_lines(&rt, document_end, replay)
 }

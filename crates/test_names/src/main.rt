@@ -5,15 +5,18 @@
 //!
 //!     C RRRR PPPP VVVV EEEE NAMES
 //!
-//! C is the conversion: `n` snake, `c` camel, `u` screaming, `p` pascal, `s` singular, `x` without
-//! the enum's prefix. The four numbers have four hex digits each: the room of the output; how many
-//! `_` stand before the name, which keeps the lines of long names short; how many bytes of the name
-//! follow them; and the length of the enum's name. NAMES is the bytes of both in hex.
+//! C is the conversion: `n` snake, `c` camel, `u` screaming, `p` pascal, `s` singular, `x` and any
+//! other byte without the enum's prefix. The four numbers have four hex digits each: the room of the
+//! output; how many `_` stand before the name, which keeps the lines of long names short; how many
+//! bytes of the name follow them; and the length of the enum's name. NAMES is the bytes of both in
+//! hex.
 //!
 //! A line of the answer is number, offset, place and n in decimal, then the whole output in hex.
 //! The output is filled with `#` beforehand, and so shows what a refusal leaves and what stands
 //! behind the text.
 #![tactic(auto)]
+
+ghost use Rattle.std.specs.Prelude.{◌<◌};
 
 use names::entry::{
     camel_to_screaming_snake, camel_to_snake, screaming_snake_to_pascal, singular_pascal,
@@ -48,16 +51,15 @@ enum Conversion {
 }
 
 impl Conversion {
-    /// The conversion that a letter stands for.
-    fn of(letter: u8) -> Option<Conversion> {
+    /// The conversion that a letter stands for, or any other byte.
+    fn of(letter: u8) -> Conversion {
         match letter {
-            b'n' => Some(Conversion::Snake),
-            b'c' => Some(Conversion::Camel),
-            b'u' => Some(Conversion::Screaming),
-            b'p' => Some(Conversion::Pascal),
-            b's' => Some(Conversion::Singular),
-            b'x' => Some(Conversion::Stripped),
-            _ => None,
+            b'n' => Conversion::Snake,
+            b'c' => Conversion::Camel,
+            b'u' => Conversion::Screaming,
+            b'p' => Conversion::Pascal,
+            b's' => Conversion::Singular,
+            _ => Conversion::Stripped,
         }
     }
 
@@ -95,23 +97,32 @@ fn write_value(out: &mut Output<'_>, line: &[u8], hex: &[u8]) {
     write_unhexed(out, hex);
 }
 
+/// How many hex digits a name has, by the number at `at` in a line.
+fn digits_at(line: &[u8], at: usize) -> usize
+    ensures { result < 131072 }
+{
+    2 * hex_number(part(line, at, 4))
+}
+
+/// Where the last byte of a line stands, right behind the names.
+fn line_end(line: &[u8]) -> usize {
+    NAMES + digits_at(line, VALUE) + digits_at(line, ENUM)
+}
+
 /// Replays a line; no line asks for more room than there is.
 fn replay_line(rt: &HostRuntime, line: &[u8]) -> io::Result<()> {
-    let Some(asked) = Conversion::of(byte_at(line, 0)) else {
-        return Ok(());
-    };
     let mut value = [0u8; 65536];
     let mut enum_name = [0u8; 65536];
     let mut out = [0u8; 65536];
-    let v = 2 * hex_number(part(line, VALUE, 4));
-    let e = 2 * hex_number(part(line, ENUM, 4));
+    let v = digits_at(line, VALUE);
+    let e = digits_at(line, ENUM);
     let mut value_out = Output::new(&mut value);
     write_value(&mut value_out, line, part(line, NAMES, v));
     let mut enum_out = Output::new(&mut enum_name);
     write_unhexed(&mut enum_out, part(line, NAMES + v, e));
     replay(
         rt,
-        asked,
+        Conversion::of(byte_at(line, 0)),
         written(&value_out),
         written(&enum_out),
         &mut out[..hex_number(part(line, ROOM, 4))],
@@ -119,5 +130,5 @@ fn replay_line(rt: &HostRuntime, line: &[u8]) -> io::Result<()> {
 }
 
 fn main(rt: HostRuntime) -> io::Result<()> {
-    replay_lines(&rt, replay_line)
+    replay_lines(&rt, line_end, replay_line)
 }

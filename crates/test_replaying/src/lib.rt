@@ -1,8 +1,8 @@
 //! What the programs that replay recorded answers share (tests/README.md): reading lines, and hex.
 //!
-//! A line of input has numbers of four hex digits, and bytes in hex. A line of output is an answer:
-//! number, offset, place and n in decimal, then bytes in hex. The contracts promise safety and
-//! termination, and little more.
+//! A line of input has numbers of four hex digits, and bytes in hex. The numbers say where it ends:
+//! no line feed is looked for. A line of output is an answer: number, offset, place and n in
+//! decimal, then bytes in hex. The contracts promise safety and termination, and little more.
 #![tactic(auto)]
 
 ghost use Rattle.std.specs.Prelude.{◌<◌};
@@ -87,17 +87,23 @@ pub fn ends_line(b: &u8) -> bool {
     *b == b'\n'
 }
 
-/// Calls `replay` on each line of standard input, which is read up to 65,536 bytes.
-pub fn replay_lines<F: Fn(&HostRuntime, &[u8]) -> io::Result<()>>(
-    rt: &HostRuntime,
-    replay: F,
-) -> io::Result<()>
-    requires { F.IsAlwaysCallable replay }
+/// Calls `replay` at the beginning of each line of standard input, which is read up to 65,536 bytes,
+/// on all that is left of it. `end` says where a line's last byte stands.
+pub fn replay_lines<E, F>(rt: &HostRuntime, end: E, replay: F) -> io::Result<()>
+where
+    E: Fn(&[u8]) -> usize,
+    F: Fn(&HostRuntime, &[u8]) -> io::Result<()>,
+    requires ends { E.IsAlwaysCallable end }
+    requires replays { F.IsAlwaysCallable replay }
 {
     let mut input = [0u8; 65536];
     let n = read_full(&mut rt.stdin(), &mut input)?;
-    for line in input[..n].split_inclusive(ends_line) {
-        replay(rt, line)?;
+    let mut rest = &input[..n];
+    // `while`: a line tells its own length, so the step is not 1.
+    while !rest.is_empty() {
+        replay(rt, rest)?;
+        let last = end(rest).min(rest.len() - 1);
+        rest = &rest[last + 1..];
     }
     Ok(())
 }
@@ -105,6 +111,11 @@ pub fn replay_lines<F: Fn(&HostRuntime, &[u8]) -> io::Result<()>>(
 /// Where the document begins in a line that has nothing else: behind its length in four hex digits
 /// and a space.
 const DOCUMENT: usize = 5;
+
+/// Where the last byte of such a line stands, right behind the document.
+pub fn document_end(line: &[u8]) -> usize {
+    DOCUMENT + 2 * hex_number(line)
+}
 
 /// Writes the document of such a line.
 pub fn write_document(out: &mut Output<'_>, line: &[u8]) {

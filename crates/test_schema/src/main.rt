@@ -9,12 +9,12 @@
 
 use std::io;
 use test_probe::dump::schema;
-use test_replaying::{replay_document, replay_lines};
+use test_replaying::{document_end, replay_document, replay_lines};
 
 fn replay(rt: &HostRuntime, line: &[u8]) -> io::Result<()> {
     replay_document(rt, line, schema)
 }
 
 fn main(rt: HostRuntime) -> io::Result<()> {
-    replay_lines(&rt, replay)
+    replay_lines(&rt, document_end, replay)
 }

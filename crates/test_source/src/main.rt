@@ -9,7 +9,7 @@
 #![tactic(auto)]
 
 use std::io;
-use test_replaying::{replay_document, replay_lines};
+use test_replaying::{document_end, replay_document, replay_lines};
 use xmltoproto::xml_to_proto;
 
 fn replay(rt: &HostRuntime, line: &[u8]) -> io::Result<()> {
@@ -17,5 +17,5 @@ fn replay(rt: &HostRuntime, line: &[u8]) -> io::Result<()> {
 }
 
 fn main(rt: HostRuntime) -> io::Result<()> {
-    replay_lines(&rt, replay)
+    replay_lines(&rt, document_end, replay)
 }
