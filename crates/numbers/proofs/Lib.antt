@@ -1,3 +1,4 @@
--- Laws of the functions.
+-- Trials of the definitions, and laws of the functions.
+pub mod Trials
 pub mod Numbering
 pub mod Laws
