@@ -2,7 +2,7 @@
 -- source, byte for byte, exactly when their wire sheets are equal.
 --
 -- It is said of two calls of the converter, whatever the buffers held before, and of the bytes that
--- the calls left in the two outputs.
+-- the calls left in the two outputs. What was lent for the calls stays lent.
 use Rattle.std.specs.Prelude.{◌≡◌, ◌↔◌, List, ℕ, length, take, Ok, Err}
 use Rattle.refusals.specs.Figures.{Answer}
 use Rattle.model.specs.Schema.{Schema}
@@ -16,6 +16,15 @@ use Rattle.wiresheet.specs.Sheet.{sheet}
 -- a call of the converter with what is lent: its answer, and its output before and after
 abbrev pub Called : Lent → List ℕ → List ℕ → Answer → Type 0
 Called a = Converts a.document.now (length a.records.now) (length a.text.now)
+
+-- what is lent stays: the document is the same one, and each buffer is the same slice, as long as
+-- it was, whatever it holds
+pub record Kept (a a' : Lent) : Type 0 where
+  pub document : a'.document ≡ a.document
+  pub records : a'.records.ghost_name ≡ a.records.ghost_name
+  pub records_length : length a'.records.now ≡ length a.records.now
+  pub text : a'.text.ghost_name ≡ a.text.ghost_name
+  pub text_length : length a'.text.now ≡ length a.text.now
 
 -- what the document is read as: a schema, or a refusal
 abbrev pub read_as : Lent → Whole

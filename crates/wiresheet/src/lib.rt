@@ -9,7 +9,8 @@
 pub mod sheet;
 
 ghost use Rattle.std.specs.Prelude.{◌↔◌, IsTrue};
-ghost use Rattle.wiresheet.specs.SameSource.{Called, SameSource, Decides, SourceTells, SheetTells};
+ghost use Rattle.wiresheet.specs.SameSource.{Called, SameSource, Decides, Kept};
+ghost use Rattle.wiresheet.specs.SameSource.{SourceTells, SheetTells};
 
 use refusals::Refusal;
 use texts::{equal, part};
@@ -31,7 +32,7 @@ pub struct Compared {
 }
 
 /// Converts two documents and compares their sources, which are not the same where either is
-/// refused. The buffers may hold anything.
+/// refused. The buffers may hold anything; the caller has them and the documents again.
 pub fn same_source(
     a: &mut Lent<'_>,
     out_a: &mut [u8],
@@ -42,6 +43,8 @@ pub fn same_source(
     ensures second { Called b.old out_b.old out_b.new result.second }
     ensures is { IsTrue result.same ↔ SameSource result.first out_a.new result.second out_b.new }
     ensures sheets { Decides a.old result.first out_a.new b.old result.second out_b.new }
+    ensures kept_a { Kept a.old a.new }
+    ensures kept_b { Kept b.old b.new }
 {
     let first = xml_to_proto(a.document, a.records, a.text, out_a);
     let second = xml_to_proto(b.document, b.records, b.text, out_b);
