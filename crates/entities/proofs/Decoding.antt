@@ -1,11 +1,11 @@
 -- Laws of entities and of decoding.
-use Rattle.std.proofs.Common.{◌≡◌, refl, sym, subst, ◌∙◌, true, List, [], ◌∷◌, ℕ, zero, suc, ◌+◌, ◌-◌, ◌≤◌, ◌<◌, ◌^◌, zero-le, suc-le-suc, add-one, arith, eqb, length, drop, get_or, set, length-set, length-drop, drop_of_length-le, drop-cons, drop-drop, Fits, w64, le-leb, Option, Some, None}
+use Rattle.std.proofs.Common.{◌≡◌, refl, sym, subst, ◌∙◌, true, false, List, [], ◌∷◌, ℕ, zero, suc, ◌+◌, ◌-◌, ◌≤◌, ◌<◌, ◌^◌, zero-le, suc-le-suc, add-one, arith, eqb, ne_eqb, length, drop, get_or, set, length-set, length-drop, drop_of_length-le, drop-cons, drop-drop, Fits, w64, le-leb, Option, Some, None}
 use lib.Seq.{sets}
 use borrow.Author.Tests.{lt-leb}
 use Rattle.texts.specs.Choice.{pick}
 use Rattle.texts.specs.Text.{ascii, starts_with}
 use Rattle.texts.proofs.Choosing.{pick-by}
-use Rattle.texts.proofs.Comparing.{starts-length}
+use Rattle.texts.proofs.Comparing.{starts-no, starts-length}
 use Rattle.entities.specs.declared.Unit.{Unit}
 use Rattle.entities.specs.Entities.{entity, front, decoded_past, decoded, DecodedInto}
 use Rattle.entities.specs.internal.Copying.{RestInto}
@@ -39,6 +39,14 @@ front-sized x xs = pick-by (Sized (length xs)) (eqb x 38) (λ t. entity-sized xs
 pub unit-here : (s : List ℕ) (at : ℕ) → at < length s → front (drop at s) ≡ pick (eqb (get_or s at 0) 38) (entity (drop (at + 1) s)) (record { byte = get_or s at 0; len = 1 })
 unfolding front
 unit-here s at h = rw (drop-cons s at 0 h, add-one)
+
+-- a text does not stand where its first byte does not
+pub starts-other : (c : ℕ) (cs s : List ℕ) (n : ℕ) → (get_or s n 0 ≡ c → ⊥) → starts_with (c ∷ cs) (drop n s) ≡ false
+unfolding starts_with
+starts-other c cs [] zero f = refl
+starts-other c cs [] (suc n) f = refl
+starts-other c cs (x ∷ s) zero f = starts-no c x cs s (ne_eqb x c f)
+starts-other c cs (x ∷ s) (suc n) f = starts-other c cs s n f
 
 -- ---- decoding
 

@@ -24,7 +24,8 @@ pub struct Unit {
     pub len: usize,
 }
 
-/// The entity or the byte at `at`.
+/// The entity or the byte at `at`. The byte behind a `&` decides which names are compared: for most
+/// bytes none.
 #[tactic(auto, unfolding(crate::specs::Entities::entity), using(crate::proofs::Laws::units))]
 fn unit_at(s: &[u8], at: usize) -> Unit
     requires { at < length s.now }
@@ -35,23 +36,17 @@ fn unit_at(s: &[u8], at: usize) -> Unit
         return Unit { byte: b, len: 1 };
     }
     let n = at + 1;
-    // An `if` chain, not a `match` of byte strings: the proof of its last arm would know lengths
-    // only.
-    if texts::starts_with(s, n, b"lt;") {
-        Unit { byte: b'<', len: 4 }
-    } else if texts::starts_with(s, n, b"gt;") {
-        Unit { byte: b'>', len: 4 }
-    } else if texts::starts_with(s, n, b"quot;") {
-        Unit { byte: b'"', len: 6 }
-    } else if texts::starts_with(s, n, b"apos;") {
-        Unit {
+    // Not a `match` of byte strings: the proof of its last arm would know lengths only.
+    match texts::byte_at(s, n) {
+        b'l' if texts::starts_with(s, n, b"lt;") => Unit { byte: b'<', len: 4 },
+        b'g' if texts::starts_with(s, n, b"gt;") => Unit { byte: b'>', len: 4 },
+        b'q' if texts::starts_with(s, n, b"quot;") => Unit { byte: b'"', len: 6 },
+        b'a' if texts::starts_with(s, n, b"apos;") => Unit {
             byte: b'\'',
             len: 6,
-        }
-    } else if texts::starts_with(s, n, b"amp;") {
-        Unit { byte: b'&', len: 5 }
-    } else {
-        Unit { byte: b'&', len: 1 }
+        },
+        b'a' if texts::starts_with(s, n, b"amp;") => Unit { byte: b'&', len: 5 },
+        _ => Unit { byte: b'&', len: 1 },
     }
 }
 
