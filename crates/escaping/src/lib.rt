@@ -21,7 +21,7 @@ const LONG: usize = 1024;
 
 /// How a byte is shown.
 #[derive(Clone, Copy)]
-enum Kind {
+pub enum Kind {
     /// As it stands.
     Plain,
     /// As a backslash and this letter.
@@ -30,14 +30,21 @@ enum Kind {
     Hex,
 }
 
-/// A byte's escape, by ranges of the byte: its kind and its length. Everything else goes by this
-/// `match`: which bytes make a run, what is written of any other, and how much.
+/// A byte's escape: its kind and its length.
+#[derive(Clone, Copy)]
+pub struct Escape {
+    pub kind: Kind,
+    pub len: u8,
+}
+
+/// A byte's escape, by ranges of the byte. Everything else goes by this `match`: which bytes make a
+/// run, what is written of any other, and how much.
 #[tactic(auto, unfolding(crate::specs::Escape::escaped, crate::specs::Escape::hex))]
-fn escape_of(b: u8) -> (Kind, u8)
-    ensures kind { shown_as result.0 b ≡ escaped b }
-    ensures long { result.1 ≡ length (escaped b) }
+fn escape_of(b: u8) -> Escape
+    ensures kind { shown_as result.kind b ≡ escaped b }
+    ensures long { result.len ≡ length (escaped b) }
 {
-    match b {
+    let (kind, len) = match b {
         0 => (Kind::Letter(b'0'), 2),
         9 => (Kind::Letter(b't'), 2),
         10 => (Kind::Letter(b'n'), 2),
@@ -47,7 +54,8 @@ fn escape_of(b: u8) -> (Kind, u8)
         1..=15 => (Kind::Hex, 5),
         16..=31 | 127 => (Kind::Hex, 6),
         _ => (Kind::Plain, 1),
-    }
+    };
+    Escape { kind, len }
 }
 
 // ---- writing
@@ -85,7 +93,7 @@ fn write_hex(out: &mut Output<'_>, b: u8, len: u8)
 fn write_escaped(out: &mut Output<'_>, b: u8)
     ensures { Wrote out.old out.new (escaped b) }
 {
-    let (kind, len) = escape_of(b);
+    let Escape { kind, len } = escape_of(b);
     if out.bytes.len() <= out.at {
         out.skip(len as usize);
         return;
@@ -116,7 +124,7 @@ impl ByteTest for Lengths<'_> {
         if i < self.noted.len() {
             self.noted[i] == 1
         } else {
-            escape_of(b).1 == 1
+            escape_of(b).len == 1
         }
     }
 }
@@ -127,7 +135,7 @@ fn note() -> [u8; 128]
 {
     let mut noted = [0; 128];
     for i in 0..128 {
-        noted[i] = escape_of(i as u8).1;
+        noted[i] = escape_of(i as u8).len;
     }
     noted
 }
