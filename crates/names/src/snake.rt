@@ -82,23 +82,24 @@ impl Case for Snake {
     }
 }
 
+/// Whether a `_` goes before position `i` in screaming snake case: before an upper-case letter that
+/// stands right after a lower-case one. Nowhere beyond the name's end.
+#[tactic(auto, unfolding(crate::specs::Conversions::breaks_screaming))]
+#[inline(always)]
+pub fn breaks_screaming(name: &[u8], i: usize) -> bool
+    ensures { result ≡ breaks_screaming name.now i }
+{
+    if i == 0 {
+        return false;
+    }
+    if is_upper(byte_at(name, i)) {
+        return is_lower(byte_at(name, i - 1));
+    }
+    false
+}
+
 #[derive(Clone, Copy)]
 pub(crate) struct Screaming;
-
-#[tactic(auto, unfolding(crate::specs::Conversions::breaks_screaming))]
-impl Screaming {
-    fn breaks(&self, name: &[u8], i: usize) -> bool
-        ensures { result ≡ breaks_screaming name.now i }
-    {
-        if i == 0 {
-            return false;
-        }
-        if is_upper(byte_at(name, i)) {
-            return is_lower(byte_at(name, i - 1));
-        }
-        false
-    }
-}
 
 #[tactic(auto, unfolding(classes::specs::Class::is_lower, classes::specs::Class::is_upper, classes::specs::Letters::raised, crate::specs::Conversions::breaks_screaming))]
 impl Case for Screaming {
@@ -111,7 +112,7 @@ impl Case for Screaming {
         if is_lower(b) {
             (false, b - 32)
         } else {
-            (self.breaks(name, i), b)
+            (breaks_screaming(name, i), b)
         }
     }
 }
