@@ -40,6 +40,11 @@ counted {o} {o'} {n} t h l e m =
     let p : Printed o.bytes.now o.at o.bytes.now (skipped o.at n) t = told t h l (ap (skipped o.at) e) in
     record { is = m ∙ rw (← p.is, p.to) refl }
 
+-- what was written to an output, by its slice and its position
+pub printed : {o o' : Output} {t : List ℕ} → Wrote o o' t → Printed o.bytes.now o.at o'.bytes.now o'.at t
+unfolding written
+printed w = record { is = ap (λ (o : Output). o.bytes.now) w.is; to = ap (λ (o : Output). o.at) w.is }
+
 run : (t : List ℕ) → each escaped t ≡ take (count_while stands t) t ++ each escaped (drop (count_while stands t) t)
 unfolding each
 run [] = refl

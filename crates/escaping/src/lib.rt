@@ -8,6 +8,7 @@ ghost use Rattle.std.specs.Prelude.{◌≡◌, Bool, true, false, [], ◌∷◌,
 ghost use Rattle.std.specs.Prelude.{◌+◌, ◌-◌, ◌≤◌, ◌<◌, length, slice_index_or};
 ghost use Rattle.texts.specs.Text.{ascii};
 ghost use Rattle.texts.specs.Lists.{each};
+ghost use Rattle.printing.specs.Printed.{Printed};
 ghost use Rattle.printing.specs.Written.{Wrote};
 ghost use Rattle.escaping.specs.Escape.{hex_digit, hex, escaped, quoted};
 ghost use Rattle.escaping.specs.internal.Escaping.{shown_as, stands, NotesLengths};
@@ -69,22 +70,19 @@ pub fn hex_digit(d: u8) -> u8
 }
 
 /// Writes `\u{..}`, with one digit where the escape has the length 5 and two where it has 6.
-#[tactic(auto, unfolding(crate::specs::Escape::hex))]
+#[tactic(auto, unfolding(crate::specs::Escape::hex), using(printing::proofs::Writing::writing))]
 fn write_hex(out: &mut Output<'_>, b: u8, len: u8)
     requires { len ≡ 4 + length (hex b) }
     ensures { Wrote out.old out.new (ascii "\\u{" ++ hex b ++ ascii "}") }
 {
+    // No array of the digits: it would be written byte by byte, then read back as a word, which is
+    // waited for.
     if len == 5 {
-        out.text(&[b'\\', b'u', b'{', hex_digit(b), b'}']);
+        out.text_then(b"\\u{", hex_digit(b));
+        out.byte(b'}');
     } else {
-        out.text(&[
-            b'\\',
-            b'u',
-            b'{',
-            hex_digit(b / 16),
-            hex_digit(b % 16),
-            b'}',
-        ]);
+        out.text_then(b"\\u{", hex_digit(b / 16));
+        out.text_then(&[hex_digit(b % 16)], b'}');
     }
 }
 
@@ -142,22 +140,33 @@ fn note() -> [u8; 128]
 
 // ---- texts
 
-/// Writes the escapes of a text: run by run, each followed by the byte that ends it.
+/// Stores the escapes of a text: run by run, each followed by the byte that ends it. Returns the
+/// next position. A slice and a position, so that the loop has both in registers.
 #[tactic(auto, using(crate::proofs::Runs::runs))]
-fn write_runs(out: &mut Output<'_>, lengths: &Lengths<'_>, s: &[u8])
-    ensures { Wrote out.old out.new (each escaped s.now) }
+fn store_runs(out: &mut [u8], at: usize, lengths: &Lengths<'_>, s: &[u8]) -> usize
+    ensures { Printed out.old at out.new result (each escaped s.now) }
 {
+    let mut o = Output { bytes: out, at };
     let mut i = 0;
     // `while`: each turn consumes a run, so the step is not 1.
     while i < s.len() {
         let e = scan_each(s, i, lengths);
-        out.text(part(s, i, e - i));
+        o.text(part(s, i, e - i));
         if s.len() <= e {
-            return;
+            return o.at;
         }
-        write_escaped(out, s[e]);
+        write_escaped(&mut o, s[e]);
         i = e + 1;
     }
+    o.at
+}
+
+/// Writes the escapes of a text, run by run.
+#[tactic(auto, unfolding(printing::specs::Written::written))]
+fn write_runs(out: &mut Output<'_>, lengths: &Lengths<'_>, s: &[u8])
+    ensures { Wrote out.old out.new (each escaped s.now) }
+{
+    out.at = store_runs(out.bytes, out.at, lengths, s);
 }
 
 /// Writes the escapes of a text, by a lookup table where it is long enough.
