@@ -1,16 +1,15 @@
 -- Laws of writing run by run: what is to be written from position i on is the run, then what comes
 -- behind it.
-use Rattle.std.proofs.Common.{◌≡◌, refl, sym, ap, ◌∙◌, Bool, true, false, List, [], ◌∷◌, ◌++◌, ℕ, ◌+◌, ◌-◌, ◌^◌, ◌≤◌, ◌<◌, add-one, arith, eqb, ltb, length, take, drop, get_or, drop_of_length-le, drop-cons, drop-drop, rules, eqb-true}
+use Rattle.std.proofs.Common.{◌≡◌, refl, sym, ap, ◌∙◌, Bool, true, false, List, [], ◌∷◌, ◌++◌, ℕ, ◌+◌, ◌-◌, ◌≤◌, ◌<◌, add-one, arith, eqb, ltb, length, take, drop, get_or, drop_of_length-le, drop-cons, drop-drop, rules, eqb-true}
 use Rattle.texts.specs.Scan.{count_while, scan}
 use Rattle.texts.specs.Text.{piece}
 use Rattle.texts.specs.Lists.{each}
 use Rattle.texts.specs.Choice.{pick, ◌or◌}
 use Rattle.texts.proofs.Choosing.{by-test}
 use Rattle.texts.proofs.Scanning.{count_yes, count_no}
-use Rattle.printing.specs.Written.{written, moved, Wrote}
+use Rattle.printing.specs.Written.{written, Wrote}
 use Rattle.printing.specs.declared.Output.{Output}
-use Rattle.printing.specs.Printed.{Printed, skipped}
-use Rattle.printing.proofs.Passing.{counted as told}
+use Rattle.printing.specs.Printed.{Printed}
 use Rattle.printing.proofs.Writing.{written-append, written-nothing}
 use Rattle.escaping.specs.Escape.{escaped}
 use Rattle.escaping.specs.internal.Escaping.{stands}
@@ -31,14 +30,6 @@ shown b t =
     (past (eqb b 34) _ _ (omega arith)
     (past (eqb b 92) _ _ (omega arith)
     (past (ltb b 32 or eqb b 127) _ _ (omega arith) (λ _. refl))))))) (eqb-true _ 1 t)
-
--- where nothing of a text fits, counting its length writes it
-pub counted : {o o' : Output} {n : ℕ} (t : List ℕ) → length o.bytes.now ≤ o.at → length o.bytes.now < 2 ^ 63 →
-    n ≡ length t → o' ≡ moved o n → Wrote o o' t
-unfolding written
-counted {o} {o'} {n} t h l e m =
-    let p : Printed o.bytes.now o.at o.bytes.now (skipped o.at n) t = told t h l (ap (skipped o.at) e) in
-    record { is = m ∙ rw (← p.is, p.to) refl }
 
 -- what was written to an output, by its slice and its position
 pub printed : {o o' : Output} {t : List ℕ} → Wrote o o' t → Printed o.bytes.now o.at o'.bytes.now o'.at t

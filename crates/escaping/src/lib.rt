@@ -87,7 +87,7 @@ fn write_hex(out: &mut Output<'_>, b: u8, len: u8)
 }
 
 /// Writes a byte's escape. Where the output is full, as when measuring, its length is counted.
-#[tactic(auto, using(crate::proofs::Runs::counted))]
+#[tactic(auto, using(printing::proofs::Writing::counted))]
 fn write_escaped(out: &mut Output<'_>, b: u8)
     ensures { Wrote out.old out.new (escaped b) }
 {

@@ -3,3 +3,4 @@ pub mod Storing
 pub mod Singular
 pub mod Cutting
 pub mod Entering
+pub mod Counting

@@ -79,11 +79,28 @@ fn write_joined_at<J: Join>(out: &mut Output<'_>, join: &J, name: &[u8], i: usiz
     }
 }
 
-/// Prints a name without its `_`.
+/// How many bytes a name has without its `_`, in either case.
+fn joined_len(name: &[u8]) -> usize
+    ensures { (shown : List ℕ → ℕ → ℕ) → result ≡ length (joined shown name.now) }
+{
+    let mut n = 0;
+    for i in 0..name.len() {
+        if name[i] != b'_' {
+            n += 1;
+        }
+    }
+    n
+}
+
+/// Prints a name without its `_`. Where the output is full, as when measuring, it is counted.
 #[tactic(auto, unfolding(crate::specs::Conversions::joined), using(printing::proofs::Writing::writing))]
 fn write_joined<J: Join>(out: &mut Output<'_>, join: &J, name: &[u8])
     ensures { Wrote out.old out.new (joined J.shown name.now) }
 {
+    if out.bytes.len() <= out.at {
+        out.skip(joined_len(name));
+        return;
+    }
     for i in 0..name.len() {
         write_joined_at(out, join, name, i);
     }

@@ -1,12 +1,13 @@
 -- Laws of texts written to an `Output` one after the other. With them `grind` proves chains of
 -- writes, of any length, and loops whose invariant is `Wrote l.initial.out l.out (up_to f l.i)`.
-use Rattle.std.proofs.Common.{◌≡◌, refl, ap, ◌∙◌, List, [], ◌∷◌, ◌++◌, append_assoc, append-nil, ℕ, ◌+◌, ◌<◌, add-one, length, take, get_or, take-suc}
+use Rattle.std.proofs.Common.{◌≡◌, refl, ap, ◌∙◌, List, [], ◌∷◌, ◌++◌, append_assoc, append-nil, ℕ, ◌+◌, ◌^◌, ◌≤◌, ◌<◌, add-one, length, take, get_or, take-suc}
 use Rattle.texts.specs.Lists.{each}
-use Rattle.printing.specs.Printed.{laid, past}
+use Rattle.printing.specs.Printed.{laid, past, skipped, Printed}
 use Rattle.printing.specs.Repeated.{up_to}
-use Rattle.printing.specs.Written.{written, Wrote}
+use Rattle.printing.specs.Written.{written, moved, Wrote}
 use Rattle.printing.specs.declared.Output.{Output}
 use Rattle.printing.proofs.Sequencing.{past-append, laid-append, length-laid}
+use Rattle.printing.proofs.Passing.{counted as told}
 
 pub written-append : (o : Output) (a b : List ℕ) → written (written o a) b ≡ written o (a ++ b)
 unfolding written
@@ -25,6 +26,14 @@ length-written o t = length-laid o.bytes.now o.at t
 infixl 60 ◌▹◌
 pub ◌▹◌ : {o m o' : Output} {a b : List ℕ} → Wrote o m a → Wrote m o' b → Wrote o o' (a ++ b)
 p ▹ q = record { is = rw (← written-append, ← p.is) q.is }
+
+-- where nothing of a text fits, counting its length writes it
+pub counted : {o o' : Output} {n : ℕ} (t : List ℕ) → length o.bytes.now ≤ o.at → length o.bytes.now < 2 ^ 63 →
+    n ≡ length t → o' ≡ moved o n → Wrote o o' t
+unfolding written
+counted {o} {o'} {n} t h l e m =
+    let p : Printed o.bytes.now o.at o.bytes.now (skipped o.at n) t = told t h l (ap (skipped o.at) e) in
+    record { is = m ∙ rw (← p.is, p.to) refl }
 
 -- ---- loops
 
