@@ -3,7 +3,7 @@ use Rattle.tags.specs.declared.part.Ending.{Ending}
 use Rattle.texts.specs.declared.Range.{Range}
 use Rattle.std.proofs.Common.{Option, Some, None, Result, Ok, Err, ◌≡◌, refl, sym, ap, ◌∙◌, Bool, true, false, List, ℕ, ◌+◌, ◌-◌, arith, add-one}
 use Rattle.texts.specs.Choice.{pick}
-use Rattle.texts.specs.Text.{piece, same}
+use Rattle.texts.specs.Text.{same}
 use Rattle.texts.proofs.Choosing.{by-test, pick_yes, pick_no}
 use Rattle.refusals.specs.declared.Refusal.{Refusal}
 use Rattle.tags.specs.declared.part.RawAttribute.{RawAttribute}
@@ -11,10 +11,10 @@ use Rattle.tags.specs.declared.part.TagPart.{TagPart}
 use Rattle.tags.specs.declared.part.TagPart.TheVariants.{Attribute as Part, TagEnd}
 use Rattle.elements.specs.Keys.{Keys}
 use Rattle.tags.specs.declared.noting.Notes.{Notes}
-use Rattle.tags.specs.Names.{prefix_length, is_xmlns}
+use Rattle.tags.specs.declared.noting.Matches.{Matches}
+use Rattle.tags.specs.Names.{local_name, is_xmlns}
 use Rattle.tags.specs.Attributes.{raw_name, tag_part_at, Tag, with_part, tag_at, later, last_of, attribute_at}
-use Rattle.tags.specs.internal.Noting.{found_at, with_value, value_if_named, FoundMore, NotedMore}
-use Rattle.tags.proofs.Naming.{local-of}
+use Rattle.tags.specs.internal.Noting.{found_at, matches_of, with_value, value_if_named, FoundMore, NotedMore}
 use Rattle.tags.proofs.Tagging.{tag-part, tag-end, tag-bad}
 use Rattle.tags.proofs.Placeless.{any_part, any-end, any-bad}
 
@@ -61,24 +61,20 @@ module _ (raw : List ℕ) (value : Range) (key : List ℕ) (was long : ℕ) wher
   pub named-xmlns : {b : Bool} → b ≡ is_xmlns raw → b ≡ true → FoundMore raw value key (found_at was long) (found_at was long)
   named-xmlns x t = rw (← x, t)
 
--- it does not; w is the raw name, v the local name
-module _ (doc : List ℕ) (name : Range) (value : Range) (k : Keys) (was : Notes) (f : is_xmlns (piece doc name.from name.len) ≡ false) {w : List ℕ} (e : w ≡ piece doc name.from name.len) {prefix : ℕ} (l : prefix ≡ prefix_length w) {v : List ℕ} (p : v ≡ piece w prefix name.len) where
-  -- m is whether that is the key
-  named-local : (key : List ℕ) (was long : ℕ) {m : Bool} → m ≡ same v key → FoundMore (piece doc name.from name.len) value key (found_at was long) (found_at (pick m (value.from + 1) was) (pick m value.len long))
-  named-local key was long {m} s =
-      let z = p ∙ local-of doc name.from name.len e l in
-      rw (f, ← z, ← s) (by-test m (λ t. rw t (found-value value)) (λ t. rw t refl))
+-- it does not; m is whether its local name is the key
+named-local : (raw : List ℕ) (value : Range) (key : List ℕ) (was long : ℕ) → is_xmlns raw ≡ false → {m : Bool} → m ≡ same (local_name raw) key → FoundMore raw value key (found_at was long) (found_at (pick m (value.from + 1) was) (pick m value.len long))
+named-local raw value key was long f {m} s = rw (f, ← s) (by-test m (λ t. rw t (found-value value)) (λ t. rw t refl))
 
-  pub named-with : {a b c d : Bool} → a ≡ same v k.number → b ≡ same v k.name → c ≡ same v k.second → d ≡ same v k.encoding
-      → {r : Notes} → r ≡ with_value (record { number = a; name = b; second = c; encoding = d }) value was → NotedMore (piece doc name.from name.len) value k was r
-  named-with a b c d q =
-      rw q
-      (record {
-        number = named-local k.number was.number was.number_len a;
-        name = named-local k.name was.name was.name_len b;
-        second = named-local k.second was.second was.second_len c;
-        encoding = named-local k.encoding was.encoding was.encoding_len d;
-      })
+pub named-with : (raw : List ℕ) (value : Range) (k : Keys) (was : Notes) → is_xmlns raw ≡ false → {m : Matches} → m ≡ matches_of (local_name raw) k
+    → {r : Notes} → r ≡ with_value m value was → NotedMore raw value k was r
+named-with raw value k was f {m} e q =
+    rw q
+    (record {
+      number = named-local raw value k.number was.number was.number_len f (ap (λ n. n.number) e);
+      name = named-local raw value k.name was.name was.name_len f (ap (λ n. n.name) e);
+      second = named-local raw value k.second was.second was.second_len f (ap (λ n. n.second) e);
+      encoding = named-local raw value k.encoding was.encoding was.encoding_len f (ap (λ n. n.encoding) e);
+    })
 
 -- ---- a loop that looks a name up, from `at` on, is at i, with `found` so far; p is the part at i
 

@@ -5,10 +5,10 @@
 ghost use Rattle.std.specs.Prelude.{◌≡◌, false, [], ◌+◌, ◌<◌, ◌^◌, length};
 ghost use Rattle.texts.specs.Choice.{pick};
 ghost use Rattle.texts.specs.Text.{piece};
-ghost use Rattle.tags.specs.Names.{is_xmlns};
+ghost use Rattle.tags.specs.Names.{is_xmlns, local_name};
 ghost use Rattle.tags.specs.Attributes.{raw_name};
 ghost use Rattle.elements.specs.Keys.{Keys, keys, keys_of};
-ghost use Rattle.tags.specs.internal.Noting.{found_at, noted_number, noted_name, noted_second, noted_encoding, no_notes, with_value, NotedMore, NotedWith};
+ghost use Rattle.tags.specs.internal.Noting.{found_at, noted_number, noted_name, noted_second, noted_encoding, no_notes, with_value, matches_of, NotedMore, NotedWith};
 ghost use Rattle.tags.specs.internal.Known.{known_name, CodesOf, CodesFor, Apart, NamedAs, IsNamespace};
 
 use crate::known::{Codes, PACKAGE};
@@ -107,11 +107,59 @@ struct Matches {
     encoding: bool,
 }
 
+/// Whether a local name is one of four, and which. Inlined, so that literals become comparisons with
+/// constants.
+#[inline(always)]
+fn matches_of(local: &[u8], number: &[u8], name: &[u8], second: &[u8], encoding: &[u8]) -> Matches
+    ensures { result ≡ matches_of local.now (keys number.now name.now second.now encoding.now) }
+{
+    Matches {
+        number: texts::equal(local, number),
+        name: texts::equal(local, name),
+        second: texts::equal(local, second),
+        encoding: texts::equal(local, encoding),
+    }
+}
+
+/// The local name of a raw name.
+fn local_at(doc: &[u8], raw: Range) -> &[u8]
+    ensures { result.now ≡ local_name (piece doc.now raw.from raw.len) }
+{
+    let whole = texts::part(doc, raw.from, raw.len);
+    let prefix = prefix_len(whole);
+    texts::part(whole, prefix, raw.len)
+}
+
+/// Which of the names that this element looks up a raw name has, by its local name. Called, and
+/// given neither notes nor a value: nearly every such name has none, and the notes stay where they
+/// are.
+#[inline(never)]
+fn matches_in(doc: &[u8], raw: Range, element: Element) -> Matches
+    ensures { result ≡ matches_of (local_name (piece doc.now raw.from raw.len)) (keys_of element) }
+{
+    let local = local_at(doc, raw);
+    match element {
+        Element::MessageSchema => matches_of(local, b"id", b"package", b"version", b""),
+        Element::Type => matches_of(
+            local,
+            b"length",
+            b"name",
+            b"primitiveType",
+            b"characterEncoding",
+        ),
+        Element::Enum => matches_of(local, b"", b"name", b"encodingType", b""),
+        _ => matches_of(local, b"id", b"name", b"type", b""),
+    }
+}
+
 /// The notes with one more value, under each name that it has.
 fn with_value(named: Matches, value: Range, earlier: Notes) -> Notes
     requires { value.from < 2 ^ 63 }
     ensures { result ≡ with_value named value earlier }
 {
+    if !(named.number || named.name || named.second || named.encoding) {
+        return earlier;
+    }
     let at = value.from + 1;
     let len = value.len;
     Notes {
@@ -126,31 +174,6 @@ fn with_value(named: Matches, value: Range, earlier: Notes) -> Notes
     }
 }
 
-/// The notes with one more attribute, by its local name. It declares no namespace.
-fn noted_with(
-    doc: &[u8],
-    a: RawAttribute,
-    number: &[u8],
-    name: &[u8],
-    second: &[u8],
-    encoding: &[u8],
-    earlier: Notes,
-) -> Notes
-    requires { (a.value.from < length doc.now) × (is_xmlns (raw_name doc.now a) ≡ false) }
-    ensures { NotedWith doc.now a (keys number.now name.now second.now encoding.now) earlier result }
-{
-    let whole = texts::part(doc, a.name.from, a.name.len);
-    let prefix = prefix_len(whole);
-    let local = texts::part(whole, prefix, a.name.len);
-    let named = Matches {
-        number: texts::equal(local, number),
-        name: texts::equal(local, name),
-        second: texts::equal(local, second),
-        encoding: texts::equal(local, encoding),
-    };
-    with_value(named, a.value, earlier)
-}
-
 /// The notes with one more attribute, for a look-up of one name, noted as the number. A namespace
 /// declaration changes nothing.
 pub fn noted_one(doc: &[u8], a: RawAttribute, name: &[u8], earlier: Notes) -> Notes
@@ -160,7 +183,8 @@ pub fn noted_one(doc: &[u8], a: RawAttribute, name: &[u8], earlier: Notes) -> No
     if is_xmlns_at(doc, a.name.from, a.name.len) {
         return earlier;
     }
-    noted_with(doc, a, name, b"", b"", b"", earlier)
+    let named = matches_of(local_at(doc, a.name), name, b"", b"", b"");
+    with_value(named, a.value, earlier)
 }
 
 /// The notes with a known attribute. Each name returns by itself: the branch is predicted, and the
@@ -213,20 +237,7 @@ fn noted_other(doc: &[u8], a: RawAttribute, element: Element, earlier: Notes) ->
     requires { (a.value.from < length doc.now) × (is_xmlns (raw_name doc.now a) ≡ false) }
     ensures { NotedWith doc.now a (keys_of element) earlier result }
 {
-    match element {
-        Element::MessageSchema => noted_with(doc, a, b"id", b"package", b"version", b"", earlier),
-        Element::Type => noted_with(
-            doc,
-            a,
-            b"length",
-            b"name",
-            b"primitiveType",
-            b"characterEncoding",
-            earlier,
-        ),
-        Element::Enum => noted_with(doc, a, b"", b"name", b"encodingType", b"", earlier),
-        _ => noted_with(doc, a, b"id", b"name", b"type", b"", earlier),
-    }
+    with_value(matches_in(doc, a.name, element), a.value, earlier)
 }
 
 /// Whether an attribute declares a namespace; one with a code does not.

@@ -74,6 +74,16 @@ pub record NotedMore (raw : List ℕ) (value : Range) (k : Keys) (was r : Notes)
 abbrev pub NotedWith : List ℕ → RawAttribute → Keys → Notes → Notes → Type 0
 NotedWith doc a k was r = NotedMore (raw_name doc a) a.value k was r
 
+-- which of four names a local name is
+abbrev pub matches_of : List ℕ → Keys → Matches
+matches_of local k =
+    record {
+      number = same local k.number;
+      name = same local k.name;
+      second = same local k.second;
+      encoding = same local k.encoding;
+    }
+
 -- the notes with a value under each name that an attribute has
 abbrev pub with_value : Matches → Range → Notes → Notes
 with_value n value was =
