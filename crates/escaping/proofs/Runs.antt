@@ -9,7 +9,6 @@ use Rattle.texts.proofs.Choosing.{by-test}
 use Rattle.texts.proofs.Scanning.{count_yes, count_no}
 use Rattle.printing.specs.Written.{written, Wrote}
 use Rattle.printing.specs.declared.Output.{Output}
-use Rattle.printing.specs.Printed.{Printed}
 use Rattle.printing.proofs.Writing.{written-append, written-nothing}
 use Rattle.escaping.specs.Escape.{escaped}
 use Rattle.escaping.specs.internal.Escaping.{stands}
@@ -30,11 +29,6 @@ shown b t =
     (past (eqb b 34) _ _ (omega arith)
     (past (eqb b 92) _ _ (omega arith)
     (past (ltb b 32 or eqb b 127) _ _ (omega arith) (λ _. refl))))))) (eqb-true _ 1 t)
-
--- what was written to an output, by its slice and its position
-pub printed : {o o' : Output} {t : List ℕ} → Wrote o o' t → Printed o.bytes.now o.at o'.bytes.now o'.at t
-unfolding written
-printed w = record { is = ap (λ (o : Output). o.bytes.now) w.is; to = ap (λ (o : Output). o.at) w.is }
 
 run : (t : List ℕ) → each escaped t ≡ take (count_while stands t) t ++ each escaped (drop (count_while stands t) t)
 unfolding each

@@ -35,7 +35,7 @@ pub enum Kind {
 #[derive(Clone, Copy)]
 pub struct Escape {
     pub kind: Kind,
-    pub len: u8,
+    pub len: usize,
 }
 
 /// A byte's escape, by ranges of the byte. Everything else goes by this `match`: which bytes make a
@@ -44,6 +44,7 @@ pub struct Escape {
 fn escape_of(b: u8) -> Escape
     ensures kind { shown_as result.kind b ≡ escaped b }
     ensures long { result.len ≡ length (escaped b) }
+    ensures most { result.len ≤ 6 }
 {
     let (kind, len) = match b {
         0 => (Kind::Letter(b'0'), 2),
@@ -71,7 +72,7 @@ pub fn hex_digit(d: u8) -> u8
 
 /// Writes `\u{..}`, with one digit where the escape has the length 5 and two where it has 6.
 #[tactic(auto, unfolding(crate::specs::Escape::hex), using(printing::proofs::Writing::writing))]
-fn write_hex(out: &mut Output<'_>, b: u8, len: u8)
+fn write_hex(out: &mut Output<'_>, b: u8, len: usize)
     requires { len ≡ 4 + length (hex b) }
     ensures { Wrote out.old out.new (ascii "\\u{" ++ hex b ++ ascii "}") }
 {
@@ -93,7 +94,7 @@ fn write_escaped(out: &mut Output<'_>, b: u8)
 {
     let Escape { kind, len } = escape_of(b);
     if out.bytes.len() <= out.at {
-        out.skip(len as usize);
+        out.skip(len);
         return;
     }
     match kind {
@@ -133,7 +134,7 @@ fn note() -> [u8; 128]
 {
     let mut noted = [0; 128];
     for i in 0..128 {
-        noted[i] = escape_of(i as u8).len;
+        noted[i] = escape_of(i as u8).len as u8;
     }
     noted
 }

@@ -5,7 +5,7 @@
 //! decimal, then bytes in hex. The contracts promise safety and termination, and little more.
 #![tactic(auto)]
 
-ghost use Rattle.std.specs.Prelude.{◌<◌};
+ghost use Rattle.std.specs.Prelude.{◌<◌, ◌≤◌};
 
 use escaping::hex_digit;
 use inputs::read_full;
@@ -113,7 +113,9 @@ where
 const DOCUMENT: usize = 5;
 
 /// Where the last byte of such a line stands, right behind the document.
-pub fn document_end(line: &[u8]) -> usize {
+pub fn document_end(line: &[u8]) -> usize
+    ensures { result ≤ 131075 }
+{
     DOCUMENT + 2 * hex_number(line)
 }
 
