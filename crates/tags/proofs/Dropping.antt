@@ -1,10 +1,10 @@
 -- Laws of attributes that declare a namespace, which are skipped in a loop of their own.
-use Rattle.std.proofs.Common.{Result, Ok, Err, ◌≡◌, refl, sym, ap, ◌∙◌, Bool, true, false, List, ◌∷◌, ℕ, suc, ◌+◌, ◌-◌, ◌≤◌, ◌<◌, arith, rules, lt-ltb, le-ltb, ltb, length, drop, get_or, drop-cons}
+use Rattle.std.proofs.Common.{Result, Ok, Err, ◌≡◌, refl, sym, ap, ◌∙◌, Bool, true, false, List, ◌∷◌, ℕ, suc, ◌+◌, ◌-◌, ◌≤◌, ◌<◌, arith, rules, lt-ltb, le-ltb, ltb, length, drop, get_or, add-one, drop-cons, drop-drop}
 use Rattle.texts.specs.declared.Range.{Range}
 use Rattle.texts.specs.Text.{ascii, piece, starts_with}
 use Rattle.texts.specs.Scan.{scan, until, is}
 use Rattle.texts.proofs.Choosing.{pick-by}
-use Rattle.texts.proofs.Scanning.{scan-start, byte-on, byte-stop}
+use Rattle.texts.proofs.Scanning.{count_past, scan-start, byte-on, byte-stop}
 use Rattle.texts.proofs.Comparing.{starts-no}
 use Rattle.classes.specs.Class.{is_space, is_attribute_name_end}
 use Rattle.refusals.specs.declared.Refusal.{Refusal}
@@ -15,11 +15,11 @@ use Rattle.tags.specs.declared.noting.Notes.{Notes}
 use Rattle.tags.specs.Names.{is_xmlns}
 use Rattle.elements.specs.Keys.{Keys}
 use Rattle.tags.specs.Find.{stands}
-use Rattle.tags.specs.Attributes.{raw_name, quoted_at, value_at, attribute_part_at, tag_part_at, Tag, with_part, tag_at, last_of, later}
+use Rattle.tags.specs.Attributes.{raw_name, quoted_at, value_at, attribute_part_at, tag_part_at, Tag, no_tag, with_part, tag_at, last_of, later}
 use Rattle.tags.specs.internal.Dropping.{Unchanged, next_of}
 use Rattle.tags.proofs.Parting.{attribute-valued, part-attribute}
 use Rattle.tags.proofs.Placeless.{any_part}
-use Rattle.tags.proofs.Tagging.{part-inside, by_part, tag-part, Going}
+use Rattle.tags.proofs.Tagging.{part-inside, by_part, within-part, within_end, within-bad, tag-part, Going}
 use Rattle.tags.proofs.Looking.{Looking}
 use Rattle.tags.proofs.Coding.{LookingAll}
 
@@ -32,6 +32,36 @@ passed-more u v =
       forward = omega (arith, u.forward, v.forward);
       within = λ h. grind (arith, u.within, v.within, u.forward, v.forward);
       same = λ place. v.same place ∙ u.same place;
+    }
+
+-- ---- spaces that were passed: a tag is the same from any of them on
+
+scan-within : (p : ℕ → Bool) (s : List ℕ) (at r : ℕ) → at ≤ r → r ≤ scan p s at → scan p s r ≡ scan p s at
+scan-within p s at r h l =
+    let z : at + (r - at) ≡ r = omega arith in
+    let c = count_past p (r - at) (drop at s) (omega arith) in
+    let d = rw (drop-drop, z) at c in
+    omega (arith, d)
+
+part-same : (doc : List ℕ) (at r place : ℕ) → scan is_space doc r ≡ scan is_space doc at → tag_part_at doc r place ≡ tag_part_at doc at place
+unfolding tag_part_at
+part-same doc at r place e = rw e refl
+
+tag-same : (doc : List ℕ) (at r place : ℕ) → scan is_space doc r ≡ scan is_space doc at → tag_at doc r place ≡ tag_at doc at place
+tag-same doc at r place e =
+    let p = part-same doc at r place e in
+    rw add-one
+    (by_part (tag_part_at doc at place)
+    (λ a q. within-part no_tag (length doc) doc r place (p ∙ q) ∙ sym (within-part no_tag (length doc) doc at place q))
+    (λ ending q. within_end no_tag (length doc) doc r place (p ∙ q) ∙ sym (within_end no_tag (length doc) doc at place q))
+    (λ refusal q. within-bad no_tag (length doc) doc r place (p ∙ q) ∙ sym (within-bad no_tag (length doc) doc at place q)))
+
+pub spaces-passed : {doc : List ℕ} {at i : ℕ} → i ≡ scan is_space doc at → i < length doc → at < i → Unchanged doc at (i - 1)
+spaces-passed {doc = doc} {at = at} {i = i} e h l =
+    record {
+      forward = omega arith;
+      within = λ k. omega arith;
+      same = λ place. tag-same doc at (i - 1) place (scan-within is_space doc at (i - 1) (omega arith) (omega arith));
     }
 
 -- the next one is nearer to the document's end
@@ -147,4 +177,4 @@ all-past inv u =
       encoding = looking-past inv.encoding u;
     }
 
-pub ruleset dropping = (passed_none, passed-more, passed-less, quoted-first, quoted-second, quoted-next, quoted-none, double-next, single-next, value-none, passed-whole, rules)
+pub ruleset dropping = (passed_none, spaces-passed, passed-more, passed-less, quoted-first, quoted-second, quoted-next, quoted-none, double-next, single-next, value-none, passed-whole, rules)

@@ -2,8 +2,10 @@
 //! often stand in rows. This loop makes neither parts nor notes of them, which halves the time.
 #![tactic(auto, using(crate::proofs::Dropping::dropping))]
 
-ghost use Rattle.std.specs.Prelude.{◌≡◌, ◌≤◌, length};
+ghost use Rattle.std.specs.Prelude.{◌≡◌, ◌≤◌, ◌<◌, length};
+ghost use Rattle.texts.specs.Scan.{scan};
 ghost use Rattle.texts.specs.declared.Range.{Range};
+ghost use Rattle.classes.specs.Class.{is_space};
 ghost use Rattle.tags.specs.Attributes.{quoted_at, value_at};
 ghost use Rattle.tags.specs.internal.Dropping.{Unchanged, next_of};
 
@@ -42,8 +44,17 @@ fn past_value(doc: &[u8], at: usize, from: usize) -> usize
     at
 }
 
-/// The position past the attribute at `at` if it declares a namespace, else `at`. Gives `at` as
-/// well where fewer than 16 bytes are left: the general way reads those.
+/// Where the last of the spaces at `at` stands, behind which an attribute begins at `i`; `at` if
+/// there is none. So that spaces which were passed are not passed again.
+fn last_space(doc: &[u8], at: usize, i: usize) -> usize
+    requires { (i ≡ scan is_space doc.now at) × (i < length doc.now) }
+    ensures { Unchanged doc.now at result }
+{
+    if at < i { i - 1 } else { at }
+}
+
+/// The position past the attribute at `at` if it declares a namespace; else `at`, or the last space
+/// before it. Gives `at` as well where fewer than 16 bytes are left: the general way reads those.
 fn past_namespace(doc: &[u8], at: usize) -> usize
     ensures { Unchanged doc.now at result }
 {
@@ -56,14 +67,14 @@ fn past_namespace(doc: &[u8], at: usize) -> usize
         return at;
     }
     if doc[i] != b'x' {
-        return at;
+        return last_space(doc, at, i);
     }
     let end = attribute_name_end(doc, i);
     if end == i {
         return at;
     }
     if !is_xmlns_at(doc, i, end - i) {
-        return at;
+        return last_space(doc, at, i);
     }
     let equals = skip_space(doc, end);
     if !texts::starts_with(doc, equals, b"=") {
