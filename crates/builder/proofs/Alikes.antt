@@ -5,7 +5,7 @@ use Rattle.texts.specs.Text.{piece}
 use Rattle.texts.proofs.Stores.{take-sets, drop-sets, piece-below}
 use Rattle.tags.specs.Attributes.{attribute_at, raw_length, raw_lengths}
 use Rattle.tags.proofs.Ranges.{different, values-lie}
-use Rattle.builder.specs.internal.Layout.{builder_in, texted, Alike, Sound, Tagged}
+use Rattle.builder.specs.internal.Layout.{builder_in, texted, Alike, Intact, Tagged}
 use Rattle.builder.specs.declared.state.State.{State}
 use Rattle.builder.specs.declared.work.Work.{Work}
 
@@ -29,14 +29,14 @@ pub alike-trans : {low high : ℕ} {a b c : List ℕ} → Alike low high a b →
 alike-trans p q = record { below = q.below ∙ p.below; above = q.above ∙ p.above }
 
 -- the same buffers with a text that is alike
-module _ (w : Work) (s : State) (t : List ℕ) (k : Sound w s) (a : Alike s.usage.collected_to s.usage.taken_from w.text.now t) where
+module _ (w : Work) (s : State) (t : List ℕ) (k : Intact w s) (a : Alike s.usage.collected_to s.usage.taken_from w.text.now t) where
   pub builder-alike : builder_in (texted w t) s ≡ builder_in w s
   builder-alike =
       let c : piece t s.usage.collected_from (s.usage.collected_to - s.usage.collected_from) ≡ piece w.text.now s.usage.collected_from (s.usage.collected_to - s.usage.collected_from) =
       piece-below w.text.now t s.usage.collected_to s.usage.collected_from (s.usage.collected_to - s.usage.collected_from) (omega (arith, k.within.begun)) a.below in
       rw (c, k.stable t a)
 
-  pub sound-alike : length t ≡ length w.text.now → Sound (texted w t) s
+  pub sound-alike : length t ≡ length w.text.now → Intact (texted w t) s
   sound-alike l =
       record { within = k.within; lent = record { records = k.lent.records; bytes = omega (arith, k.lent.bytes) }; stable = λ u b. k.stable u (alike-trans a b) ∙ sym (k.stable t a) }
 

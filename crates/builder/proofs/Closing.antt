@@ -12,7 +12,7 @@ use Rattle.model.specs.Schema.{Schema, no_item, under, last, positions_from, a_v
 use Rattle.model.specs.Search.{last_under}
 use Rattle.builder.specs.Builder.{Builder, on, refused, with_stack, with_text, with_schema, with_second, with_second_at, close_value, close_by, closed, collect, top, rest}
 use Rattle.model.specs.internal.Store.{entry_at, words_of, item_of, items_of, schema_of}
-use Rattle.builder.specs.internal.Layout.{model_in, builder_in, stack_of, over, texted, valued, valued_at, popped, Alike, Sound, Ready, After}
+use Rattle.builder.specs.internal.Layout.{model_in, builder_in, stack_of, over, texted, valued, valued_at, popped, Alike, Intact, RoomFor, After}
 use Rattle.elements.specs.Elements.{element_of}
 use Rattle.elements.specs.declared.Element.{Element}
 use Rattle.model.specs.declared.Entry.{Entry}
@@ -24,7 +24,7 @@ use Rattle.model.proofs.Searching.{last_in}
 use Rattle.model.specs.Schema.{is_under}
 use Rattle.builder.proofs.Alikes.{alike_self, alike-sets, alike-trans, alike-lower}
 use Rattle.builder.proofs.Stacking.{stack-put, pop-builder}
-use Rattle.builder.proofs.Adding.{after_turned, after-as, after-refused, after_same}
+use Rattle.builder.proofs.Adding.{after-of, after_turned, after-as, after-refused, after_same}
 use Rattle.builder.proofs.Takes.{decoded-most}
 use Rattle.builder.proofs.Finding.{currently, emptied, sound-emptied}
 
@@ -35,7 +35,7 @@ module _ (w : Work) (s : State) (owner : ℕ) (v : Range) {o : Option ℕ} (f : 
   pub put_value-none : o ≡ None → w ≡ over w (valued_at (last_under a_value owner (builder_in w s).schema.items) v w.records.now)
   put_value-none e = rw (sym f ∙ e) refl
 
-  pub put_value-fits : {i : ℕ} → o ≡ Some i → Sound w s → 15 * i + 10 ≤ length w.records.now
+  pub put_value-fits : {i : ℕ} → o ≡ Some i → Intact w s → 15 * i + 10 ≤ length w.records.now
   unfolding last_under schema_of
   put_value-fits {i} e k = omega (arith, k.within.many, k.lent.records, last_in (is_under a_value owner) s.usage.items w.records.now w.text.now (sym f ∙ e))
 
@@ -47,7 +47,7 @@ unfolding item_of
 valued-item t v e w q = rw q
 
 -- the entry with its value, and what the model then is
-module _ (w : Work) (s : State) (k : Sound w s) (v : Range) (z : TrimmedTo w.text.now s.usage.collected_from (s.usage.collected_to - s.usage.collected_from) v) (owner : ℕ) where
+module _ (w : Work) (s : State) (k : Intact w s) (v : Range) (z : TrimmedTo w.text.now s.usage.collected_from (s.usage.collected_to - s.usage.collected_from) v) (owner : ℕ) where
   abbrev rec : List ℕ
   rec = w.records.now
 
@@ -116,7 +116,7 @@ value-some b e = rw e
 abbrev pub idle : State → Current
 idle s = record s.current { collecting = false }
 
-module _ {w : Work} {s : State} (k : Sound w s) where
+module _ {w : Work} {s : State} (k : Intact w s) where
   pub value-lost : s.current.enumeration ≡ None → After (on (close_value (builder_in w s))) w s 0 w (Ok (emptied s (idle s)))
   value-lost e =
       let o : s.usage.collected_to - s.usage.collected_to ≡ 0 = omega arith in
@@ -128,13 +128,10 @@ module _ {w : Work} {s : State} (k : Sound w s) where
   value-closed {owner} e {v} z er =
       let o : s.usage.collected_to - s.usage.collected_to ≡ 0 = omega arith in
       rw er
-      (record {
-        is = ap on (rw (o, valued-stack w s k v z owner, valued-schema w s k v z owner w.text.now alike_self) (value-some (builder_in w s) e));
-        sound =
-            record { within = record { deep = k.within.deep; many = k.within.many; begun = omega arith; apart = k.within.apart; top = k.within.top }; lent = record { records = rw (valued-long w s k v z owner) k.lent.records; bytes = k.lent.bytes }; stable = λ t b. valued-schema w s k v z owner t b ∙ sym (valued-schema w s k v z owner w.text.now alike_self) };
-        used = omega arith;
-        same = record { limits = refl; doc = refl; records = refl; text = refl };
-      })
+      (after-of (ap on (rw (o, valued-stack w s k v z owner, valued-schema w s k v z owner w.text.now alike_self) (value-some (builder_in w s) e)))
+      (record { within = record { deep = k.within.deep; many = k.within.many; begun = omega arith; apart = k.within.apart; top = k.within.top }; lent = record { records = rw (valued-long w s k v z owner) k.lent.records; bytes = k.lent.bytes }; stable = λ t b. valued-schema w s k v z owner t b ∙ sym (valued-schema w s k v z owner w.text.now alike_self) })
+      (omega arith)
+      (record { limits = refl; doc = refl; records = refl; text = refl }))
 
   -- ---- by element: what stays, and other things current
 
@@ -176,19 +173,19 @@ pub text_off : (v : List ℕ) (b : Builder) → b.collecting ≡ false → on b 
 unfolding collect
 text_off v b t = ap on (rw t)
 
-module _ {w : Work} {s : State} (from len : ℕ) (r : Ready w s len) where
+module _ {w : Work} {s : State} (from len : ℕ) (r : RoomFor w s len) where
   pub text-lost : s.current.collecting ≡ false → After (on (collect (decoded (piece w.doc.now from len)) (builder_in w s))) w s len w (Ok s)
-  text-lost f = after_same (text_off (decoded (piece w.doc.now from len)) (builder_in w s) f) r.sound
+  text-lost f = after_same (text_off (decoded (piece w.doc.now from len)) (builder_in w s) f) r.intact
 
   pub text-room : s.usage.collected_to + len ≤ length w.text.now
-  text-room = omega (arith, r.room, r.sound.within.top, r.sound.lent.bytes)
+  text-room = omega (arith, r.room, r.intact.within.top, r.intact.lent.bytes)
 
   module _ {n : ℕ} {t : List ℕ} (en : n ≡ length (decoded (piece w.doc.now from len))) (et : t ≡ sets w.text.now s.usage.collected_to (decoded (piece w.doc.now from len))) where
     short : n ≤ len
     short = omega (arith, decoded-most w.doc.now from len)
 
     pub text-fits : Fits w64 (s.usage.collected_to + n)
-    text-fits = omega (arith, short, r.room, r.sound.within.top)
+    text-fits = omega (arith, short, r.room, r.intact.within.top)
 
     abbrev longer : State
     longer = record s { usage = record s.usage { collected_to = s.usage.collected_to + n } }
@@ -199,7 +196,7 @@ module _ {w : Work} {s : State} (from len : ℕ) (r : Ready w s len) where
     -- the collected text goes on
     joined : piece t s.usage.collected_from (s.usage.collected_to + n - s.usage.collected_from) ≡ piece w.text.now s.usage.collected_from (s.usage.collected_to - s.usage.collected_from) ++ decoded (piece w.doc.now from len)
     joined =
-        let b = r.sound.within.begun in
+        let b = r.intact.within.begun in
         let z : s.usage.collected_to + n - s.usage.collected_from ≡ s.usage.collected_to - s.usage.collected_from + n = omega arith in
         let y : s.usage.collected_from + (s.usage.collected_to - s.usage.collected_from) ≡ s.usage.collected_to = omega arith in
         let c : piece t s.usage.collected_from (s.usage.collected_to - s.usage.collected_from) ≡ piece w.text.now s.usage.collected_from (s.usage.collected_to - s.usage.collected_from) =
@@ -210,12 +207,9 @@ module _ {w : Work} {s : State} (from len : ℕ) (r : Ready w s len) where
 
     pub text-on : s.current.collecting ≡ true → After (on (collect (decoded (piece w.doc.now from len)) (builder_in w s))) w s len (texted w t) (Ok longer)
     text-on f =
-        let k = r.sound in
+        let k = r.intact in
         let z : builder_in (texted w t) longer ≡ with_text true ((builder_in w s).collected ++ decoded (piece w.doc.now from len)) (builder_in w s) = rw (joined, k.stable t alike, f) in
-        record {
-          is = ap on (z ∙ collect-on (decoded (piece w.doc.now from len)) (builder_in w s) f);
-          sound =
-              record { within = record { deep = k.within.deep; many = k.within.many; begun = omega (arith, k.within.begun); apart = omega (arith, short, r.room); top = k.within.top }; lent = record { records = k.lent.records; bytes = rw (et, length-sets w.text.now s.usage.collected_to (decoded (piece w.doc.now from len))) k.lent.bytes }; stable = λ u b. k.stable u (alike-trans alike (alike-lower t u s.usage.collected_to (s.usage.collected_to + n) s.usage.taken_from (omega arith) b)) ∙ sym (k.stable t alike) };
-          used = omega (arith, short);
-          same = record { limits = refl; doc = refl; records = refl; text = refl };
-        }
+        after-of (ap on (z ∙ collect-on (decoded (piece w.doc.now from len)) (builder_in w s) f))
+        (record { within = record { deep = k.within.deep; many = k.within.many; begun = omega (arith, k.within.begun); apart = omega (arith, short, r.room); top = k.within.top }; lent = record { records = k.lent.records; bytes = rw (et, length-sets w.text.now s.usage.collected_to (decoded (piece w.doc.now from len))) k.lent.bytes }; stable = λ u b. k.stable u (alike-trans alike (alike-lower t u s.usage.collected_to (s.usage.collected_to + n) s.usage.taken_from (omega arith) b)) ∙ sym (k.stable t alike) })
+        (omega (arith, short))
+        (record { limits = refl; doc = refl; records = refl; text = refl })

@@ -17,15 +17,15 @@ use Rattle.model.specs.Schema.{Schema}
 use Rattle.builder.specs.Builder.{Builder, on, refused, Attributes, number_in, text_in, or_empty, with_schema, open_schema, open_by, opened, top, with_stack}
 use Rattle.model.specs.internal.Store.{items_of, schema_of}
 use Rattle.builder.specs.Limits.{max_depth}
-use Rattle.builder.specs.internal.Layout.{model_in, builder_in, texted, parent_composite, pushed, with_name, room, Alike, Ready, IsTag, After}
-use Rattle.builder.specs.internal.Taking.{attributes_of, TakenAt, NumberRead, ReadyToOpen, Finds}
+use Rattle.builder.specs.internal.Layout.{model_in, builder_in, texted, parent_composite, pushed, with_name, room, Alike, RoomFor, KnownTag, After}
+use Rattle.builder.specs.internal.Taking.{attributes_of, TakenAt, NumberRead, CanOpen, Finds}
 use Rattle.elements.specs.Elements.{element_of}
 use Rattle.builder.specs.declared.state.State.{State}
 use Rattle.builder.specs.declared.work.Tag.{Tag}
 use Rattle.builder.specs.declared.work.Work.{Work}
 use Rattle.builder.proofs.Alikes.{alike_self, alike-wider, alike-trans, builder-alike}
 use Rattle.builder.proofs.Stacking.{length-stack, push-ready, push-builder}
-use Rattle.builder.proofs.Adding.{same-trans, after-as, after-refused}
+use Rattle.builder.proofs.Adding.{same-trans, after-of, after-as, after-then, after-refused}
 use Rattle.builder.proofs.Finding.{second-said, name-said, name-room}
 use Rattle.builder.proofs.Opening.{is_number, number-ok, number-err}
 
@@ -41,7 +41,7 @@ unfolding open_schema
 bad-version place a b f g = rw (f, g)
 
 -- two numbers, then the package's name
-module _ {w : Work} {s : State} {tag : Tag} (o : ReadyToOpen schema_keys w s tag) {f : Found} (ef : Finds tag f) {w₁ : Work} {x : Result ℕ Refusal} (m : NumberRead tag.place (room tag) f.number w s w₁ x) where
+module _ {w : Work} {s : State} {tag : Tag} (o : CanOpen schema_keys w s tag) {f : Found} (ef : Finds tag f) {w₁ : Work} {x : Result ℕ Refusal} (m : NumberRead tag.place (room tag) f.number w s w₁ x) where
   abbrev Schemas : Work → Result State Refusal → Type 0
   Schemas w' r = After (open_schema tag.place (attributes_of w tag) (builder_in w s)) w s (room tag) w' r
 
@@ -54,14 +54,14 @@ module _ {w : Work} {s : State} {tag : Tag} (o : ReadyToOpen schema_keys w s tag
         let p = err_from_is_err_and r h in
         let v = number-err tag.place _ (sym e ∙ n.is) in
         let z : r ≡ Err (BadNumber tag.place) = p.1 ∙ ap (λ u. Err u) (p.2 ∙ v.1) in
-        rw z (record { is = bad-version tag.place (attributes_of w tag) (builder_in w s) (is_number o ef m ex) (sym said ∙ v.0); sound = tt; used = tt; same = same-trans m.same n.same })
+        rw z (after-of (bad-version tag.place (attributes_of w tag) (builder_in w s) (is_number o ef m ex) (sym said ∙ v.0)) tt tt (same-trans m.same n.same))
 
     pub package-asked : (raw_length f.name ≤ s.usage.taken_from) × (s.usage.taken_from ≤ length w₂.text.now)
-    package-asked = (omega (arith, name-room o ef, n.ready.room), omega (arith, n.ready.sound.within.top, n.ready.sound.lent.bytes))
+    package-asked = (omega (arith, name-room o ef, n.room.room), omega (arith, n.room.intact.within.top, n.room.intact.lent.bytes))
 
     module _ {version : ℕ} (ey : y ≡ Ok version) {k : Range} {t : List ℕ} (q : TakenAt f.name w₂.doc.now w₂.text.now s.usage.taken_from k t) where
       low : s.usage.collected_to ≤ k.from
-      low = omega (arith, name-room o ef, n.ready.room, q.start)
+      low = omega (arith, name-room o ef, n.room.room, q.start)
 
       abbrev now : State
       now = record s { usage = record s.usage { taken_from = k.from }; head = record { name = k.from; len = k.len; id = id; version = version } }
@@ -79,26 +79,23 @@ module _ {w : Work} {s : State} {tag : Tag} (o : ReadyToOpen schema_keys w s tag
           let p : piece u k.from k.len ≡ or_empty (value_in w.doc.now (attribute_at w.doc.now tag.attributes (ascii "package"))) =
           piece-above t u k.from k.from k.len (omega arith) a.above ∙ q.is ∙ ap (λ (x : Bor (List ℕ)). or_empty (value_in x.now f.name)) d ∙ ap (λ (x : Option Range). or_empty (value_in w.doc.now x)) (name-said o ef) in
           let i : items_of s.usage.items w₂.records.now u ≡ items_of s.usage.items w₂.records.now w₂.text.now =
-          ap (λ (x : Schema). x.items) (n.ready.sound.stable u (alike-trans whole (alike-wider t u s.usage.collected_to k.from s.usage.taken_from (omega (arith, q.start)) a))) in
+          ap (λ (x : Schema). x.items) (n.room.intact.stable u (alike-trans whole (alike-wider t u s.usage.collected_to k.from s.usage.taken_from (omega (arith, q.start)) a))) in
           rw (p, i)
 
       pub schema-on : Schemas (texted w₂ t) (Ok now)
       schema-on =
           let c : piece t s.usage.collected_from (s.usage.collected_to - s.usage.collected_from) ≡ piece w₂.text.now s.usage.collected_from (s.usage.collected_to - s.usage.collected_from) =
-          ap (λ (b : Builder). b.collected) (builder-alike w₂ s t n.ready.sound whole) in
+          ap (λ (b : Builder). b.collected) (builder-alike w₂ s t n.room.intact whole) in
           let b : builder_in w₂ s ≡ builder_in w s = n.builder ∙ m.builder in
           let r : builder_in (texted w₂ t) now ≡ with_schema schema (builder_in w₂ s) = rw (c, schema-now t alike_self) in
-          let k = n.ready.sound in
-          record {
-            is =
-                ap on r
-                ∙ schema-by tag.place (attributes_of w tag) (builder_in w₂ s) id version (is_number o ef m ex) (sym said ∙ number-ok tag.place _ (sym ey ∙ n.is))
-                ∙ ap (open_schema tag.place (attributes_of w tag)) b;
-            sound =
-                record { within = record { deep = k.within.deep; many = k.within.many; begun = k.within.begun; apart = low; top = omega (arith, q.start, k.within.top) }; lent = record { records = k.lent.records; bytes = omega (arith, q.long, k.lent.bytes) }; stable = λ u a. schema-now u a ∙ sym (schema-now t alike_self) };
-            used = omega (arith, q.start, k.within.top, name-room o ef);
-            same = same-trans m.same (same-trans n.same (record { limits = refl; doc = refl; records = refl; text = refl }));
-          }
+          let k = n.room.intact in
+          after-of
+          (ap on r
+          ∙ schema-by tag.place (attributes_of w tag) (builder_in w₂ s) id version (is_number o ef m ex) (sym said ∙ number-ok tag.place _ (sym ey ∙ n.is))
+          ∙ ap (open_schema tag.place (attributes_of w tag)) b)
+          (record { within = record { deep = k.within.deep; many = k.within.many; begun = k.within.begun; apart = low; top = omega (arith, q.start, k.within.top) }; lent = record { records = k.lent.records; bytes = omega (arith, q.long, k.lent.bytes) }; stable = λ u a. schema-now u a ∙ sym (schema-now t alike_self) })
+          (omega (arith, q.start, k.within.top, name-room o ef))
+          (same-trans m.same (same-trans n.same (record { limits = refl; doc = refl; records = refl; text = refl })))
 
 -- ---- a whole open
 
@@ -112,15 +109,15 @@ opened-by : (w : Work) (place : ℕ) (name : List ℕ) (a : Attributes) (b : Bui
 unfolding opened
 opened-by w place name a b h = rw h
 
-module _ {w : Work} {s : State} {tag : Tag} (r : Ready w s (room tag)) (g : IsTag w.doc.now tag) (d : s.usage.depth < w.limits.depth) (m : w.limits.depth ≤ max_depth) {p : State} (ep : p ≡ pushed s) {w₁ : Work} (ew : w₁ ≡ with_name w s tag.name.from tag.name.len) where
+module _ {w : Work} {s : State} {tag : Tag} (r : RoomFor w s (room tag)) (g : KnownTag w.doc.now tag) (d : s.usage.depth < w.limits.depth) (m : w.limits.depth ≤ max_depth) {p : State} (ep : p ≡ pushed s) {w₁ : Work} (ew : w₁ ≡ with_name w s tag.name.from tag.name.len) where
   deep : s.usage.depth < max_depth
   deep = omega arith
 
-  pub pushed-opens : ReadyToOpen (keys_of tag.element) w₁ p tag
+  pub pushed-opens : CanOpen (keys_of tag.element) w₁ p tag
   pushed-opens =
       rw (ep, ew)
       (record {
-        ready = push-ready w s tag.name.from tag.name.len (room tag) r deep;
+        room = push-ready w s tag.name.from tag.name.len (room tag) r deep;
         tagged = g.tagged;
         noted = g.noted;
       })
@@ -137,4 +134,4 @@ module _ {w : Work} {s : State} {tag : Tag} (r : Ready w s (room tag)) (g : IsTa
       ∙ ap (λ x. open_by x w.limits tag.place (same (top b.stack) (ascii "composite")) (attributes_of w tag) (with_stack (name ∷ b.stack) b)) g.named
       ∙ opened-by w tag.place name (attributes_of w tag) b k in
       let a = after-as s q refl (omega arith) h in
-      record { is = a.is; sound = a.sound; used = a.used; same = same-trans (record { limits = refl; doc = refl; records = refl; text = refl }) a.same }
+      after-then (record { limits = refl; doc = refl; records = refl; text = refl }) a

@@ -7,8 +7,8 @@ use Rattle.builder.specs.declared.work.Found.{Found}
 use Rattle.tags.specs.Attributes.{attribute_at, raw_length}
 use Rattle.elements.specs.Keys.{Keys, schema_keys, field_keys, type_keys, enum_keys}
 use Rattle.builder.specs.Builder.{plain_item, type_item, text_in}
-use Rattle.builder.specs.internal.Layout.{room, Sound, Ready}
-use Rattle.builder.specs.internal.Taking.{attributes_of, NumberRead, ReadyToOpen, Finds, Reads, Adds, drafted, drafted_item}
+use Rattle.builder.specs.internal.Layout.{room, Intact, RoomFor}
+use Rattle.builder.specs.internal.Taking.{attributes_of, NumberRead, CanOpen, Finds, CanRead, CanAdd, drafted, drafted_item}
 use Rattle.builder.specs.declared.state.Current.{Current}
 use Rattle.builder.specs.declared.state.State.{State}
 use Rattle.builder.specs.declared.take.Draft.{Draft}
@@ -18,11 +18,11 @@ use Rattle.builder.proofs.Alikes.{tag-room, tag_one}
 
 -- ---- a state with other things current, or with an empty text
 
-pub ready-current : {w : Work} {s : State} {n : ℕ} {c : Current} → Ready w s n → Ready w (record s { current = c }) n
+pub ready-current : {w : Work} {s : State} {n : ℕ} {c : Current} → RoomFor w s n → RoomFor w (record s { current = c }) n
 ready-current r =
-    let k = r.sound in
+    let k = r.intact in
     record {
-      sound = record { within = k.within; lent = k.lent; stable = k.stable };
+      intact = record { within = k.within; lent = k.lent; stable = k.stable };
       room = r.room;
     }
 
@@ -47,15 +47,15 @@ value-now s = record s.current { collecting = true }
 abbrev pub emptied : State → Current → State
 emptied s c = record s { usage = record s.usage { collected_from = s.usage.collected_to }; current = c }
 
-pub sound-emptied : {w : Work} {s : State} {c : Current} → Sound w s → Sound w (emptied s c)
+pub sound-emptied : {w : Work} {s : State} {c : Current} → Intact w s → Intact w (emptied s c)
 sound-emptied k = record { within = record { deep = k.within.deep; many = k.within.many; begun = omega arith; apart = k.within.apart; top = k.within.top }; lent = k.lent; stable = k.stable }
 
-pub ready-emptied : {w : Work} {s : State} {n : ℕ} {c : Current} → Ready w s n → Ready w (emptied s c) n
-ready-emptied r = record { sound = sound-emptied r.sound; room = r.room }
+pub ready-emptied : {w : Work} {s : State} {n : ℕ} {c : Current} → RoomFor w s n → RoomFor w (emptied s c) n
+ready-emptied r = record { intact = sound-emptied r.intact; room = r.room }
 
 -- ---- what was found in a tag
 
-module _ {k : Keys} {w : Work} {s : State} {tag : Tag} (o : ReadyToOpen k w s tag) {f : Found} (e : Finds tag f) where
+module _ {k : Keys} {w : Work} {s : State} {tag : Tag} (o : CanOpen k w s tag) {f : Found} (e : Finds tag f) where
   abbrev pub at : List ℕ → Option Range
   at key = attribute_at w.doc.now tag.attributes key
 
@@ -72,9 +72,9 @@ module _ {k : Keys} {w : Work} {s : State} {tag : Tag} (o : ReadyToOpen k w s ta
   encoding-said = ap (λ (r : Found). r.encoding) e.is ∙ o.noted.encoding
 
   -- it takes no more than the tag
-  pub number-room : Reads w s tag f.number
-  unfolding Reads
-  number-room = (o.ready, rw number-said (tag_one w.doc.now tag.attributes tag.next o.tagged k.number))
+  pub number-room : CanRead w s tag f.number
+  unfolding CanRead
+  number-room = (o.room, rw number-said (tag_one w.doc.now tag.attributes tag.next o.tagged k.number))
 
   pub name-room : raw_length f.name ≤ room tag
   name-room = rw name-said (tag_one w.doc.now tag.attributes tag.next o.tagged k.name)
@@ -84,58 +84,58 @@ module _ {k : Keys} {w : Work} {s : State} {tag : Tag} (o : ReadyToOpen k w s ta
 
 -- by element: `search` finds these by the names
 module _ {w : Work} {s : State} {tag : Tag} {f : Found} where
-  pub type-reads : ReadyToOpen type_keys w s tag → Finds tag f → Reads w s tag f.number
+  pub type-reads : CanOpen type_keys w s tag → Finds tag f → CanRead w s tag f.number
   type-reads o e = number-room o e
 
-  pub field-reads : ReadyToOpen field_keys w s tag → Finds tag f → Reads w s tag f.number
+  pub field-reads : CanOpen field_keys w s tag → Finds tag f → CanRead w s tag f.number
   field-reads o e = number-room o e
 
-  pub id-reads : ReadyToOpen schema_keys w s tag → Finds tag f → Reads w s tag f.number
+  pub id-reads : CanOpen schema_keys w s tag → Finds tag f → CanRead w s tag f.number
   id-reads o e = number-room o e
 
-  pub version-reads : ReadyToOpen schema_keys w s tag → Finds tag f → {w₁ : Work} → Ready w₁ s (room tag) → Reads w₁ s tag f.second
-  unfolding Reads
+  pub version-reads : CanOpen schema_keys w s tag → Finds tag f → {w₁ : Work} → RoomFor w₁ s (room tag) → CanRead w₁ s tag f.second
+  unfolding CanRead
   version-reads o e r = (r, second-room o e)
 
 -- what is ready once a number was read
-pub number-ready : {place n : ℕ} {found : Option Range} {w w₁ : Work} {s : State} {x : Result ℕ Refusal} → NumberRead place n found w s w₁ x → Ready w₁ s n
-number-ready m = m.ready
+pub number-ready : {place n : ℕ} {found : Option Range} {w w₁ : Work} {s : State} {x : Result ℕ Refusal} → NumberRead place n found w s w₁ x → RoomFor w₁ s n
+number-ready m = m.room
 
-pub open-ready : {k : Keys} {w : Work} {s : State} {tag : Tag} → ReadyToOpen k w s tag → Ready w s (room tag)
-open-ready o = o.ready
+pub open-ready : {k : Keys} {w : Work} {s : State} {tag : Tag} → CanOpen k w s tag → RoomFor w s (room tag)
+open-ready o = o.room
 
 -- a type or a member, of what was found
 abbrev pub typed : Found → ℕ → ℕ → ℕ → Draft
 typed f kind owner n = record { kind = kind; owner = owner; number = n; given = f.number; name = f.name; second = f.second; encoding = f.encoding }
 
-module _ {w : Work} {s : State} {tag : Tag} {f : Found} (o : ReadyToOpen type_keys w s tag) (e : Finds tag f) where
-  pub type-adds : {w₁ : Work} → Ready w₁ s (room tag) → (kind owner v : ℕ) → Adds w₁ s tag (typed f kind owner v)
-  unfolding same Adds
+module _ {w : Work} {s : State} {tag : Tag} {f : Found} (o : CanOpen type_keys w s tag) (e : Finds tag f) where
+  pub type-adds : {w₁ : Work} → RoomFor w₁ s (room tag) → (kind owner v : ℕ) → CanAdd w₁ s tag (typed f kind owner v)
+  unfolding same CanAdd
   type-adds r kind owner v = (r, rw (name-said o e, second-said o e, encoding-said o e) (omega (arith, tag-room w.doc.now tag.attributes tag.next o.tagged (ascii "name" ∷ ascii "primitiveType" ∷ ascii "characterEncoding" ∷ []) tt)))
 
   pub type-drafted : (kind owner n : ℕ) → drafted_item (typed f kind owner n) w.doc.now ≡ type_item kind owner (attributes_of w tag) n
   type-drafted kind owner n = simp (number-said o e, name-said o e, second-said o e, encoding-said o e)
 
-module _ {w : Work} {s : State} {tag : Tag} {f : Found} (o : ReadyToOpen field_keys w s tag) (e : Finds tag f) (kind owner id : ℕ) where
-  pub named-adds : {w₁ : Work} {t : State} → Ready w₁ t (room tag) → Adds w₁ t tag (drafted kind owner id f.name None)
-  unfolding Adds
+module _ {w : Work} {s : State} {tag : Tag} {f : Found} (o : CanOpen field_keys w s tag) (e : Finds tag f) (kind owner id : ℕ) where
+  pub named-adds : {w₁ : Work} {t : State} → RoomFor w₁ t (room tag) → CanAdd w₁ t tag (drafted kind owner id f.name None)
+  unfolding CanAdd
   named-adds r = (r, omega (arith, name-room o e))
 
-  pub field-adds : {w₁ : Work} {t : State} → Ready w₁ t (room tag) → Adds w₁ t tag (drafted kind owner id f.name f.second)
-  unfolding same Adds
+  pub field-adds : {w₁ : Work} {t : State} → RoomFor w₁ t (room tag) → CanAdd w₁ t tag (drafted kind owner id f.name f.second)
+  unfolding same CanAdd
   field-adds r = (r, rw (name-said o e, second-said o e) (omega (arith, tag-room w.doc.now tag.attributes tag.next o.tagged (ascii "name" ∷ ascii "type" ∷ []) tt)))
 
-module _ {w : Work} {s : State} {tag : Tag} {f : Found} (o : ReadyToOpen enum_keys w s tag) (e : Finds tag f) (kind owner id : ℕ) where
-  pub enum-adds : {w₁ : Work} {t : State} → Ready w₁ t (room tag) → Adds w₁ t tag (drafted kind owner id f.name f.second)
-  unfolding same Adds
+module _ {w : Work} {s : State} {tag : Tag} {f : Found} (o : CanOpen enum_keys w s tag) (e : Finds tag f) (kind owner id : ℕ) where
+  pub enum-adds : {w₁ : Work} {t : State} → RoomFor w₁ t (room tag) → CanAdd w₁ t tag (drafted kind owner id f.name f.second)
+  unfolding same CanAdd
   enum-adds r = (r, rw (name-said o e, second-said o e) (omega (arith, tag-room w.doc.now tag.attributes tag.next o.tagged (ascii "name" ∷ ascii "encodingType" ∷ []) tt)))
 
 module _ {w : Work} {s : State} {tag : Tag} {f : Found} {d : Draft} {kind owner id : ℕ} where
-  pub named-drafted : ReadyToOpen field_keys w s tag → Finds tag f → d ≡ drafted kind owner id f.name None → drafted_item d w.doc.now ≡ plain_item kind owner (text_in (attributes_of w tag) "name") [] id
+  pub named-drafted : CanOpen field_keys w s tag → Finds tag f → d ≡ drafted kind owner id f.name None → drafted_item d w.doc.now ≡ plain_item kind owner (text_in (attributes_of w tag) "name") [] id
   named-drafted o e q = rw (q, name-said o e) refl
 
-  pub field-drafted : ReadyToOpen field_keys w s tag → Finds tag f → d ≡ drafted kind owner id f.name f.second → drafted_item d w.doc.now ≡ plain_item kind owner (text_in (attributes_of w tag) "name") (text_in (attributes_of w tag) "type") id
+  pub field-drafted : CanOpen field_keys w s tag → Finds tag f → d ≡ drafted kind owner id f.name f.second → drafted_item d w.doc.now ≡ plain_item kind owner (text_in (attributes_of w tag) "name") (text_in (attributes_of w tag) "type") id
   field-drafted o e q = rw (q, name-said o e, second-said o e) refl
 
-  pub enum-drafted : ReadyToOpen enum_keys w s tag → Finds tag f → d ≡ drafted kind owner id f.name f.second → drafted_item d w.doc.now ≡ plain_item kind owner (text_in (attributes_of w tag) "name") (text_in (attributes_of w tag) "encodingType") id
+  pub enum-drafted : CanOpen enum_keys w s tag → Finds tag f → d ≡ drafted kind owner id f.name f.second → drafted_item d w.doc.now ≡ plain_item kind owner (text_in (attributes_of w tag) "name") (text_in (attributes_of w tag) "encodingType") id
   enum-drafted o e q = rw (q, name-said o e, second-said o e) refl

@@ -1,4 +1,5 @@
 -- Laws of the builder over the items in their buffers.
+pub mod Sounding
 pub mod Alikes
 pub mod Takes
 pub mod Stacking

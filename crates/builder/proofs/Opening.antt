@@ -12,14 +12,14 @@ use Rattle.saxlite.specs.Event.{value_in}
 use Rattle.model.specs.Schema.{Item, item_at, a_type, a_member, a_message, a_group, a_field, a_ref, a_composite, an_enum, a_value, Schema}
 use Rattle.builder.specs.Builder.{Builder, Outcome, on, refused, added, open_type, open_message, open_group, open_field, now_message, now_group, and_then, plain_item, type_item, text_in, open_ref, open_composite, open_enum, open_value, Attributes, number_in, now_composite, now_enum, with_text, next_position, if_current, with_number, with_schema, with_items, field_in, field_under}
 use Rattle.builder.specs.internal.Layout.{used_by, builder_in, parent_composite, room, After}
-use Rattle.builder.specs.internal.Taking.{attributes_of, Added, NumberRead, number_or_refused, ReadyToOpen, Finds, drafted, drafted_item}
+use Rattle.builder.specs.internal.Taking.{attributes_of, Added, NumberRead, number_or_refused, CanOpen, Finds, drafted, drafted_item}
 use Rattle.numbers.specs.Numbers.{number_of}
 use Rattle.builder.specs.Limits.{Limits}
 use Rattle.builder.specs.declared.state.State.{State}
 use Rattle.builder.specs.declared.take.Draft.{Draft}
 use Rattle.builder.specs.declared.work.Tag.{Tag}
 use Rattle.builder.specs.declared.work.Work.{Work}
-use Rattle.builder.proofs.Adding.{after_turned, after_same, after-as, after-then, counted-items}
+use Rattle.builder.proofs.Adding.{after-of, after_turned, after_same, after-as, after-then, counted-items}
 use Rattle.builder.proofs.Finding.{currently, message-now, group-now, number-said, typed, type-drafted, named-drafted, field-drafted, composite-now, enum-now, value-now, emptied, sound-emptied, enum-drafted}
 use Rattle.texts.specs.Choice.{pick}
 
@@ -75,14 +75,14 @@ of-item : (w : Work) (tag : Tag) (t : State) {x y : Item} → x ≡ y → added 
 of-item w tag t e = ap (λ x. added w.limits tag.place x (builder_in w t)) e
 
 module _ {w : Work} {s : State} {tag : Tag} where
-  module _ (o : ReadyToOpen field_keys w s tag) where
+  module _ (o : CanOpen field_keys w s tag) where
     pub ref-dropped : s.current.composite ≡ None → Gives (open_ref w.limits tag.place (attributes_of w tag) (builder_in w s)) w s tag w (Ok s)
-    ref-dropped e = after_same (ref-by w.limits tag.place (attributes_of w tag) (builder_in w s) None e) o.ready.sound
+    ref-dropped e = after_same (ref-by w.limits tag.place (attributes_of w tag) (builder_in w s) None e) o.room.intact
 
     pub value-lost : s.current.enumeration ≡ None → Gives (open_value w.limits tag.place (attributes_of w tag) (builder_in w s)) w s tag w (Ok (emptied s s.current))
     value-lost e =
         let z : s.usage.collected_to - s.usage.collected_to ≡ 0 = omega arith in
-        after_turned (rw z (value-by w.limits tag.place (attributes_of w tag) (builder_in w s) None e)) (sound-emptied o.ready.sound) (omega arith)
+        after_turned (rw z (value-by w.limits tag.place (attributes_of w tag) (builder_in w s) None e)) (sound-emptied o.room.intact) (omega arith)
 
     module _ {f : Found} (ef : Finds tag f) {d : Draft} {w' : Work} {r : Result State Refusal} where
       pub ref-on : {c : ℕ} → s.current.composite ≡ Some c → d ≡ drafted a_ref c 0 f.name f.second → Added w tag s d w' r → Gives (open_ref w.limits tag.place (attributes_of w tag) (builder_in w s)) w s tag w' r
@@ -103,7 +103,7 @@ module _ {w : Work} {s : State} {tag : Tag} where
           (of-item w tag (emptied s (value-now s)) (named-drafted o ef q) ∙ rw z (then-added w.limits tag.place _ (with_text true []) (builder_in w s) refl (λ x. refl) ∙ value-by w.limits tag.place (attributes_of w tag) (builder_in w s) (Some _) e))
           refl (omega arith) p
 
-  pub enum-on : ReadyToOpen enum_keys w s tag → {f : Found} → Finds tag f → {d : Draft} → d ≡ drafted an_enum 0 0 f.name f.second → {w' : Work} {r : Result State Refusal}
+  pub enum-on : CanOpen enum_keys w s tag → {f : Found} → Finds tag f → {d : Draft} → d ≡ drafted an_enum 0 0 f.name f.second → {w' : Work} {r : Result State Refusal}
       → Added w tag (currently s (enum-now s)) d w' r
       → Gives (open_enum w.limits tag.place (attributes_of w tag) (builder_in w s)) w s tag w' r
   unfolding open_enum
@@ -126,7 +126,7 @@ number-err place None e = (refl, err-inj e)
 number-err place (Some m) e = absurd (let z : ◌≡◌ {A = ℕ} 0 1 = cc in omega arith)
 
 -- the first value that was noted of a tag, as a number
-module _ {k : Keys} {w : Work} {s : State} {tag : Tag} (o : ReadyToOpen k w s tag) {f : Found} (ef : Finds tag f) {n : ℕ} {w₁ : Work} {x : Result ℕ Refusal} (m : NumberRead tag.place n f.number w s w₁ x) where
+module _ {k : Keys} {w : Work} {s : State} {tag : Tag} (o : CanOpen k w s tag) {f : Found} (ef : Finds tag f) {n : ℕ} {w₁ : Work} {x : Result ℕ Refusal} (m : NumberRead tag.place n f.number w s w₁ x) where
   pub is_number : {v : ℕ} → x ≡ Ok v → number_of (value_in w.doc.now (attribute_at w.doc.now tag.attributes k.number)) ≡ Some v
   is_number e = ap (λ (y : Option Range). number_of (value_in w.doc.now y)) (sym (number-said o ef)) ∙ number-ok tag.place _ (sym e ∙ m.is)
 
@@ -138,7 +138,7 @@ module _ {k : Keys} {w : Work} {s : State} {tag : Tag} (o : ReadyToOpen k w s ta
   refused-by e {r} h g =
       let p = err_from_is_err_and r h in
       let z : r ≡ Err (BadNumber tag.place) = p.1 ∙ ap (λ y. Err y) (p.2 ∙ (number-err tag.place _ (sym e ∙ m.is)).1) in
-      rw (z, no-number e) (record { is = refl; sound = tt; used = tt; same = m.same })
+      rw (z, no-number e) (after-of refl tt tt m.same)
 
   -- an item added after it
   readded : (g : Builder → Builder) (d : Draft) {it : Item} → drafted_item d w.doc.now ≡ it → added w₁.limits tag.place (drafted_item d w₁.doc.now) (g (builder_in w₁ s)) ≡ added w.limits tag.place it (g (builder_in w s))
@@ -154,9 +154,9 @@ module _ {k : Keys} {w : Work} {s : State} {tag : Tag} (o : ReadyToOpen k w s ta
 
   -- nothing added after it
   unadded : {o : Outcome} → on (builder_in w s) ≡ o → After o w s (room tag) w₁ (Ok s)
-  unadded e = record { is = ap on m.builder ∙ e; sound = m.ready.sound; used = omega arith; same = m.same }
+  unadded e = after-of (ap on m.builder ∙ e) m.room.intact (omega arith) m.same
 
-module _ {w : Work} {s : State} {tag : Tag} (o : ReadyToOpen field_keys w s tag) {f : Found} (ef : Finds tag f) {n : ℕ} {w₁ : Work} {x : Result ℕ Refusal} (m : NumberRead tag.place n f.number w s w₁ x) {v : ℕ} (e : x ≡ Ok v) where
+module _ {w : Work} {s : State} {tag : Tag} (o : CanOpen field_keys w s tag) {f : Found} (ef : Finds tag f) {n : ℕ} {w₁ : Work} {x : Result ℕ Refusal} (m : NumberRead tag.place n f.number w s w₁ x) {v : ℕ} (e : x ≡ Ok v) where
   abbrev Groups : Work → Result State Refusal → Type 0
   Groups w' r = Gives (open_group w.limits tag.place (attributes_of w tag) (builder_in w s)) w s tag w' r
 
@@ -184,7 +184,7 @@ module _ {w : Work} {s : State} {tag : Tag} (o : ReadyToOpen field_keys w s tag)
     pub field-misplaced : (y ≡ c → ⊥) → Fields w₁ (Err (MisplacedField tag.place))
     field-misplaced k =
         let t : eqb (item_at (builder_in w s).schema g).owner c ≡ false = rw (← owner) (ne_eqb y c k) in
-        record { is = sym (ap chosen t) ∙ by-message (Some c) (Some g) z h; sound = tt; used = tt; same = m.same }
+        after-of (sym (ap chosen t) ∙ by-message (Some c) (Some g) z h) tt tt m.same
 
     pub field-group : y ≡ c → {d : Draft} → d ≡ drafted a_field g v f.name f.second → {w' : Work} {r : Result State Refusal} → Added w₁ tag s d w' r → Fields w' r
     field-group k {d} q p =
@@ -207,7 +207,7 @@ module _ {w : Work} {s : State} {tag : Tag} (o : ReadyToOpen field_keys w s tag)
     pub field-message : {c : ℕ} → s.current.message ≡ Some c → s.current.group ≡ None → d ≡ drafted a_field c v f.name f.second → Added w₁ tag s d w' r → Fields w' r
     field-message z h q p = read-added o ef m (λ b. b) d (field-drafted o ef q) (by-message (Some _) None z h) refl p
 
-module _ {w : Work} {s : State} {tag : Tag} (o : ReadyToOpen type_keys w s tag) {f : Found} (ef : Finds tag f) {n : ℕ} {w₁ : Work} {x : Result ℕ Refusal} (m : NumberRead tag.place n f.number w s w₁ x) {v : ℕ} (e : x ≡ Ok v) {y : Bool} (i : y ≡ parent_composite (builder_in w₁ s)) where
+module _ {w : Work} {s : State} {tag : Tag} (o : CanOpen type_keys w s tag) {f : Found} (ef : Finds tag f) {n : ℕ} {w₁ : Work} {x : Result ℕ Refusal} (m : NumberRead tag.place n f.number w s w₁ x) {v : ℕ} (e : x ≡ Ok v) {y : Bool} (i : y ≡ parent_composite (builder_in w₁ s)) where
   abbrev Types : Work → Result State Refusal → Type 0
   Types w' r = Gives (open_type w.limits tag.place (parent_composite (builder_in w s)) (attributes_of w tag) (builder_in w s)) w s tag w' r
 

@@ -7,7 +7,7 @@ use Rattle.texts.proofs.Stores.{get_or-sets-above}
 use Rattle.builder.specs.Limits.{max_items, max_depth}
 use Rattle.builder.specs.Builder.{top, rest, with_stack}
 use Rattle.model.specs.internal.Store.{entry_at, words_of, schema_of}
-use Rattle.builder.specs.internal.Layout.{stack_at, stack_of, parent_composite, pushed, name_put, popped, over, model_in, builder_in, Sound, Ready, names_from}
+use Rattle.builder.specs.internal.Layout.{stack_at, stack_of, parent_composite, pushed, name_put, popped, over, model_in, builder_in, Intact, RoomFor, names_from}
 use Rattle.model.specs.declared.Entry.{Entry}
 use Rattle.builder.specs.declared.state.State.{State}
 use Rattle.builder.specs.declared.work.Work.{Work}
@@ -49,31 +49,31 @@ rest-stack (suc d) rec doc = ap (λ k. stack_of k rec doc) (let z : suc d - 1 �
 
 -- ---- a name pushed
 
-module _ (w : Work) (s : State) (from len n : ℕ) (r : Ready w s n) (d : s.usage.depth < max_depth) where
+module _ (w : Work) (s : State) (from len n : ℕ) (r : RoomFor w s n) (d : s.usage.depth < max_depth) where
   abbrev rec₁ : List ℕ
   rec₁ = name_put w.records.now s.usage.depth from len
 
   entries : (j : ℕ) → j < s.usage.items → entry_at rec₁ j ≡ entry_at w.records.now j
   entries j h =
-      let m = r.sound.within.many in
+      let m = r.intact.within.many in
       entry_set (set w.records.now (stack_at s.usage.depth) from) (stack_at s.usage.depth + 1) len j (omega arith) ∙ entry_set w.records.now (stack_at s.usage.depth) from j (omega arith)
 
   schema : (t : List ℕ) → schema_of (model_in s) rec₁ t ≡ schema_of (model_in s) w.records.now t
   unfolding schema_of
   schema t = rw (items-frame s.usage.items w.records.now rec₁ t entries)
 
-  pub push-ready : Ready (over w rec₁) (pushed s) n
+  pub push-ready : RoomFor (over w rec₁) (pushed s) n
   push-ready =
-      let k = r.sound in
+      let k = r.intact in
       record {
-        sound =
+        intact =
             record { within = record { deep = omega arith; many = k.within.many; begun = k.within.begun; apart = k.within.apart; top = k.within.top }; lent = record { records = rw (length-set, length-set) k.lent.records; bytes = k.lent.bytes }; stable = λ t a. schema t ∙ k.stable t a ∙ sym (schema w.text.now) };
         room = r.room;
       }
 
   pub push-builder : builder_in (over w rec₁) (pushed s) ≡ with_stack (piece w.doc.now from len ∷ (builder_in w s).stack) (builder_in w s)
   push-builder =
-      let k : stack_of (s.usage.depth + 1) rec₁ w.doc.now ≡ piece w.doc.now from len ∷ stack_of s.usage.depth w.records.now w.doc.now = stack_push s.usage.depth from len w.records.now w.doc.now (omega (arith, r.sound.lent.records)) in
+      let k : stack_of (s.usage.depth + 1) rec₁ w.doc.now ≡ piece w.doc.now from len ∷ stack_of s.usage.depth w.records.now w.doc.now = stack_push s.usage.depth from len w.records.now w.doc.now (omega (arith, r.intact.lent.records)) in
       rw (k, schema w.text.now)
 
 -- ---- the innermost name, and a name popped
@@ -101,7 +101,7 @@ pub parent-same : (w : Work) (s : State) {d : ℕ} → d ≡ s.usage.depth - 1 �
 parent-same w s e f g = g ∙ ap (λ x. same x (ascii "composite")) (f ∙ ap (λ k. top (stack_of k w.records.now w.doc.now)) e ∙ ap top (rest-stack s.usage.depth w.records.now w.doc.now))
 
 module _ (w : Work) (s : State) where
-  pub pop-sound : Sound w s → Sound w (popped s)
+  pub pop-sound : Intact w s → Intact w (popped s)
   pop-sound k = record { within = record { deep = omega (arith, k.within.deep); many = k.within.many; begun = k.within.begun; apart = k.within.apart; top = k.within.top }; lent = k.lent; stable = k.stable }
 
   pub pop-builder : builder_in w (popped s) ≡ with_stack (rest (builder_in w s).stack) (builder_in w s)

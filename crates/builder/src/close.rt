@@ -7,7 +7,7 @@ ghost use Rattle.model.specs.Schema.{a_value};
 ghost use Rattle.model.specs.Search.{last_under};
 ghost use Rattle.builder.specs.Limits.{min_text};
 ghost use Rattle.builder.specs.Builder.{close_value, close_by, closed, collect};
-ghost use Rattle.builder.specs.internal.Layout.{builder_in, Sound, Ready, Turns, Makes, IsCollected, with_last_value, doc_piece, text_at};
+ghost use Rattle.builder.specs.internal.Layout.{builder_in, Intact, RoomFor, Turns, Makes, IsCollected, with_last_value, doc_piece, text_at};
 
 use crate::state::{Current, State, Usage};
 use crate::work::Work;
@@ -21,7 +21,7 @@ use texts::{Range, trim_range};
 impl<'d, 'a> Work<'d, 'a> {
     /// The position of an enum's last value; `None` if it has none.
     fn last_value(&self, s: State, owner: u32) -> Option<u32>
-        requires { Sound self.now s }
+        requires { Intact self.now s }
         ensures { result ≡ last_under a_value owner (builder_in self.now s).schema.items }
     {
         View::new(s.model(), self.records, self.text).last_under(VALUE, owner)
@@ -29,7 +29,7 @@ impl<'d, 'a> Work<'d, 'a> {
 
     /// Makes a range of the text buffer the value of an enum's last value, if it has one.
     fn put_value(&mut self, s: State, owner: u32, value: Range)
-        requires { Sound self.old s × (value.from + value.len ≤ min_text) }
+        requires { Intact self.old s × (value.from + value.len ≤ min_text) }
         ensures { self.new ≡ with_last_value self.old s owner value }
     {
         if let Some(i) = self.last_value(s, owner) {
@@ -44,7 +44,7 @@ impl<'d, 'a> Work<'d, 'a> {
 
     /// The range of the collected text, trimmed.
     fn collected(&self, s: State) -> Range
-        requires { Sound self.now s }
+        requires { Intact self.now s }
         ensures { IsCollected self.now s result }
     {
         let start = s.usage.collected_from;
@@ -54,7 +54,7 @@ impl<'d, 'a> Work<'d, 'a> {
     /// Closes a validValue: the collected text, trimmed, is given to the last value of the current
     /// enum, then emptied, and text is collected no more. The text buffer is not written to.
     fn close_value(&mut self, s: State) -> State
-        requires { Sound self.old s }
+        requires { Intact self.old s }
         ensures is { Turns close_value self.old s 0 self.new result }
         ensures text { self.new.text.now ≡ self.old.text.now }
     {
@@ -79,7 +79,7 @@ impl<'d, 'a> Work<'d, 'a> {
 
     /// Closes the element `e`, whose name is popped already. The text buffer is not written to.
     fn close_by(&mut self, s: State, e: Element) -> State
-        requires { Sound self.old s }
+        requires { Intact self.old s }
         ensures is { Turns (close_by e) self.old s 0 self.new result }
         ensures text { self.new.text.now ≡ self.old.text.now }
     {
@@ -117,7 +117,7 @@ impl<'d, 'a> Work<'d, 'a> {
         name: Range,
         element: Element,
     ) -> Result<State, Refusal>
-        requires { Sound self.old s × (element ≡ element_of (doc_piece self.old name.from name.len)) }
+        requires { Intact self.old s × (element ≡ element_of (doc_piece self.old name.from name.len)) }
         ensures is { Makes (closed place (doc_piece self.old name.from name.len)) self.old s 0 self.new result }
         ensures text { self.new.text.now ≡ self.old.text.now }
     {
@@ -130,7 +130,7 @@ impl<'d, 'a> Work<'d, 'a> {
     /// Takes the text of `len` bytes at `from`: while text is collected, appends it, decoded. The
     /// record buffer is not written to.
     pub fn on_text(&mut self, s: State, from: usize, len: usize) -> State
-        requires { Ready self.old s len }
+        requires { RoomFor self.old s len }
         ensures is { Turns (collect (text_at self.old from len)) self.old s len self.new result }
         ensures records { self.new.records.now ≡ self.old.records.now }
     {

@@ -1,11 +1,11 @@
 //! Reading numbers and adding items.
-#![tactic(auto, unfolding(crate::specs::internal::Taking::Reads, crate::specs::internal::Taking::Adds), using(crate::proofs::Laws::adding))]
+#![tactic(auto, unfolding(crate::specs::internal::Taking::CanRead, crate::specs::internal::Taking::CanAdd), using(crate::proofs::Laws::adding))]
 
 ghost use Rattle.std.specs.Prelude.{◌≡◌};
 ghost use Rattle.model.specs.Schema.{item_at};
 ghost use Rattle.model.specs.internal.Store.{entry_at};
 ghost use Rattle.builder.specs.internal.Layout.{builder_in, room};
-ghost use Rattle.builder.specs.internal.Taking.{NumberRead, Reads, Adds, Added, Puts, Put};
+ghost use Rattle.builder.specs.internal.Taking.{NumberRead, CanRead, CanAdd, Added, CanPut, Put};
 
 use crate::state::{State, Usage};
 use crate::take::{Draft, read_number};
@@ -24,7 +24,7 @@ impl<'d, 'a> Work<'d, 'a> {
         tag: &Tag,
         found: Option<Range>,
     ) -> Result<u32, Refusal>
-        requires { Reads self.old s tag.now found }
+        requires { CanRead self.old s tag.now found }
         ensures { NumberRead tag.now.place (room tag.now) found self.old s self.new result }
     {
         let doc = self.doc;
@@ -37,7 +37,7 @@ impl<'d, 'a> Work<'d, 'a> {
     /// Adds an item by its entry, whose texts are taken. Refused (35) at the limit.
     #[inline(always)]
     fn put(&mut self, s: State, place: usize, e: Entry) -> Result<State, Refusal>
-        requires { Puts self.old s e }
+        requires { CanPut self.old s e }
         ensures { Put self.old place s e self.new result }
     {
         let count = s.usage.items;
@@ -58,7 +58,7 @@ impl<'d, 'a> Work<'d, 'a> {
     /// Adds the item of a draft: takes its texts, then puts its entry. Refused (35) at the limit.
     #[inline(always)]
     pub(crate) fn add(&mut self, s: State, tag: &Tag, d: Draft) -> Result<State, Refusal>
-        requires { Adds self.old s tag.now d }
+        requires { CanAdd self.old s tag.now d }
         ensures { Added self.old tag.now s d self.new result }
     {
         let e = d.entry(self.doc, self.text, s.usage.taken_from);

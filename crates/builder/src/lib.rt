@@ -4,10 +4,11 @@
 //! specs/internal/Layout.antt says how the builder lies in both. Opening, closing and text (`open`,
 //! `close`) each promise one equation with the definition of the same thing (specs/Builder.antt),
 //! refusals 30 and 32 to 35 included, and keep what the next step asks. Each requires that the
-//! state is sound and that the event's texts have room, which the crate above ensures.
+//! state is intact and that the event's texts have room, which the crate above ensures. Where the
+//! document is not too long, each leaves a state that is sound.
 //!
-//! State and work are two parameters: what steps keep (`Sound`) is a fact about both, which no
-//! type's invariant can say.
+//! State and work are two parameters: what steps keep (`Intact`, and `Sound`) is a fact about both,
+//! which no type's invariant can say.
 #![tactic(auto)]
 
 pub mod close;

@@ -9,8 +9,8 @@ ghost use Rattle.elements.specs.Keys.{schema_keys, type_keys, enum_keys, field_k
 ghost use Rattle.builder.specs.Builder.{open_schema, open_type, open_ref, open_composite, open_enum};
 ghost use Rattle.builder.specs.Builder.{open_value, open_message, open_group, open_field};
 ghost use Rattle.builder.specs.Builder.{open_by, opened};
-ghost use Rattle.builder.specs.internal.Layout.{room, Ready, IsTag};
-ghost use Rattle.builder.specs.internal.Taking.{name_of, inside, of_name, OpensBy, ReadyToOpen};
+ghost use Rattle.builder.specs.internal.Layout.{room, RoomFor, KnownTag};
+ghost use Rattle.builder.specs.internal.Taking.{name_of, inside, of_name, OpensBy, CanOpen};
 
 use crate::state::{Current, State, Usage};
 use crate::take::{Draft, take_value};
@@ -22,7 +22,7 @@ use refusals::Refusal;
 impl<'d, 'a> Work<'d, 'a> {
     /// messageSchema: sets package, id and version.
     fn open_schema(&mut self, s: State, tag: &Tag) -> Result<State, Refusal>
-        requires { ReadyToOpen schema_keys self.old s tag.now }
+        requires { CanOpen schema_keys self.old s tag.now }
         ensures { OpensBy (λ l. open_schema) self.old s tag.now self.new result }
     {
         let found = tag.found();
@@ -46,7 +46,7 @@ impl<'d, 'a> Work<'d, 'a> {
 
     /// type: adds a type, or inside a composite a member of the current one, if there is one.
     fn open_type(&mut self, s: State, tag: &Tag) -> Result<State, Refusal>
-        requires { ReadyToOpen type_keys self.old s tag.now }
+        requires { CanOpen type_keys self.old s tag.now }
         ensures { OpensBy (inside open_type) self.old s tag.now self.new result }
     {
         let found = tag.found();
@@ -72,7 +72,7 @@ impl<'d, 'a> Work<'d, 'a> {
 
     /// ref: adds a ref of the current composite, if there is one.
     fn open_ref(&mut self, s: State, tag: &Tag) -> Result<State, Refusal>
-        requires { ReadyToOpen field_keys self.old s tag.now }
+        requires { CanOpen field_keys self.old s tag.now }
         ensures { OpensBy open_ref self.old s tag.now self.new result }
     {
         let Some(owner) = s.current.composite else {
@@ -85,7 +85,7 @@ impl<'d, 'a> Work<'d, 'a> {
 
     /// composite: adds it and makes it current.
     fn open_composite(&mut self, s: State, tag: &Tag) -> Result<State, Refusal>
-        requires { ReadyToOpen field_keys self.old s tag.now }
+        requires { CanOpen field_keys self.old s tag.now }
         ensures { OpensBy open_composite self.old s tag.now self.new result }
     {
         let found = tag.found();
@@ -99,7 +99,7 @@ impl<'d, 'a> Work<'d, 'a> {
 
     /// enum: adds it and makes it current.
     fn open_enum(&mut self, s: State, tag: &Tag) -> Result<State, Refusal>
-        requires { ReadyToOpen enum_keys self.old s tag.now }
+        requires { CanOpen enum_keys self.old s tag.now }
         ensures { OpensBy open_enum self.old s tag.now self.new result }
     {
         let found = tag.found();
@@ -113,7 +113,7 @@ impl<'d, 'a> Work<'d, 'a> {
 
     /// validValue: empties the collected text; in a current enum adds a value and collects text.
     fn open_value(&mut self, s: State, tag: &Tag) -> Result<State, Refusal>
-        requires { ReadyToOpen field_keys self.old s tag.now }
+        requires { CanOpen field_keys self.old s tag.now }
         ensures { OpensBy open_value self.old s tag.now self.new result }
     {
         let usage = Usage {
@@ -142,7 +142,7 @@ impl<'d, 'a> Work<'d, 'a> {
 
     /// message: adds it and makes it current.
     fn open_message(&mut self, s: State, tag: &Tag) -> Result<State, Refusal>
-        requires { ReadyToOpen field_keys self.old s tag.now }
+        requires { CanOpen field_keys self.old s tag.now }
         ensures { OpensBy open_message self.old s tag.now self.new result }
     {
         let found = tag.found();
@@ -157,7 +157,7 @@ impl<'d, 'a> Work<'d, 'a> {
 
     /// group: adds it to the current message and makes it current; without one only reads its id.
     fn open_group(&mut self, s: State, tag: &Tag) -> Result<State, Refusal>
-        requires { ReadyToOpen field_keys self.old s tag.now }
+        requires { CanOpen field_keys self.old s tag.now }
         ensures { OpensBy open_group self.old s tag.now self.new result }
     {
         let found = tag.found();
@@ -176,7 +176,7 @@ impl<'d, 'a> Work<'d, 'a> {
     /// field: adds it to the current group of the current message, or else to the message, if there
     /// is one. Refused (33) if the current group was opened under another message.
     fn open_field(&mut self, s: State, tag: &Tag) -> Result<State, Refusal>
-        requires { ReadyToOpen field_keys self.old s tag.now }
+        requires { CanOpen field_keys self.old s tag.now }
         ensures { OpensBy open_field self.old s tag.now self.new result }
     {
         let found = tag.found();
@@ -198,7 +198,7 @@ impl<'d, 'a> Work<'d, 'a> {
 
     /// Opens the tag's element, whose name is pushed already.
     fn open_by(&mut self, s: State, tag: &Tag) -> Result<State, Refusal>
-        requires { ReadyToOpen (keys_of tag.now.element) self.old s tag.now }
+        requires { CanOpen (keys_of tag.now.element) self.old s tag.now }
         ensures { OpensBy (inside (open_by tag.now.element)) self.old s tag.now self.new result }
     {
         match tag.element {
@@ -217,7 +217,7 @@ impl<'d, 'a> Work<'d, 'a> {
 
     /// Takes an open tag: pushes its name, then opens its element. Refused (34) at the depth limit.
     pub fn on_open(&mut self, s: State, tag: Tag) -> Result<State, Refusal>
-        requires { Ready self.old s (room tag) × IsTag self.old.doc.now tag }
+        requires { RoomFor self.old s (room tag) × KnownTag self.old.doc.now tag }
         ensures { OpensBy (of_name opened (name_of self.old tag)) self.old s tag self.new result }
     {
         if self.limits.depth <= s.usage.depth {

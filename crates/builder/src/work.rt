@@ -5,7 +5,8 @@ ghost use Rattle.std.specs.Prelude.{◌≡◌, ◌+◌, ◌≤◌, ◌<◌};
 ghost use Rattle.texts.specs.Text.{same};
 ghost use Rattle.builder.specs.Limits.{max_depth, max_document};
 ghost use Rattle.builder.specs.Builder.{top};
-ghost use Rattle.builder.specs.internal.Layout.{stack_of, builder_in, pushed, with_name, initial, parent_composite, Sound, doc_piece, Suffice, lent};
+ghost use Rattle.builder.specs.internal.Layout.{stack_of, builder_in, pushed, with_name, initial, parent_composite, doc_piece, lent};
+ghost use Rattle.builder.specs.internal.Layout.{Intact, Sound, LongEnough, Suffice};
 ghost use Rattle.builder.specs.internal.Taking.{Finds};
 
 use crate::limits::{Limits, NAMES_FROM};
@@ -68,9 +69,10 @@ impl<'d, 'a> Work<'d, 'a> {
         records: &'a mut [u32],
         text: &'a mut [u8],
     ) -> Work<'d, 'a>
-        requires { Suffice records.old text.old }
+        requires { LongEnough records.old text.old }
         ensures is { result ≡ lent limits doc.entry records.entry text.entry }
-        ensures sound { Sound result initial }
+        ensures intact { Intact result initial }
+        ensures sound { Suffice doc.now records.old text.old → Sound result initial }
     {
         Work {
             limits,
@@ -82,7 +84,7 @@ impl<'d, 'a> Work<'d, 'a> {
 
     /// Pushes a name, the `len` bytes at `from`: it is the innermost open one from now on.
     pub(crate) fn push(&mut self, s: State, from: usize, len: usize) -> State
-        requires sound { Sound self.old s }
+        requires intact { Intact self.old s }
         requires above { s.usage.depth < max_depth }
         requires inside { from + len ≤ max_document }
         ensures state { result ≡ pushed s }

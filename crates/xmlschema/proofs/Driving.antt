@@ -23,10 +23,10 @@ use Rattle.xmlschema.specs.Whole.{Whole, step, accepted, refused_by, built, empt
 use Rattle.xmlschema.specs.internal.Driving.{with_state, Driving}
 
 -- before the first event
-pub drive-start : {r : Reader} {w : Work} → Sound w initial → length w.doc.now ≤ max_document → r.doc.now ≡ w.doc.now → r.cursor ≡ cursor_at 0 → Driving r w initial
+pub drive-start : {r : Reader} {w : Work} → Sound w initial → r.doc.now ≡ w.doc.now → r.cursor ≡ cursor_at 0 → Driving r w initial
 unfolding schema_of items_of stack_of
-drive-start k m d c =
-    record { doc = d; document = m; sound = k; used = rw c (omega arith); cursor = rw c (record { within = omega arith; owed = tt }); same = rw (d, c) refl }
+drive-start k d c =
+    record { doc = d; sound = k; used = rw c (omega arith); cursor = rw c (record { within = omega arith; owed = tt }); same = rw (d, c) refl }
 
 -- the element of any event, by that of an owed close
 element-told : (doc : List ℕ) (o : Option Owed) (event : Found) (e : Element) → TellsElement doc o event e → OwedElement doc o → IsElement doc event e
@@ -82,10 +82,10 @@ module _ {r : Reader} {w : Work} {s : State} (d : Driving r w s) {r' : Reader} {
 
       pub drive-ready : Ready w s (takes t.event)
       drive-ready =
-          record { sound = d.sound; room = omega (arith, moves.grows, inside.within, d.used, d.document, d.sound.within.top, d.sound.within.apart) }
+          record { sound = d.sound; room = omega (arith, moves.grows, inside.within, d.used, d.sound.lent.document, d.sound.within.top, d.sound.within.apart) }
 
       pub drive-document : length w.doc.now ≤ max_document
-      drive-document = d.document
+      drive-document = d.sound.lent.document
 
       pub drive-inside : Inside w.doc.now t.event
       drive-inside = rw d.doc at moves.inside
@@ -119,8 +119,7 @@ module _ {r : Reader} {w : Work} {s : State} (d : Driving r w s) {r' : Reader} {
             let rd : r'.doc.now ≡ w.doc.now = ap (λ x. x.now) yields.doc ∙ d.doc in
             record {
               doc = rd ∙ sym dd;
-              document = rw dd d.document;
-              sound = b.sound;
+              sound = b.sound d.sound.lent.document;
               used = omega (arith, b.used, d.used, moves.grows);
               cursor = rw dd inside;
               same =

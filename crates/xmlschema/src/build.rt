@@ -1,8 +1,7 @@
 //! Reads a whole document: tests it and the buffers, then hands each event to the builder.
 #![tactic(auto, using(crate::proofs::Laws::driving, crate::proofs::Laws::stepping, crate::proofs::Laws::answering))]
 
-ghost use Rattle.std.specs.Prelude.{◌≡◌, ◌≤◌, length};
-ghost use Rattle.builder.specs.Limits.{max_document};
+ghost use Rattle.std.specs.Prelude.{◌≡◌};
 ghost use Rattle.builder.specs.internal.Layout.{Suffice};
 ghost use Rattle.xmlschema.specs.Whole.{reading};
 ghost use Rattle.xmlschema.specs.Read.{shown, ReadInto};
@@ -61,8 +60,7 @@ fn step(s: &mut State, w: &mut Work<'_, '_>, told: Told) -> Result<(), Refusal>
 /// Reads a document that is tested already, as the buffers are. Refused with 11 to 20, 30 to 35.
 #[inline(never)]
 fn read_tested(l: Limits, doc: &[u8], rec: &mut [u32], text: &mut [u8]) -> Result<Model, Refusal>
-    requires document { length doc.now ≤ max_document }
-    requires buffers { Suffice rec.old text.old }
+    requires { Suffice doc.now rec.old text.old }
     ensures { shown result rec.new text.new ≡ reading l doc.now }
 {
     let mut work = Work::new(l, doc, rec, text);

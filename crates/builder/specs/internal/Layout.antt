@@ -153,7 +153,13 @@ IsCollected w s r =
     TrimmedTo w.text.now s.usage.collected_from (s.usage.collected_to - s.usage.collected_from) r
 
 -- the two buffers are long enough for what is read of a document
-pub record Suffice (rec text : List ℕ) : Type 0 where
+pub record LongEnough (rec text : List ℕ) : Type 0 where
+  pub records : min_records ≤ length rec
+  pub bytes : min_text ≤ length text
+
+-- and the document is not too long
+pub record Suffice (doc rec text : List ℕ) : Type 0 where
+  pub document : length doc ≤ max_document
   pub records : min_records ≤ length rec
   pub bytes : min_text ≤ length text
 
@@ -172,9 +178,16 @@ pub record Within (u : Usage) : Type 0 where
 
 -- what every step keeps of the state and the buffers. `stable` says that the schema is the same in
 -- every text that is alike, so nothing has to be said of where the texts of each item lie
+pub record Intact (w : Work) (s : State) : Type 0 where
+  pub within : Within s.usage
+  pub lent : LongEnough w.records.now w.text.now
+  pub stable : (t : List ℕ) → Alike s.usage.collected_to s.usage.taken_from w.text.now t
+      → schema_of (model_in s) w.records.now t ≡ schema_of (model_in s) w.records.now w.text.now
+
+-- the same of a document that is not too long
 pub record Sound (w : Work) (s : State) : Type 0 where
   pub within : Within s.usage
-  pub lent : Suffice w.records.now w.text.now
+  pub lent : Suffice w.doc.now w.records.now w.text.now
   pub stable : (t : List ℕ) → Alike s.usage.collected_to s.usage.taken_from w.text.now t
       → schema_of (model_in s) w.records.now t ≡ schema_of (model_in s) w.records.now w.text.now
 
@@ -183,13 +196,24 @@ abbrev pub used_by : State → ℕ
 used_by s = s.usage.collected_to + (min_text - s.usage.taken_from)
 
 -- what a step asks: n bytes of the text buffer are free
+pub record RoomFor (w : Work) (s : State) (n : ℕ) : Type 0 where
+  pub intact : Intact w s
+  pub room : s.usage.collected_to + n ≤ s.usage.taken_from
+
+-- the same of a document that is not too long
 pub record Ready (w : Work) (s : State) (n : ℕ) : Type 0 where
   pub sound : Sound w s
   pub room : s.usage.collected_to + n ≤ s.usage.taken_from
 
--- what is known of a tag that was read: where it lies, its element, what was noted of it, and that
--- its name ends where a document may still reach
+-- what is known of a tag that was read: where it lies, its element, and what was noted of it
 pub record IsTag (doc : List ℕ) (tag : Tag) : Type 0 where
+  pub tagged : Tagged doc tag.attributes tag.next
+  pub named : tag.element ≡ element_of (piece doc tag.name.from tag.name.len)
+  pub noted : NotedBy (keys_of tag.element) doc tag.attributes tag.noted
+  pub inside : tag.name.from + tag.name.len ≤ length doc
+
+-- what opening asks of it: its name need only end where a document may still reach
+pub record KnownTag (doc : List ℕ) (tag : Tag) : Type 0 where
   pub tagged : Tagged doc tag.attributes tag.next
   pub named : tag.element ≡ element_of (piece doc tag.name.from tag.name.len)
   pub noted : NotedBy (keys_of tag.element) doc tag.attributes tag.noted
@@ -215,12 +239,14 @@ abbrev pub outcome : Work → Result State Refusal → Outcome
 outcome w (Ok s) = on (builder_in w s)
 outcome w (Err r) = refused r
 
--- the result r, with w', is the outcome o; its state is sound, with at most n more bytes in use
+-- the result r, with w', is the outcome o; its state is intact, and sound where the document is not
+-- too long, with at most n more bytes in use
 pub record After (o : Outcome) (w : Work) (s : State) (n : ℕ) (w' : Work) (r : Result State Refusal)
     : Type 0
   where
     pub is : outcome w' r ≡ o
-    pub sound : IfOk r (λ s'. Sound w' s')
+    pub intact : IfOk r (λ s'. Intact w' s')
+    pub sound : length w.doc.now ≤ max_document → IfOk r (λ s'. Sound w' s')
     pub used : IfOk r (λ s'. used_by s' ≤ used_by s + n)
     pub same : Same w w'
 

@@ -12,10 +12,10 @@ use Rattle.refusals.specs.declared.Refusal.{Refusal}
 use Rattle.refusals.specs.declared.Refusal.TheVariants.{BadNumber}
 use Rattle.model.specs.Schema.{Item}
 use Rattle.numbers.specs.Numbers.{number_of}
-use Rattle.builder.specs.Limits.{Limits}
+use Rattle.builder.specs.Limits.{Limits, max_document}
 use Rattle.builder.specs.Builder.{Builder, Outcome, or_empty, is_given, added}
 use Rattle.model.specs.internal.Store.{item_of}
-use Rattle.builder.specs.internal.Layout.{Alike, Steady, builder_in, room, Sound, Ready, Tagged, Same, Makes, parent_composite, doc_piece}
+use Rattle.builder.specs.internal.Layout.{Alike, Steady, builder_in, room, Intact, Sound, RoomFor, Ready, Tagged, Same, Makes, parent_composite, doc_piece}
 use Rattle.model.specs.declared.Entry.{Entry}
 use Rattle.builder.specs.declared.take.Draft.{Draft}
 use Rattle.builder.specs.declared.state.State.{State}
@@ -99,21 +99,21 @@ found_in n = record { number = noted_number n; name = noted_name n; second = not
 pub record Finds (tag : Tag) (f : Found) : Type 0 where
   pub is : f ≡ found_in tag.noted
 
--- what reading a number asks: the state is sound, and the tag has room for the text
-unfoldable pub Reads : Work → State → Tag → Option Range → Type 0
-Reads w s tag found = Ready w s (room tag) × (raw_length found ≤ room tag)
+-- what reading a number asks: the state is intact, and the tag has room for the text
+unfoldable pub CanRead : Work → State → Tag → Option Range → Type 0
+CanRead w s tag found = RoomFor w s (room tag) × (raw_length found ≤ room tag)
 
 -- what adding the item of a draft asks, and what it gives
-unfoldable pub Adds : Work → State → Tag → Draft → Type 0
-Adds w s tag d = Ready w s (room tag) × (draft_length d ≤ room tag)
+unfoldable pub CanAdd : Work → State → Tag → Draft → Type 0
+CanAdd w s tag d = RoomFor w s (room tag) × (draft_length d ≤ room tag)
 
 abbrev pub Added : Work → Tag → State → Draft → Work → Result State Refusal → Type 0
 Added w tag s d w' r =
     Makes (added w.limits tag.place (drafted_item d w.doc.now)) w s (room tag) w' r
 
 -- what putting an entry asks: its texts lie in what was free, from its encoding on
-pub record Puts (w : Work) (s : State) (e : Entry) : Type 0 where
-  pub sound : Sound w s
+pub record CanPut (w : Work) (s : State) (e : Entry) : Type 0 where
+  pub intact : Intact w s
   pub steady : Steady s.usage.collected_to e.encoding w.text.now e
   pub low : s.usage.collected_to ≤ e.encoding
   pub high : e.encoding ≤ s.usage.taken_from
@@ -132,17 +132,38 @@ abbrev pub number_or_refused : ℕ → Option ℕ → Result ℕ Refusal
 number_or_refused place (Some n) = Ok n
 number_or_refused place None = Err (BadNumber place)
 
--- r is a tag's number, or 32; the builder is the same, and n bytes of the text buffer are free
+-- r is a tag's number, or 32; the builder is the same, and n bytes of the text buffer are free; the
+-- state is sound where the document is not too long
 pub record NumberRead (place n : ℕ) (found : Option Range) (w : Work) (s : State) (w' : Work)
     (r : Result ℕ Refusal)
     : Type 0
   where
     pub is : r ≡ number_or_refused place (number_of (value_in w.doc.now found))
-    pub ready : Ready w' s n
+    pub room : RoomFor w' s n
+    pub ready : length w.doc.now ≤ max_document → Ready w' s n
     pub builder : builder_in w' s ≡ builder_in w s
     pub same : Same w w'
 
 -- what opening an element asks: the tag is read, its texts have room, and these names were noted
+pub record CanOpen (k : Keys) (w : Work) (s : State) (tag : Tag) : Type 0 where
+  pub room : RoomFor w s (room tag)
+  pub tagged : Tagged w.doc.now tag.attributes tag.next
+  pub noted : NotedBy k w.doc.now tag.attributes tag.noted
+
+-- ---- the four demands, of a document that is not too long
+
+unfoldable pub Reads : Work → State → Tag → Option Range → Type 0
+Reads w s tag found = Ready w s (room tag) × (raw_length found ≤ room tag)
+
+unfoldable pub Adds : Work → State → Tag → Draft → Type 0
+Adds w s tag d = Ready w s (room tag) × (draft_length d ≤ room tag)
+
+pub record Puts (w : Work) (s : State) (e : Entry) : Type 0 where
+  pub sound : Sound w s
+  pub steady : Steady s.usage.collected_to e.encoding w.text.now e
+  pub low : s.usage.collected_to ≤ e.encoding
+  pub high : e.encoding ≤ s.usage.taken_from
+
 pub record ReadyToOpen (k : Keys) (w : Work) (s : State) (tag : Tag) : Type 0 where
   pub ready : Ready w s (room tag)
   pub tagged : Tagged w.doc.now tag.attributes tag.next

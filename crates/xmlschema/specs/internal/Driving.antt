@@ -1,23 +1,21 @@
 -- What the loop over the events keeps.
-use Rattle.std.specs.Prelude.{◌≡◌, ◌≤◌, length, Result, Ok, Err}
+use Rattle.std.specs.Prelude.{◌≡◌, ◌≤◌, Result, Ok, Err}
 use Rattle.refusals.specs.declared.Refusal.{Refusal}
 use Rattle.saxlite.specs.Events.{events}
 use Rattle.saxlite.specs.Reader.{event_in, to_come}
 use Rattle.saxlite.specs.internal.Moving.{takes, Inside, IsElement, NotedIn, CursorIn}
 use Rattle.saxlite.specs.declared.event.Told.{Told}
 use Rattle.saxlite.specs.declared.reader.Reader.{Reader}
-use Rattle.builder.specs.Limits.{max_document}
 use Rattle.builder.specs.internal.Layout.{builder_in, used_by, Sound, Ready, Makes}
 use Rattle.builder.specs.declared.state.State.{State}
 use Rattle.builder.specs.declared.work.Work.{Work}
 use Rattle.xmlschema.specs.Whole.{step, built, empty}
 
--- what a step asks: the texts of the event have room, it lies in the document, which is not too
--- long, and its element and its notes are right
+-- what a step asks: the texts of the event have room, it lies in the document, and its element and
+-- its notes are right
 abbrev pub Takes : Work → State → Told → Type 0
 Takes w s t =
     Ready w s (takes t.event)
-    × (length w.doc.now ≤ max_document)
     × Inside w.doc.now t.event
     × IsElement w.doc.now t.event t.element
     × NotedIn w.doc.now t.event t.element t.noted
@@ -35,7 +33,6 @@ with_state s (Err refusal) = Err refusal
 -- the events still to come, taken by the builder so far, make what the whole document makes
 pub record Driving (r : Reader) (w : Work) (s : State) : Type 0 where
   pub doc : r.doc.now ≡ w.doc.now
-  pub document : length w.doc.now ≤ max_document
   pub sound : Sound w s
   pub used : used_by s ≤ r.cursor.at
   pub cursor : CursorIn w.doc.now r.cursor
