@@ -17,7 +17,7 @@ use Rattle.tags.specs.declared.noting.Notes.{Notes}
 use Rattle.refusals.specs.declared.Refusal.{Refusal}
 use Rattle.elements.specs.declared.Element.{Element}
 use Rattle.elements.specs.declared.Element.TheVariants.{MessageSchema, «Type», Ref, Composite, Enum, ValidValue, Message, Group, Field, Other}
-use Rattle.elements.specs.Keys.{Keys, field_keys, keys_of}
+use Rattle.elements.specs.Keys.{Keys, schema_keys, type_keys, enum_keys, field_keys, keys_of}
 use Rattle.tags.specs.Names.{prefix_length, local_name, is_xmlns}
 use Rattle.tags.specs.Attributes.{raw_name, tag_part_at, tag_at, attribute_at}
 use Rattle.tags.specs.internal.Noting.{no_notes, found_at, noted_number, noted_name, noted_second, noted_encoding, with_value, FoundMore, NotedMore, NotedBy}
@@ -149,6 +149,20 @@ module _ {raw : List ℕ} {known : Option ℕ} {code : ℕ} (e : NamedAs raw kno
 
   pub by_name : (value : Range) {was r : Notes} {cs : Codes} {k : Keys} → ((j : Keys) → CodesOf j cs → NotedMore (known_name code) value j was r) → CodesOf k cs → NotedMore raw value k was r
   by_name value {k = k} m t = rw (e.named code h).2 (m k t)
+
+-- by the element, where an attribute has any name
+module _ (raw : List ℕ) (value : Range) {e : Element} {was r : Notes} where
+  pub other-schema : e ≡ MessageSchema → NotedMore raw value schema_keys was r → NotedMore raw value (keys_of e) was r
+  other-schema q n = rw q n
+
+  pub other-type : e ≡ «Type» → NotedMore raw value type_keys was r → NotedMore raw value (keys_of e) was r
+  other-type q n = rw q n
+
+  pub other-enum : e ≡ Enum → NotedMore raw value enum_keys was r → NotedMore raw value (keys_of e) was r
+  other-enum q n = rw q n
+
+  pub other-field : (e ≡ MessageSchema → ⊥) → (e ≡ «Type» → ⊥) → (e ≡ Enum → ⊥) → NotedMore raw value field_keys was r → NotedMore raw value (keys_of e) was r
+  other-field a b c n = rw (keys_else e a b c) n
 
 -- ---- the loop of `tag_noting` is at i; q is the part there
 
